@@ -1,0 +1,4 @@
+pub mod FirstFaults
+pub mod OccurrenceLemmas
+pub mod Places
+pub mod TreeNodes

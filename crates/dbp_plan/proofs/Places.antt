@@ -1,0 +1,35 @@
+-- Places of lists.
+use Rattle.std.proofs.Common.{◌≡◌, ℕ, zero, suc, ◌<◌, List, [], ◌∷◌, ◌++◌, length, get_or, slice_get, Some, refl, sym, ◌∙◌, ap, arith}
+use Rattle.std.proofs.lemmas.Option.{slice_get-get_or}
+
+-- a place below the length has an item
+pub at_place : {X : Type 0} (xs : List X) (i : ℕ) → i < length xs → (x : X) × (slice_get xs i ≡ Some x)
+at_place [] i below = absurd (omega arith)
+at_place (x ∷ xs) zero below = (x, refl)
+at_place (x ∷ xs) (suc i) below = at_place xs i (omega arith)
+
+-- two lists that agree at each place are one
+pub same_places : {X : Type 0} (xs ys : List X) → length xs ≡ length ys
+    → ((k : ℕ) (a b : X) → slice_get xs k ≡ Some a → slice_get ys k ≡ Some b → a ≡ b) → xs ≡ ys
+same_places [] [] size same = refl
+same_places [] (y ∷ ys) size same = absurd (omega arith)
+same_places (x ∷ xs) [] size same = absurd (omega arith)
+same_places (x ∷ xs) (y ∷ ys) size same =
+    let tail : xs ≡ ys = same_places xs ys (omega arith) (λ k a b p q. same (suc k) a b p q) in
+    let head : x ≡ y = same zero x y refl refl in
+    cc
+
+-- an element that was read
+pub read_place : {X : Type 0} (xs : List X) (i : ℕ) (x : X) → i < length xs → x ≡ get_or xs i x → slice_get xs i ≡ Some x
+read_place xs i x below is = slice_get-get_or xs i x below ∙ ap (λ (z : _). Some z) (sym is)
+
+pub front_place : {X : Type 0} (xs ys : List X) (i : ℕ) → i < length xs → slice_get (xs ++ ys) i ≡ slice_get xs i
+front_place [] ys i below = absurd (omega arith)
+front_place (x ∷ xs) ys zero below = refl
+front_place (x ∷ xs) ys (suc i) below = front_place xs ys i (omega arith)
+
+pub last_place : {X : Type 0} (xs : List X) (y : X) (i : ℕ) → i ≡ length xs → slice_get (xs ++ y ∷ []) i ≡ Some y
+last_place [] y zero is = refl
+last_place [] y (suc i) is = absurd (omega arith)
+last_place (x ∷ xs) y zero is = absurd (omega arith)
+last_place (x ∷ xs) y (suc i) is = last_place xs y i (omega arith)

@@ -1,0 +1,20 @@
+-- When a task occurs, and how often until a time.
+use Rattle.std.specs.Prelude.{ℕ, Bool, List, filter, map, count_by, nat_le, length, sum_by, ◌==◌}
+use Rattle.std.specs.List.{list_any}
+use Rattle.dbp_plan.specs.declared.schedule.Batch.{Batch}
+
+-- whether the batch names the task
+abbrev pub names : ℕ → Batch → Bool
+names task batch = list_any (λ n. n == task) batch.tasks
+
+-- the times of the batches that name the task, in order: instance n occurs at place n - 1
+abbrev pub times_of : List Batch → ℕ → List ℕ
+times_of batches task = map (λ b. b.time) (filter (names task) batches)
+
+-- how many of the times are at or before this one
+abbrev pub count_until : List ℕ → ℕ → ℕ
+count_until times time = count_by (λ t. nat_le t time) times
+
+-- the occurrences of all tasks together
+abbrev pub occurrence_count : List Batch → ℕ
+occurrence_count batches = sum_by (λ b. length b.tasks) batches

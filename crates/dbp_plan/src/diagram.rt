@@ -1,0 +1,119 @@
+use crate::{Expr, List, Name};
+
+/// When a task occurs.
+#[derive(Clone, Copy, Debug, PartialEq, Eq)]
+pub enum Clock {
+    /// At `offset`, `offset + period` and so on, in ticks, below the diagram's `until`.
+    Every { period: u64, offset: u64 },
+    /// At the event's occurrences.
+    On { event: u32 },
+}
+
+/// A state of a task, with its value before the first instance.
+#[derive(Clone, Copy, PartialEq, Eq)]
+pub struct State {
+    pub name: Name,
+    pub first: i64,
+}
+
+/// A name for an input of the diagram, whose value is that of the release.
+#[derive(Clone, Copy, PartialEq, Eq)]
+pub struct Sense {
+    pub name: Name,
+    pub input: u32,
+}
+
+/// A name for an out of another task, read over a link.
+#[derive(Clone, Copy, PartialEq, Eq)]
+pub struct Read {
+    pub name: Name,
+    pub link: u32,
+    /// The writer's out.
+    pub port: u32,
+    /// After how many ticks of its cost the task reads.
+    pub at: u64,
+}
+
+/// A name for the value of an expression within one instance.
+#[derive(Drop)]
+pub struct Let {
+    pub name: Name,
+    pub expr: Expr<u32>,
+}
+
+/// The value that a state takes at the end of an instance. A state without one keeps its value.
+#[derive(Drop)]
+pub struct Next {
+    pub state: u32,
+    pub expr: Expr<u32>,
+}
+
+/// A port of a task, with its value before the first instance.
+#[derive(Drop)]
+pub struct Out {
+    pub name: Name,
+    pub first: i64,
+    pub expr: Expr<u32>,
+}
+
+/// A task. A variable of its expressions is a place of its environment: its states, then its senses, its reads
+/// and its lets, each in order of declaration.
+#[derive(Drop)]
+pub struct Task {
+    pub name: Name,
+    pub clock: Clock,
+    /// Under fixed priorities the greater is higher.
+    pub prio: Option<u32>,
+    /// Ticks from a release to its deadline.
+    pub deadline: Option<u64>,
+    /// Ticks of service that an instance takes.
+    pub cost: u64,
+    pub states: List<State>,
+    pub senses: List<Sense>,
+    pub reads: List<Read>,
+    pub lets: List<Let>,
+    /// An order of the lets in which each comes behind those that it uses.
+    pub order: List<u32>,
+    pub nexts: List<Next>,
+    pub outs: List<Out>,
+}
+
+/// A link from a writer's outs to a reader. Reads of one task over the same writer and delay share a link.
+#[derive(Clone, Copy, Debug, PartialEq, Eq)]
+pub struct Link {
+    pub writer: u32,
+    pub reader: u32,
+    /// By how many occurrences of the writer the reader lags; 0 is a direct link.
+    pub delay: u32,
+}
+
+/// An input of the diagram, with its value before the first sample.
+#[derive(Clone, Copy, PartialEq, Eq)]
+pub struct Input {
+    pub name: Name,
+    pub first: i64,
+}
+
+/// How tasks are served.
+#[derive(Clone, Copy, Debug, PartialEq, Eq)]
+pub enum Policy {
+    /// Fixed priorities.
+    Fp,
+    /// Earliest deadline first.
+    Edf,
+}
+
+/// A diagram. Tasks, links, inputs and events are numbered from 0 in order of declaration; links by the first
+/// read that uses them.
+#[derive(Drop)]
+pub struct Diagram {
+    pub policy: Policy,
+    /// Tasks occur before this tick.
+    pub until: u64,
+    pub inputs: List<Input>,
+    pub events: List<Name>,
+    pub tasks: List<Task>,
+    pub links: List<Link>,
+    /// The rank of each task; 0 is the highest.
+    pub ranks: List<u32>,
+}

@@ -1,0 +1,38 @@
+//! The base of `dbp`: the data of a diagram and of its plan, the table of a run, and the traits of the outside.
+#![tactic(auto)]
+
+mod calls;
+mod copies;
+mod diagram;
+mod expr;
+mod limits;
+mod list;
+mod mem_sink;
+mod mem_source;
+mod name;
+mod node;
+mod nodes;
+mod plan;
+mod row;
+mod schedule;
+mod sink;
+mod source;
+mod table;
+
+pub use diagram::{Clock, Diagram, Input, Let, Link, Next, Out, Policy, Read, Sense, State, Task};
+pub use expr::Expr;
+pub use limits::{
+    MAX_BODY, MAX_DELAY, MAX_EVENTS, MAX_INPUTS, MAX_NODES, MAX_OCCURRENCES, MAX_OUTS, MAX_PRIO,
+    MAX_READ_LINES, MAX_READS, MAX_TASKS, MAX_TIME,
+};
+pub use list::{List, NoMemory};
+pub use mem_sink::MemSink;
+pub use mem_source::MemSource;
+pub use name::Name;
+pub use node::{BinOp, Node, UnOp};
+pub use plan::Plan;
+pub use row::Row;
+pub use schedule::{Batch, Sample};
+pub use sink::{Put, Sink, WriteSink};
+pub use source::{Got, ReadSource, Source};
+pub use table::{Table, TaskRows};

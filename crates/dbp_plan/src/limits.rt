@@ -1,0 +1,26 @@
+// The limits of a diagram. docs/LANGUAGE.md has them as a table.
+
+/// Tasks of a diagram, at most.
+pub const MAX_TASKS: u32 = 32;
+/// Inputs of a diagram, at most.
+pub const MAX_INPUTS: u32 = 16;
+/// Events of a diagram, at most.
+pub const MAX_EVENTS: u32 = 16;
+/// Reads of one task, at most.
+pub const MAX_READS: u32 = 16;
+/// Reads of all tasks together, at most, and so links.
+pub const MAX_READ_LINES: u32 = 128;
+/// Outs of a task, at most; it has at least one.
+pub const MAX_OUTS: u32 = 8;
+/// States, senses, reads, lets, nexts and outs of a task together, at most.
+pub const MAX_BODY: u32 = 64;
+/// Nodes of an expression, at most.
+pub const MAX_NODES: u32 = 64;
+/// The greatest time, offset, period, deadline and cost, in ticks.
+pub const MAX_TIME: u64 = 1_000_000_000;
+/// The greatest priority.
+pub const MAX_PRIO: u32 = 1_000_000;
+/// Occurrences of all tasks together, at most.
+pub const MAX_OCCURRENCES: u32 = 100_000;
+/// The longest delay of a link, in occurrences of its writer.
+pub const MAX_DELAY: u32 = 1;

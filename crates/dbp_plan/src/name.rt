@@ -1,0 +1,94 @@
+ghost use Rattle.std.specs.Prelude.{◌≡◌, ◌↔◌, IfSome, IsSome, IsTrue};
+ghost use Rattle.dbp_plan.specs.Name.{IsName};
+
+use std::marker::Model;
+
+/// The name of a task, an input or the like: 1 to 24 ASCII letters, digits and `_`, of which the first is no
+/// digit. A contract sees its bytes. Names are compared by them.
+#[derive(Clone, Copy)]
+pub struct Name {
+    held: [u8; 24],
+    count: usize,
+}
+
+impl Model for Name {
+    ghost use Rattle.std.specs.Prelude.{List, ℕ};
+
+    ghost Value = { List ℕ };
+
+    ghost use Rattle.dbp_plan.specs.NameInside.{name_view, IsNameInside, name_inverse, name_inverse_ok};
+
+    ghost view = { name_view };
+
+    ghost invariant = { IsNameInside };
+
+    ghost inverse = { name_inverse };
+
+    ghost inverse_ok = { name_inverse_ok };
+}
+
+impl Name {
+    /// The name with these bytes, where they are one.
+    pub fn of(bytes: &[u8]) -> Option<Name>
+        ensures some { IfSome result (λ name. name ≡ bytes.now) }
+        ensures exact { IsSome result ↔ IsName bytes.now }
+    {
+        if !is_name(bytes) {
+            return None;
+        }
+        let mut held = [0; 24];
+        for i in 0..bytes.len() {
+            held[i] = bytes[i];
+        }
+        Some(Name {
+            held,
+            count: bytes.len(),
+        })
+    }
+
+    /// The name's bytes.
+    pub fn bytes(&self) -> &[u8]
+        ensures value { result.now ≡ self.now }
+        ensures name { IsName self.now }
+    {
+        &self.held[..self.count]
+    }
+
+    /// Whether this is the other name.
+    pub fn is(&self, other: &Name) -> bool
+        ensures { IsTrue result ↔ (self.now ≡ other.now) }
+    {
+        self.bytes() == other.bytes()
+    }
+}
+
+impl PartialEq for Name {
+    ghost use Rattle.std.specs.Prelude.{nat_eq};
+    ghost use Rattle.std.specs.Cmp.{partial_equiv_from_equiv};
+    ghost use Rattle.std.specs.Cmp.Lexicographic.{pointwise, nat_list_eq_equiv};
+
+    ghost eq = { pointwise nat_eq };
+
+    ghost laws = { partial_equiv_from_equiv nat_list_eq_equiv };
+
+    fn eq(&self, other: &Name) -> bool {
+        self.bytes() == other.bytes()
+    }
+}
+
+impl Eq for Name {
+    ghost use Rattle.std.specs.Cmp.Lexicographic.{nat_list_eq_equiv};
+
+    ghost laws = { nat_list_eq_equiv };
+}
+
+fn is_name(bytes: &[u8]) -> bool
+    ensures { IsTrue result ↔ IsName bytes.now }
+{
+    !bytes.is_empty()
+        && bytes.len() <= 24
+        && !bytes[0].is_ascii_digit()
+        && bytes
+            .iter()
+            .all(|b| b.is_ascii_alphanumeric() || *b == b'_')
+}

@@ -1,0 +1,70 @@
+ghost use Rattle.std.specs.Prelude.{◌≡◌, ℕ, ◌<◌, List, length, Option};
+ghost use Rattle.dbp_plan.specs.Source.{GivesBytes, GivesCause};
+
+use std::io;
+
+/// What a read gives.
+#[derive(Clone, Copy, Debug, PartialEq, Eq)]
+pub enum Got {
+    /// So many bytes, at least one, at the front of the buffer.
+    Bytes(usize),
+    /// Nothing is left.
+    End,
+    /// The read failed, and what is left stayed.
+    Failed,
+}
+
+/// Where bytes come from: a file, a pipe, a text in memory.
+pub trait Source {
+    /// The bytes still to come, where the source tells them.
+    ghost left: { Self → Option (List ℕ) };
+
+    /// How often the source has failed. The count never falls.
+    ghost faults: { Self → ℕ };
+
+    /// Reads some bytes into the front of the buffer. The first bytes of the buffer are the front of what was
+    /// left. It fails only where the count of faults rose, or stands at its last value.
+    fn read(&mut self, buf: &mut [u8]) -> Got
+        requires { 0 < length buf.old }
+        ensures bytes { GivesBytes (left self.old) (left self.new) buf.new result }
+        ensures cause { GivesCause (faults self.old) (faults self.new) result };
+}
+
+/// A source over a reader of std's, as a file or a pipe. It tells of its bytes what the reader tells, which for
+/// a file or a pipe is nothing. Its count of faults is a number of 64 bits that stays at its last value.
+#[derive(Drop)]
+pub struct ReadSource<R> {
+    reader: R,
+    failed: u64,
+}
+
+impl<R: io::Read> ReadSource<R> {
+    ghost use Rattle.dbp_plan.specs.ReadSource.{read_failures, inner_reader};
+
+    /// A source over the reader, which hasn't failed yet.
+    pub fn new(reader: R) -> ReadSource<R>
+        ensures faults { read_failures result ≡ 0 }
+        ensures reader { inner_reader result ≡ reader }
+    {
+        ReadSource { reader, failed: 0 }
+    }
+}
+
+impl<R: io::Read> Source for ReadSource<R> {
+    ghost use Rattle.dbp_plan.specs.ReadSource.{read_failures, inner_reader};
+
+    ghost left = { λ s. R.remaining (inner_reader s) };
+
+    ghost faults = { read_failures };
+
+    fn read(&mut self, buf: &mut [u8]) -> Got {
+        match self.reader.read(buf) {
+            Ok(0) => Got::End,
+            Ok(count) => Got::Bytes(count),
+            Err(_) => {
+                self.failed = self.failed.saturating_add(1);
+                Got::Failed
+            }
+        }
+    }
+}
