@@ -1,4 +1,5 @@
 pub mod FirstFaults
 pub mod OccurrenceLemmas
 pub mod Places
+pub mod RankLaws
 pub mod TreeNodes

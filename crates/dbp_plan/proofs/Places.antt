@@ -1,6 +1,6 @@
 -- Places of lists.
-use Rattle.std.proofs.Common.{◌≡◌, ℕ, zero, suc, ◌<◌, List, [], ◌∷◌, ◌++◌, length, get_or, slice_get, Some, refl, sym, ◌∙◌, ap, arith}
-use Rattle.std.proofs.lemmas.Option.{slice_get-get_or}
+use Rattle.std.proofs.Common.{◌≡◌, ℕ, zero, suc, ◌<◌, All, List, [], ◌∷◌, ◌++◌, length, get_or, slice_get, Some, refl, sym, ◌∙◌, ap, subst, arith}
+use Rattle.std.proofs.lemmas.Option.{slice_get-get_or, slice_get_within, same_Some}
 
 -- a place below the length has an item
 pub at_place : {X : Type 0} (xs : List X) (i : ℕ) → i < length xs → (x : X) × (slice_get xs i ≡ Some x)
@@ -33,3 +33,7 @@ last_place [] y zero is = refl
 last_place [] y (suc i) is = absurd (omega arith)
 last_place (x ∷ xs) y zero is = absurd (omega arith)
 last_place (x ∷ xs) y (suc i) is = last_place xs y i (omega arith)
+
+-- what holds of all items holds of the one at a place
+pub all_place : {X : Type 0} (P : X → Type 0) (xs : List X) (i : ℕ) (x : X) → All P xs → slice_get xs i ≡ Some x → P x
+all_place P xs i x each here = subst P (same_Some (get_or xs i x) x (sym (slice_get-get_or xs i x (slice_get_within xs i x here)) ∙ here)) (each i x (slice_get_within xs i x here))

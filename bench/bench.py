@@ -1,0 +1,56 @@
+#!/usr/bin/env python3
+"""Times the built program on documents at its limits: prints a table of seconds and peak memory.
+
+  bench/bench.py [PROGRAM]      the program that ./dbp has built, where none is named
+"""
+
+import resource
+import subprocess
+import sys
+import time
+from pathlib import Path
+
+TOP = Path(__file__).resolve().parent.parent
+
+
+def one_task(occurrences: int) -> str:
+    return (f"dbp 1\npolicy fp\nuntil {occurrences}\ntask k every 1 from 0 prio 1 cost 1\n"
+            "  state n = 0\n  next n = n + 1\n  out y = 0 then n + 1\ndone\n")
+
+
+def many_tasks(occurrences: int) -> str:
+    lines = ["dbp 1", "policy fp", f"until {occurrences}"]
+    for task in range(32):
+        lines.append(f"task t{task} every 32 from {task} prio {32 - task} cost 1")
+        lines += ["  state n = 0", "  next n = n + 1"]
+        terms = ["n"] + ["1"] * 31
+        if task:
+            lines.append(f"  read x = t{task - 1}.y")
+            terms[-1] = "x"
+        lines.append("  out y = 0 then " + " + ".join(terms))
+    return "\n".join(lines + ["done"]) + "\n"
+
+
+def measured(program: str, text: str) -> tuple[float, float, int]:
+    before = resource.getrusage(resource.RUSAGE_CHILDREN)
+    start = time.perf_counter()
+    done = subprocess.run([program, "mean"], input=text.encode(), stdout=subprocess.PIPE, check=False)
+    wall = time.perf_counter() - start
+    after = resource.getrusage(resource.RUSAGE_CHILDREN)
+    assert done.returncode == 0, done
+    return wall, after.ru_utime + after.ru_stime - before.ru_utime - before.ru_stime, after.ru_maxrss
+
+
+def main() -> None:
+    program = sys.argv[1] if len(sys.argv) > 1 else str(TOP / "crates/dbp/out/dbp")
+    print(f"{'document':<32}{'wall s':>9}{'cpu s':>9}{'peak MB so far':>16}")
+    for name, text in [
+        *((f"1 task, {n} occurrences", one_task(n)) for n in (12_500, 25_000, 50_000, 100_000)),
+        *((f"32 tasks of 63 nodes, {n}", many_tasks(n)) for n in (12_000, 24_000, 48_000, 96_000)),
+    ]:
+        wall, cpu, peak = measured(program, text)
+        print(f"{name:<32}{wall:>9.3f}{cpu:>9.3f}{peak / 1024:>16.1f}")
+
+
+if __name__ == "__main__":
+    main()

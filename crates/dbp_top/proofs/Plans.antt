@@ -1,0 +1,44 @@
+-- What makes a ranked diagram without inputs and events and its batches a plan.
+use Rattle.std.proofs.Common.{◌≡◌, ◌≤◌, ◌<◌, ℕ, All, List, [], Some, length, map, get_or, slice_get, refl, ◌∙◌, ap, arith}
+use Rattle.std.specs.Option.{option_map}
+use Rattle.std.proofs.lemmas.Option.{slice_get-map}
+use Rattle.std.proofs.lemmas.List.{length-map}
+use Rattle.std.proofs.lemmas.List.Elements.{All-map}
+use Rattle.dbp_plan.specs.declared.diagram.Clock.{Clock}
+use Rattle.dbp_plan.specs.declared.diagram.Clock.TheVariants.{Every, On}
+use Rattle.dbp_plan.specs.declared.diagram.Diagram.{Diagram}
+use Rattle.dbp_plan.specs.declared.diagram.Task.{Task}
+use Rattle.dbp_plan.specs.declared.schedule.Batch.{Batch}
+use Rattle.dbp_plan.specs.Closed.{IsClosed, IsClosedTask}
+use Rattle.dbp_plan.specs.Ranked.{IsRanked}
+use Rattle.dbp_plan.specs.Plan.{IsPlan}
+use Rattle.trace_io.specs.Batches.{AreBatches, IsClockOf}
+
+clock_fits : (c : Clock) → ((period offset : ℕ) → c ≡ Every period offset → (1 ≤ period) × (period ≤ 1000000000) × (offset ≤ 1000000000)) → ((event : ℕ) → c ≡ On event → event < 0) → IsClockOf 0 c
+clock_fits (Every period offset) periodic on_event = periodic period offset refl
+clock_fits (On event) periodic on_event = on_event event refl
+
+-- the clocks of a diagram's tasks
+abbrev pub clocks_of : List Task → List Clock
+clocks_of tasks = map (λ t. t.clock) tasks
+
+pub clocks_fit : (d : Diagram) → IsClosed d → d.events ≡ [] → All (IsClockOf 0) (clocks_of d.tasks)
+clocks_fit d closed none =
+    let events : length d.events ≡ 0 = ap length none in
+    All-map (IsClockOf 0) (λ (t : Task). t.clock) d.tasks
+    (λ k t below. let fits = closed.each k t below in clock_fits (get_or d.tasks k t).clock fits.periodic (λ event is. omega (arith, fits.on_event event is, events)))
+
+pub plan_from : (d : Diagram) (batches : List Batch) → IsRanked d → AreBatches d.until [] (clocks_of d.tasks) batches → IsPlan d [] batches
+plan_from d batches ranked made = record {
+  ranked = ranked;
+  rising = made.rising;
+  in_order = made.in_order;
+  some = made.some;
+  named = λ k b below j i less. omega (arith, made.named k b below j i less, length-map d.tasks (λ (t : Task). t.clock));
+  ends = made.ends;
+  few = made.few;
+  periodic = λ i period offset k t is_task is_clock.
+      made.each i k (Every period offset) (slice_get-map (λ (t : Task). t.clock) d.tasks i ∙ ap (option_map (λ (t : Task). t.clock)) is_task ∙ ap Some is_clock);
+  sample_order = λ i j s less below. absurd (omega arith);
+  sampled = λ k s below. absurd (omega arith);
+}

@@ -1,0 +1,4 @@
+pub mod Answer
+pub mod Closing
+pub mod Ends
+pub mod Outside

@@ -1,0 +1,31 @@
+/// How a call of the program ended. The numbers are the exit statuses of the program `dbp`.
+#[derive(Clone, Copy, Debug, PartialEq, Eq)]
+pub enum Status {
+    /// The input was read to its end, and the command's text was written whole.
+    Ok = 0,
+    /// The document was refused, and the line that says why was written whole.
+    Refused = 1,
+    /// The words are no command. Nothing was read or written.
+    Usage = 2,
+    /// A read failed. Nothing was written.
+    ReadFault = 4,
+    /// A write failed. A part of the text was written.
+    WriteFault = 5,
+    /// Memory ran out. Nothing was written.
+    NoMemory = 6,
+    /// The input has more than 1,048,576 bytes. Nothing was written.
+    TooLarge = 7,
+}
+
+/// A line for the standard error.
+pub fn note(status: Status) -> &'static str {
+    match status {
+        Status::Ok => "done",
+        Status::Refused => "the document was refused",
+        Status::Usage => "usage: dbp COMMAND < DOCUMENT, where COMMAND is one of: mean",
+        Status::ReadFault => "a read of the input failed; nothing was written",
+        Status::WriteFault => "a write of the output failed; a part of it was written",
+        Status::NoMemory => "memory ran out; nothing was written",
+        Status::TooLarge => "the document has more than 1048576 bytes; nothing was written",
+    }
+}

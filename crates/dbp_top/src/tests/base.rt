@@ -1,0 +1,67 @@
+// Calls of the crates below that answer want of memory, with ample memory.
+
+use super::documents::TWO_RATES;
+use crate::stand_in::read_plan;
+use dbp_plan::{BinOp, Expr, List, Node, Plan, UnOp};
+use expr_eval::eval;
+use std::alloc::Global;
+use std::test::Fail;
+use sync_meaning::mean;
+
+fn two_rates(alloc: Global) -> Result<Plan, Fail> {
+    match read_plan(alloc, TWO_RATES.as_bytes()) {
+        Ok(plan) => Ok(plan),
+        Err(_) => Err(Fail::from("unread")),
+    }
+}
+
+#[test]
+fn a_plan_tells_its_occurrences(rt: HostRuntime) -> Result<(), Fail> {
+    let plan = two_rates(rt.alloc())?;
+    let copy = plan.copy()?;
+    assert_eq!(rt; copy.diagram.tasks.len(), 2);
+    assert_eq!(rt; copy.occurrences(0), 3);
+    assert_eq!(rt; copy.time_of(0, 2), 2);
+    assert_eq!(rt; copy.occurrences(1), 2);
+    assert_eq!(rt; copy.time_of(1, 2), 3);
+    let table = mean(rt.alloc(), &copy)?;
+    assert_eq!(rt; table.tasks.len(), 2);
+    assert_eq!(rt; table.row(1, 0), [0].as_slice());
+    assert_eq!(rt; table.row(1, 2), [12].as_slice());
+    Ok(())
+}
+
+#[test]
+fn lists_grow(rt: HostRuntime) -> Result<(), Fail> {
+    let mut list = List::new(rt.alloc());
+    list.push(7)?;
+    list.push(8)?;
+    assert_eq!(rt; list.items(), [7, 8].as_slice());
+    assert_eq!(rt; list.copied()?.items(), [7, 8].as_slice());
+    Ok(())
+}
+
+#[test]
+fn expressions_are_made(rt: HostRuntime) -> Result<(), Fail> {
+    let alloc = rt.alloc();
+    let two = Expr::number(alloc, 2)?;
+    let place = Expr::variable(alloc, 0)?;
+    let negative = Expr::unary(UnOp::Neg, place)?;
+    let sum = Expr::binary(BinOp::Sub, two, &negative)?;
+    let chosen = Expr::choice(Expr::variable(alloc, 1)?, &sum, &negative)?;
+    let nodes = [
+        Node::Var(1),
+        Node::Num(2),
+        Node::Var(0),
+        Node::Un(UnOp::Neg, 2),
+        Node::Bin(BinOp::Sub, 1, 3),
+        Node::Var(0),
+        Node::Un(UnOp::Neg, 5),
+        Node::Pick(0, 4, 6),
+    ];
+    assert_eq!(rt; chosen.nodes.items(), nodes.as_slice());
+    for (env, value) in [([5, 1], 7), ([5, 0], -5), ([-3, -1], -1)] {
+        assert_eq!(rt; eval(&chosen, &env), value);
+    }
+    Ok(())
+}

@@ -1,0 +1,53 @@
+// Reads and writes that fail, and the adapters of std's reader and writer.
+
+use super::documents::{TWO_RATES, call};
+use crate::{Status, dbp_main, note};
+use dbp_plan::{ReadSource, WriteSink};
+use std::test::Fail;
+
+#[test]
+fn faults_end_the_call(rt: HostRuntime) -> Result<(), Fail> {
+    let cases = [
+        ((16, 3), (8, 0), Status::ReadFault, ""),
+        ((16, 1), (8, 0), Status::ReadFault, ""),
+        ((16, 0), (8, 1), Status::WriteFault, ""),
+        ((16, 0), (8, 2), Status::WriteFault, "0,a,1,1\n"),
+        ((16, 0), (9, 2), Status::WriteFault, "0,a,1,1\n0"),
+        ((16, 3), (8, 1), Status::ReadFault, ""),
+    ];
+    for (reads, writes, status, lines) in cases {
+        let answer = call(rt.alloc(), &["mean"], TWO_RATES.as_bytes(), reads, writes)?;
+        assert_eq!(rt; answer.0, status);
+        assert_eq!(rt; answer.1.as_slice(), lines.as_bytes());
+    }
+    Ok(())
+}
+
+#[test]
+fn a_reader_and_a_writer_are_adapted(rt: HostRuntime) -> Result<(), Fail> {
+    let alloc = rt.alloc();
+    let mut words = Vec::new(alloc);
+    words.push("mean".to_string(alloc)?)?;
+    let mut written = Vec::<u8>::new(alloc);
+    let mut source = ReadSource::new(b"dbp 1\npolicy fp\n".as_slice());
+    let mut sink = WriteSink::new(&mut written);
+    let status = dbp_main(alloc, &words, &mut source, &mut sink);
+    drop(sink);
+    assert_eq!(rt; status, Status::Refused);
+    assert_eq!(rt; written.as_slice(), b"refused: line 1: 30 Unread\n".as_slice());
+    Ok(())
+}
+
+#[test]
+fn notes_tell_the_statuses_apart(rt: HostRuntime) {
+    let cases = [
+        (Status::Usage, "usage: dbp COMMAND < DOCUMENT, where COMMAND is one of: mean"),
+        (Status::ReadFault, "a read of the input failed; nothing was written"),
+        (Status::WriteFault, "a write of the output failed; a part of it was written"),
+        (Status::NoMemory, "memory ran out; nothing was written"),
+        (Status::TooLarge, "the document has more than 1048576 bytes; nothing was written"),
+    ];
+    for (status, text) in cases {
+        assert_eq!(rt; note(status), text);
+    }
+}

@@ -1,0 +1,62 @@
+ghost use Rattle.std.specs.Prelude.{◌↔◌, IsTrue};
+ghost use Rattle.dbp_top.specs.Ends.{Ends, IsMean};
+
+use crate::Status;
+use crate::answer::answer;
+use crate::outside::{ReadStop, read_all, write_all};
+use dbp_plan::{Sink, Source};
+use std::alloc::Global;
+
+/// The greatest document, in bytes.
+pub const MAX_DOCUMENT: usize = 1_048_576;
+
+/// The whole program: compares the words with the commands, reads the source to its end, makes the command's
+/// text and writes it. The clause says for each status when it comes, and what was read and written then;
+/// docs/LAYERS.md has it as a table.
+pub fn dbp_main<S: Source, K: Sink>(
+    alloc: Global,
+    words: &[String],
+    source: &mut S,
+    sink: &mut K,
+) -> Status
+    ensures { Ends S.left S.faults K.written K.faults words.now source.old source.new sink.old sink.new result }
+{
+    plain_main(alloc, words, source, sink)
+}
+
+/// `dbp_main` for the commands that start no tasks. It waits for nobody, and always returns.
+pub fn plain_main<S: Source, K: Sink>(
+    alloc: Global,
+    words: &[String],
+    source: &mut S,
+    sink: &mut K,
+) -> Status
+    ensures { Ends S.left S.faults K.written K.faults words.now source.old source.new sink.old sink.new result }
+{
+    if !is_mean(words) {
+        return Status::Usage;
+    }
+    let input = match read_all(alloc, source, MAX_DOCUMENT) {
+        Ok(input) => input,
+        Err(ReadStop::Failed) => return Status::ReadFault,
+        Err(ReadStop::TooLarge) => return Status::TooLarge,
+        Err(ReadStop::NoMemory) => return Status::NoMemory,
+    };
+    let Ok((status, text)) = answer(alloc, &input) else {
+        return Status::NoMemory;
+    };
+    match write_all(sink, &text) {
+        Ok(()) => status,
+        Err(_) => Status::WriteFault,
+    }
+}
+
+// Whether the words are the command `mean`.
+fn is_mean(words: &[String]) -> bool
+    ensures { IsTrue result ↔ IsMean words.now }
+{
+    match words {
+        [word] => word.as_str() == "mean",
+        _ => false,
+    }
+}

@@ -1,0 +1,1 @@
+pub use Rattle.dbp_plan.specs.Ranks

@@ -1,0 +1,9 @@
+pub mod Counts
+pub mod Envs
+pub mod Lets
+pub mod Nexts
+pub mod Ranks
+pub mod Runs
+pub mod Sets
+pub mod Steps
+pub mod Tables

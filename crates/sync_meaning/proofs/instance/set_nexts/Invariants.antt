@@ -1,0 +1,5 @@
+use Rattle.sync_meaning.proofs.Nexts.{NextsUpTo}
+use Rattle.sync_meaning.proofs.instance.set_nexts.Given as goal
+
+abbrev pub invariant-loop-next : goal.invariant-loop-next
+invariant-loop-next l = NextsUpTo l.next-index l.task.nexts l.now l.initial.later l.later

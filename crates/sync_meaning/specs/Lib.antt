@@ -1,0 +1,4 @@
+pub mod Meaning
+pub mod Ranking
+pub mod Run
+pub mod Shape

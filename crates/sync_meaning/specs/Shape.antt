@@ -1,0 +1,44 @@
+-- Sizes of environments, rows and counts.
+use Rattle.std.specs.Prelude.{◌≡◌, ℕ, ℤ, ◌+◌, ◌<◌, ◌≤◌, ◌⊎◌, if◌then◌else◌, List, length, map, slice_get, Some}
+use Rattle.dbp_plan.specs.declared.diagram.Task.{Task}
+use Rattle.dbp_plan.specs.declared.diagram.Link.{Link}
+use Rattle.dbp_plan.specs.declared.diagram.Read.{Read}
+use Rattle.dbp_plan.specs.declared.schedule.Batch.{Batch}
+use Rattle.dbp_plan.specs.declared.table.Table.{Table}
+use Rattle.dbp_plan.specs.declared.table.TaskRows.{TaskRows}
+use Rattle.dbp_plan.specs.Closed.{IsClosedTask, place_count}
+use Rattle.dbp_plan.specs.Occurrences.{names}
+use Rattle.sync_meaning.specs.declared.env.Env.{Env}
+use Rattle.sync_meaning.specs.Meaning.{IsRead}
+
+-- the task is closed in a diagram with some numbers of inputs, events and links
+abbrev pub IsClosedSomewhere : Task → Type 0
+IsClosedSomewhere task = (inputs : ℕ) × (events : ℕ) × (links : ℕ) × IsClosedTask inputs events links task
+
+-- the environment has a word for each place of the task's, and one for each state
+pub record IsEnvOf (task : Task) (env : Env) : Type 0 where
+  pub now : length env.now ≡ place_count task
+  pub later : length env.later ≡ length task.states
+
+pub record HasEnvs (tasks : List Task) (envs : List Env) : Type 0 where
+  pub size : length envs ≡ length tasks
+  pub each : (i : ℕ) (t : Task) (e : Env) → slice_get tasks i ≡ Some t → slice_get envs i ≡ Some e → IsEnvOf t e
+
+-- the places from the base on hold a word for each item that fits it, and all other words stayed
+pub record AreWritten {X : Type 0} (base : ℕ) (items : List X) (fits : X → ℤ → Type 0) (before after : List ℤ) : Type 0 where
+  pub size : length after ≡ length before
+  pub written : (k : ℕ) (x : X) (word : ℤ) → slice_get items k ≡ Some x → slice_get after (base + k) ≡ Some word → fits x word
+  pub kept : (j : ℕ) → (j < base) ⊎ (base + length items ≤ j) → slice_get after j ≡ slice_get before j
+
+-- the row of the task's first values
+abbrev pub first_rows : Task → TaskRows
+first_rows task = record { ports = length task.outs; words = map (λ o. o.first) task.outs }
+
+-- the row that the read goes back to is there
+abbrev pub IsReadable : List Link → (ℕ → ℕ) → Table → Read → Type 0
+IsReadable links occurred table read = (word : ℤ) × IsRead links occurred table read word
+
+-- the counts are one more for each task of the batch
+pub record IsMarked (batch : Batch) (before after : List ℕ) : Type 0 where
+  pub size : length after ≡ length before
+  pub each : (i n : ℕ) → slice_get before i ≡ Some n → slice_get after i ≡ Some (n + (if names i batch then 1 else 0))

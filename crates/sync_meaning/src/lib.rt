@@ -1,0 +1,14 @@
+//! The zero-time meaning of a plan: what its tasks compute if no time passes between a release and its outs.
+#![tactic(auto)]
+
+mod env;
+mod inputs;
+mod instance;
+mod ranking;
+mod reading;
+mod rows;
+mod run;
+
+pub use env::{Env, env_of};
+pub use instance::work;
+pub use run::mean;

@@ -1,0 +1,163 @@
+ghost use Rattle.std.specs.Prelude.{◌≡◌, ◌<◌, ◌≤◌, ◌+◌, ◌^◌, ◌↔◌, IsTrue, All, length, replicate, slice_index, IfOk, OnOk};
+ghost use Rattle.std.specs.List.Sorted.{IsStrictlyIncreasing};
+ghost use Rattle.dbp_plan.specs.declared.limits.TheConstants.{MAX_OCCURRENCES, MAX_OUTS, MAX_BODY};
+ghost use Rattle.dbp_plan.specs.Closed.{place_count};
+ghost use Rattle.dbp_plan.specs.Table.{HasAllRows};
+ghost use Rattle.sync_meaning.specs.Ranking.{IsByRank};
+ghost use Rattle.sync_meaning.specs.Shape.{HasEnvs, IsMarked};
+
+use crate::inputs::Inputs;
+use crate::ranking::tasks_by_rank;
+use crate::reading::{set_reads, set_senses};
+use crate::rows::{first_table, push_row};
+use crate::{Env, env_of, work};
+use dbp_plan::{Batch, Diagram, NoMemory, Plan, Row, Table, Task};
+use std::alloc::Global;
+
+/// The zero-time meaning of the plan: of each task the row of its first values, and then a row for each instance.
+pub fn mean(alloc: Global, plan: &Plan) -> Result<Table, NoMemory>
+    ensures { IfOk result (λ table. HasAllRows plan.now.diagram.tasks plan.now.batches table) }
+{
+    let by_rank = tasks_by_rank(alloc, plan.diagram.ranks.items())?;
+    let mut run = Run::new(alloc, &plan.diagram)?;
+    for batch in plan.batches.items() {
+        run.take_batch(plan, &by_rank, batch)?;
+    }
+    Ok(run.table)
+}
+
+// A run of a plan, batch by batch.
+#[derive(Drop)]
+struct Run {
+    inputs: Inputs,
+    // the environment of each task
+    envs: Vec<Env>,
+    // how often the batches so far name each task
+    named: Vec<u32>,
+    // how many instances of each task are computed
+    done: Vec<u32>,
+    // their rows
+    table: Table,
+}
+
+impl Run {
+    ghost use Rattle.sync_meaning.specs.Run.{IsRun};
+
+    // The run before the first batch.
+    fn new(alloc: Global, diagram: &Diagram) -> Result<Run, NoMemory>
+        requires few { length diagram.now.tasks < 2 ^ 32 }
+        requires ranks { length diagram.now.ranks ≡ length diagram.now.tasks }
+        requires places { All (λ t. place_count t ≤ MAX_BODY) diagram.now.tasks }
+        requires outs { All (λ t. length t.outs ≤ MAX_OUTS) diagram.now.tasks }
+        ensures run { IfOk result (λ run. IsRun diagram.now (length diagram.now.tasks) run) }
+        ensures named { IfOk result (λ run. run.named.items ≡ replicate (length diagram.now.tasks) 0) }
+    {
+        let tasks = diagram.tasks.items();
+        Ok(Run {
+            inputs: Inputs::new(alloc, diagram.inputs.items())?,
+            envs: first_envs(alloc, tasks)?,
+            named: zeros(alloc, tasks.len())?,
+            done: zeros(alloc, tasks.len())?,
+            table: first_table(alloc, tasks)?,
+        })
+    }
+
+    // Computes the instances of the batch.
+    fn take_batch(&mut self, plan: &Plan, by_rank: &[u32], batch: &Batch) -> Result<(), NoMemory>
+        requires run { IsRun plan.now.diagram (length plan.now.diagram.tasks) self.old }
+        requires by_rank { IsByRank plan.now.diagram.ranks by_rank.now }
+        requires tasks { All (λ i. i < length plan.now.diagram.tasks) batch.now.tasks }
+        requires order { IsStrictlyIncreasing batch.now.tasks }
+        requires few { All (λ n. n < MAX_OCCURRENCES) self.old.named.items }
+        ensures run { OnOk result (IsRun plan.now.diagram (length plan.now.diagram.tasks) self.new) }
+        ensures named { OnOk result (IsMarked batch.now self.old.named.items self.new.named.items) }
+    {
+        self.inputs.take_until(plan.samples.items(), batch.time);
+        mark(&mut self.named, batch);
+        self.compute_due(plan, by_rank)
+    }
+
+    // Computes the instances that are named and not yet computed, the highest rank first.
+    fn compute_due(&mut self, plan: &Plan, by_rank: &[u32]) -> Result<(), NoMemory>
+        requires run { IsRun plan.now.diagram 0 self.old }
+        requires by_rank { IsByRank plan.now.diagram.ranks by_rank.now }
+        requires few { All (λ n. n ≤ MAX_OCCURRENCES) self.old.named.items }
+        ensures run { OnOk result (IsRun plan.now.diagram (length plan.now.diagram.tasks) self.new) }
+        ensures named { OnOk result (self.new.named.items ≡ self.old.named.items) }
+    {
+        for task in by_rank {
+            if self.is_due(*task) {
+                self.compute(plan, *task)?;
+            }
+        }
+        Ok(())
+    }
+
+    // Whether an instance of the task is named and not yet computed.
+    fn is_due(&self, task: u32) -> bool
+        requires done { task < length self.now.done.items }
+        requires named { task < length self.now.named.items }
+        ensures { IsTrue result ↔ (slice_index self.now.done.items task < slice_index self.now.named.items task) }
+    {
+        self.done[task as usize] < self.named[task as usize]
+    }
+
+    // Computes the next instance of the task.
+    fn compute(&mut self, plan: &Plan, task: u32) -> Result<(), NoMemory>
+        requires task { task < length plan.now.diagram.tasks }
+        requires run { IsRun plan.now.diagram (slice_index plan.now.diagram.ranks task) self.old }
+        requires due { slice_index self.old.done.items task < slice_index self.old.named.items task }
+        requires few { All (λ n. n ≤ MAX_OCCURRENCES) self.old.named.items }
+        ensures run { OnOk result (IsRun plan.now.diagram (slice_index plan.now.diagram.ranks task + 1) self.new) }
+        ensures named { OnOk result (self.new.named.items ≡ self.old.named.items) }
+    {
+        let place = task as usize;
+        let body = &plan.diagram.tasks.items()[place];
+        let env = &mut self.envs[place];
+        let mut outs = Row::new();
+        set_senses(body, &self.inputs.values, env);
+        set_reads(
+            body,
+            plan.diagram.links.items(),
+            &self.named,
+            &self.table,
+            env,
+        );
+        work(body, env, &mut outs);
+        env.advance();
+        push_row(&mut self.table.tasks.items_mut()[place], &outs)?;
+        self.done[place] += 1;
+        Ok(())
+    }
+}
+
+// As many zeros.
+fn zeros(alloc: Global, count: usize) -> Result<Vec<u32>, NoMemory>
+    ensures { IfOk result (λ made. made.items ≡ replicate count 0) }
+{
+    Ok(vec![in alloc; 0; count]?)
+}
+
+// The environment of each task before its first instance.
+fn first_envs(alloc: Global, tasks: &[Task]) -> Result<Vec<Env>, NoMemory>
+    requires { All (λ t. place_count t ≤ MAX_BODY) tasks.now }
+    ensures { IfOk result (λ envs. HasEnvs tasks.now envs.items) }
+{
+    let mut envs = Vec::with_capacity(alloc, tasks.len())?;
+    for task in tasks {
+        envs.push(env_of(alloc, task)?)?;
+    }
+    Ok(envs)
+}
+
+// Counts one more occurrence of each task of the batch.
+fn mark(named: &mut [u32], batch: &Batch)
+    requires tasks { All (λ i. i < length named.old) batch.now.tasks }
+    requires order { IsStrictlyIncreasing batch.now.tasks }
+    requires few { All (λ n. n < MAX_OCCURRENCES) named.old }
+    ensures { IsMarked batch.now named.old named.new }
+{
+    for task in batch.tasks.items() {
+        named[*task as usize] += 1;
+    }
+}

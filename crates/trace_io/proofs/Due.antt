@@ -1,0 +1,91 @@
+-- Steps of the two loops over the clocks.
+use Rattle.std.proofs.Common.{◌≡◌, ◌≢◌, ℕ, suc, ◌+◌, ◌<◌, Bool, true, false, All, List, [], ◌∷◌, ◌++◌, length, get_or, set, arith, rules, refl, ap, ◌∙◌, sym, inl, inr}
+use Rattle.std.specs.Prelude.{◌==◌, ◌||◌}
+use Rattle.std.specs.List.{list_any}
+use Rattle.std.specs.List.Sorted.{IsStrictlyIncreasing}
+use Rattle.std.proofs.lemmas.Bool.{cases_lt, ne_eqb}
+use Rattle.std.proofs.lemmas.List.{length_push, length-set, get_or-set_other, get_or-set_same}
+use Rattle.std.proofs.lemmas.List.Elements.{All-push, All-weaker}
+use Rattle.std.proofs.lemmas.List.Folds.{list_any-append}
+use Rattle.std.proofs.lemmas.List.Sums.{sum_by-set}
+use Rattle.dbp_plan.specs.declared.diagram.Clock.{Clock}
+use Rattle.trace_io.specs.Merging.{TakesDue, is_at, next_of}
+use Rattle.std.proofs.lemmas.Grind.{common_steps}
+
+-- a list of numbers stays in order where a greater one is added
+pub rising-push : (xs : List ℕ) (x : ℕ) → IsStrictlyIncreasing xs → All (λ y. y < x) xs → IsStrictlyIncreasing (xs ++ x ∷ [])
+rising-push xs x up below k fits = grind (arith, common_steps, up k, below k 0)
+
+-- one more name
+pub named-push : (xs : List ℕ) (x i : ℕ) → list_any (λ t. t == i) (xs ++ x ∷ []) ≡ (list_any (λ t. t == i) xs || list_any (λ t. t == i) (x ∷ []))
+named-push xs x i = list_any-append (λ t. t == i) xs (x ∷ [])
+
+pub one-name : (x i : ℕ) → x ≢ i → list_any (λ t. t == i) (x ∷ []) ≡ false
+one-name x i other = let no : (x == i) ≡ false = ne_eqb x i other in rw no refl
+
+pub own-name : (x : ℕ) → list_any (λ t. t == x) (x ∷ []) ≡ true
+own-name x = let here : (x == x) ≡ true = search rules in rw here refl
+
+-- numbers below n name nothing from n on
+pub named-below : (xs : List ℕ) (i : ℕ) → All (λ x. x < i) xs → list_any (λ t. t == i) xs ≡ false
+named-below [] i below = refl
+named-below (x ∷ xs) i below =
+    let less : x < i = below 0 0 (omega arith) in
+    let no : (x == i) ≡ false = ne_eqb x i (λ e. absurd (omega arith)) in
+    rw no (named-below xs i (λ k d fits. below (suc k) d (omega arith)))
+
+pub or-false : (a : Bool) → (a || false) ≡ a
+or-false true = refl
+or-false false = refl
+
+pub or-true : (a : Bool) → (a || true) ≡ true
+or-true true = refl
+or-true false = refl
+
+-- clock n is due
+pub take-one : (until : ℕ) (events : List (List ℕ)) (clocks : List Clock) (before after : List ℕ) (time n : ℕ) (tasks : List ℕ)
+    → n < length before → TakesDue until events clocks before after time n tasks
+    → ((d : Clock) → is_at time (next_of until events clocks before n d) ≡ true)
+    → TakesDue until events clocks before (set after n (get_or after n 0 + 1)) time (n + 1) (tasks ++ n ∷ [])
+take-one until events clocks before after time n tasks fits t here =
+    let room : n < length after = rw t.places fits in
+    record {
+      in_order = rising-push tasks n t.in_order t.named;
+      named = All-push (λ i. i < n + 1) tasks n (All-weaker (λ i. i < n) (λ i. i < n + 1) (λ i less. omega arith) tasks t.named) (omega arith);
+      due = λ i d less. elim (cases_lt i n) [
+        | inl below ↦ named-push tasks n i ∙ rw (one-name n i (λ e. absurd (omega arith)), or-false (list_any (λ t. t == i) tasks)) (t.due i d below)
+        | inr above ↦
+            let same : i ≡ n = omega arith in
+            rw same (named-push tasks n n ∙ rw (own-name n, or-true (list_any (λ t. t == n) tasks)) (sym (here d)))
+      ];
+      places = length-set after n (get_or after n 0 + 1) ∙ t.places;
+      moved = λ i d less. elim (cases_lt i n) [
+        | inl below ↦ get_or-set_other after n i (get_or after n 0 + 1) 0 (λ e. absurd (omega arith)) ∙ t.moved i d below
+        | inr above ↦
+            let same : i ≡ n = omega arith in
+            rw same (get_or-set_same after n (get_or after n 0 + 1) 0 room ∙ rw (here d) (ap (λ m. m + 1) (t.kept n (omega arith))))
+      ];
+      kept = λ i less. get_or-set_other after n i (get_or after n 0 + 1) 0 (λ e. absurd (omega arith)) ∙ t.kept i (omega arith);
+      counted = omega (arith, t.counted, length_push tasks n, sum_by-set (λ x. x) after n (get_or after n 0 + 1) 0 room);
+    }
+
+-- clock n isn't due
+pub pass-one : (until : ℕ) (events : List (List ℕ)) (clocks : List Clock) (before after : List ℕ) (time n : ℕ) (tasks : List ℕ)
+    → TakesDue until events clocks before after time n tasks
+    → ((d : Clock) → is_at time (next_of until events clocks before n d) ≡ false)
+    → TakesDue until events clocks before after time (n + 1) tasks
+pass-one until events clocks before after time n tasks t here = record {
+  in_order = t.in_order;
+  named = All-weaker (λ i. i < n) (λ i. i < n + 1) (λ i less. omega arith) tasks t.named;
+  due = λ i d less. elim (cases_lt i n) [
+    | inl below ↦ t.due i d below
+    | inr above ↦ let same : i ≡ n = omega arith in rw same (named-below tasks n t.named ∙ sym (here d))
+  ];
+  places = t.places;
+  moved = λ i d less. elim (cases_lt i n) [
+    | inl below ↦ t.moved i d below
+    | inr above ↦ let same : i ≡ n = omega arith in rw same (rw (here d) (omega (arith, t.kept n (omega arith))))
+  ];
+  kept = λ i less. t.kept i (omega arith);
+  counted = t.counted;
+}

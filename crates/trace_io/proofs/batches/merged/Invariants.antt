@@ -1,0 +1,9 @@
+use Rattle.std.proofs.Common.{◌-◌}
+use Rattle.trace_io.proofs.Merges.{Merged, after}
+use Rattle.trace_io.proofs.batches.merged.Given as goal
+
+abbrev pub invariant-loop-time : goal.invariant-loop-time
+invariant-loop-time l = Merged l.until l.events l.clocks l.taken.items l.made
+
+abbrev pub decreases-loop-time : goal.decreases-loop-time
+decreases-loop-time l = l.until - after l.made

@@ -1,0 +1,4 @@
+pub mod Batches
+pub mod Merging
+pub mod Lines
+pub mod Printing

@@ -1,0 +1,38 @@
+-- One step of the merge of clocks, of each of which so many occurrences were taken.
+use Rattle.std.specs.Prelude.{◌≡◌, ℕ, ◌+◌, ◌<◌, ◌≤◌, ◌==◌, nat_eq, Bool, true, false, All, List, length, sum, slice_index, slice_index_or, Option, Some, None, IfSome, MatchOption}
+use Rattle.std.specs.List.{list_any}
+use Rattle.std.specs.List.Sorted.{IsStrictlyIncreasing}
+use Rattle.std.specs.Option.{option_eq}
+use Rattle.dbp_plan.specs.declared.diagram.Clock.{Clock}
+use Rattle.dbp_plan.specs.Clocks.{time_at}
+
+-- the time of the clock's next occurrence
+abbrev pub next_of : ℕ → List (List ℕ) → List Clock → List ℕ → ℕ → Clock → Option ℕ
+next_of until events clocks taken i d = time_at until events (slice_index_or clocks i d) (slice_index taken i)
+
+-- none of the first n clocks has a next occurrence, or the least next one is at this time
+abbrev pub IsLeastNext : ℕ → List (List ℕ) → List Clock → List ℕ → ℕ → Option ℕ → Type 0
+IsLeastNext until events clocks taken n r = MatchOption r
+    ((i : ℕ) (d : Clock) → i < n → next_of until events clocks taken i d ≡ None)
+    (λ time. (time < until)
+    × ((i : ℕ) × (i < n) × ((d : Clock) → next_of until events clocks taken i d ≡ Some time))
+    × ((i : ℕ) (d : Clock) → i < n → IfSome (next_of until events clocks taken i d) (λ t. time ≤ t)))
+
+-- whether a next occurrence is at this time
+abbrev pub is_at : ℕ → Option ℕ → Bool
+is_at time r = option_eq nat_eq r (Some time)
+
+-- one more where a next occurrence is at this time
+abbrev pub one_if : Bool → ℕ
+one_if true = 1
+one_if false = 0
+
+-- of the first n clocks exactly those whose next occurrence is at this time are named, in order, and that occurrence is taken
+pub record TakesDue (until : ℕ) (events : List (List ℕ)) (clocks : List Clock) (before after : List ℕ) (time n : ℕ) (tasks : List ℕ) : Type 0 where
+  pub in_order : IsStrictlyIncreasing tasks
+  pub named : All (λ i. i < n) tasks
+  pub due : (i : ℕ) (d : Clock) → i < n → list_any (λ t. t == i) tasks ≡ is_at time (next_of until events clocks before i d)
+  pub places : length after ≡ length before
+  pub moved : (i : ℕ) (d : Clock) → i < n → slice_index after i ≡ slice_index before i + one_if (is_at time (next_of until events clocks before i d))
+  pub kept : (i : ℕ) → n ≤ i → slice_index after i ≡ slice_index before i
+  pub counted : length tasks + sum before ≡ sum after

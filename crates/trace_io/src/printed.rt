@@ -1,0 +1,87 @@
+// The printed lines of a table.
+
+ghost use Rattle.std.specs.Prelude.{◌≡◌, ◌++◌, IfOk, OnOk};
+ghost use Rattle.dbp_plan.specs.Table.{HasAllRows};
+ghost use Rattle.trace_io.specs.Lines.{cells_of, line_text, lines_of};
+ghost use Rattle.trace_io.specs.Printing.{CanPrint, Counts, numbered_lines};
+
+use dbp_plan::{Batch, NoMemory, Plan, Table, Task};
+use itoa::{Buffer, Integer};
+use std::alloc::Global;
+
+/// The text of a table of the plan: all occurrences by time and then by declaration, each as a line `t,task,n,v1,..,vk`
+/// that ends with LF. There `t` is the time in ticks, `n` the number of the task's occurrence, from 1, and the `v` are
+/// the words of its row `n`.
+pub fn lines(alloc: Global, plan: &Plan, table: &Table) -> Result<Vec<u8>, NoMemory>
+    requires { HasAllRows plan.now.diagram.tasks plan.now.batches table.now }
+    ensures { IfOk result (λ text. text.items ≡ lines_of plan.now.diagram plan.now.batches table.now) }
+{
+    let tasks = plan.diagram.tasks.items();
+    let mut counts = vec![in alloc; 0u32; tasks.len()]?;
+    let mut text = Vec::new(alloc);
+    for batch in plan.batches.items() {
+        push_batch(&mut text, tasks, table, batch, &mut counts)?;
+    }
+    Ok(text)
+}
+
+// Adds the lines of one batch, where this is how often each task occurs before it. Its tasks are then counted.
+fn push_batch(
+    text: &mut Vec<u8>,
+    tasks: &[Task],
+    table: &Table,
+    batch: &Batch,
+    counts: &mut [u32],
+) -> Result<(), NoMemory>
+    requires { CanPrint tasks.now table.now counts.old batch.now.tasks }
+    ensures lines { OnOk result (text.new.items ≡ text.old.items ++ numbered_lines tasks.now table.now batch.now.time counts.old batch.now.tasks) }
+    ensures counts { OnOk result (Counts counts.old counts.new batch.now.tasks) }
+{
+    for task in batch.tasks.items() {
+        let place = *task as usize;
+        let number = counts[place] + 1;
+        counts[place] = number;
+        let name = tasks[place].name.bytes();
+        push_line(text, batch.time, name, number, table.row(*task, number))?;
+    }
+    Ok(())
+}
+
+// Adds the line of one occurrence.
+fn push_line(
+    text: &mut Vec<u8>,
+    time: u64,
+    name: &[u8],
+    number: u32,
+    row: &[i64],
+) -> Result<(), NoMemory>
+    ensures { OnOk result (text.new.items ≡ text.old.items ++ line_text time name.now number row.now) }
+{
+    push_number(text, time)?;
+    text.push(b',')?;
+    text.extend_from_slice(name)?;
+    text.push(b',')?;
+    push_number(text, number)?;
+    push_cells(text, row)?;
+    text.push(b'\n')?;
+    Ok(())
+}
+
+// Adds each word behind a comma.
+fn push_cells(text: &mut Vec<u8>, row: &[i64]) -> Result<(), NoMemory>
+    ensures { OnOk result (text.new.items ≡ text.old.items ++ cells_of row.now) }
+{
+    for word in row {
+        text.push(b',')?;
+        push_number(text, *word)?;
+    }
+    Ok(())
+}
+
+// Adds the number in decimal.
+fn push_number<N: Integer>(text: &mut Vec<u8>, number: N) -> Result<(), NoMemory>
+    ensures { OnOk result (text.new.items ≡ text.old.items ++ N.text number) }
+{
+    text.extend_from_slice(Buffer::new().format(number).as_bytes())?;
+    Ok(())
+}
