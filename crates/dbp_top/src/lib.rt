@@ -5,10 +5,9 @@ mod answer;
 mod outside;
 mod stand_in;
 mod status;
-mod top;
-
 #[cfg(test)]
 mod tests;
+mod top;
 
 pub use status::{Status, note};
 pub use top::{MAX_DOCUMENT, dbp_main, plain_main};

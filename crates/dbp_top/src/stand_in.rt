@@ -8,6 +8,8 @@ mod expression;
 mod plan;
 mod task;
 
+#[cfg(test)]
+pub(crate) use closed::are_below;
 use dbp_plan::NoMemory;
 pub(crate) use plan::read_plan;
 use std::alloc::AllocError;

@@ -116,7 +116,7 @@ fn outs_below(places: u64, task: &Task) -> bool
 }
 
 // Whether each variable of the nodes is below the bound.
-fn are_below(bound: u64, nodes: &[Node<u32>]) -> bool
+pub(crate) fn are_below(bound: u64, nodes: &[Node<u32>]) -> bool
     ensures { IsTrue result → VariablesBelow bound nodes.now }
 {
     for node in nodes {

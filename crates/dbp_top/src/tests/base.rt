@@ -1,7 +1,7 @@
 // Calls of the crates below that answer want of memory, with ample memory.
 
 use super::documents::TWO_RATES;
-use crate::stand_in::read_plan;
+use crate::stand_in::{are_below, read_plan};
 use dbp_plan::{BinOp, Expr, List, Node, Plan, UnOp};
 use expr_eval::eval;
 use std::alloc::Global;
@@ -26,8 +26,11 @@ fn a_plan_tells_its_occurrences(rt: HostRuntime) -> Result<(), Fail> {
     assert_eq!(rt; copy.time_of(1, 2), 3);
     let table = mean(rt.alloc(), &copy)?;
     assert_eq!(rt; table.tasks.len(), 2);
-    assert_eq!(rt; table.row(1, 0), [0].as_slice());
-    assert_eq!(rt; table.row(1, 2), [12].as_slice());
+    let words = [[0, 1, 2, 3].as_slice(), [0, 11, 12].as_slice()];
+    for (rows, expected) in table.tasks.items().iter().zip(words) {
+        assert_eq!(rt; rows.ports, 1);
+        assert_eq!(rt; rows.words.items(), expected);
+    }
     Ok(())
 }
 
@@ -48,7 +51,12 @@ fn expressions_are_made(rt: HostRuntime) -> Result<(), Fail> {
     let place = Expr::variable(alloc, 0)?;
     let negative = Expr::unary(UnOp::Neg, place)?;
     let sum = Expr::binary(BinOp::Sub, two, &negative)?;
-    let chosen = Expr::choice(Expr::variable(alloc, 1)?, &sum, &negative)?;
+    let condition = Expr::variable(alloc, 1)?;
+    assert_eq!(rt;
+        (condition.nodes.len(), sum.nodes.len(), negative.nodes.len()),
+        (1, 4, 2)
+    );
+    let chosen = Expr::choice(condition, &sum, &negative)?;
     let nodes = [
         Node::Var(1),
         Node::Num(2),
@@ -60,6 +68,7 @@ fn expressions_are_made(rt: HostRuntime) -> Result<(), Fail> {
         Node::Pick(0, 4, 6),
     ];
     assert_eq!(rt; chosen.nodes.items(), nodes.as_slice());
+    assert!(rt; are_below(2, chosen.nodes.items()));
     for (env, value) in [([5, 1], 7), ([5, 0], -5), ([-3, -1], -1)] {
         assert_eq!(rt; eval(&chosen, &env), value);
     }

@@ -34,7 +34,11 @@ pub(super) fn call(
     for word in words {
         all.push(word.to_string(alloc)?)?;
     }
-    let mut source = MemSource::new(input.to_vec(alloc)?, read.max(1), vec![in alloc; read_fails]?);
+    let mut source = MemSource::new(
+        input.to_vec(alloc)?,
+        read.max(1),
+        vec![in alloc; read_fails]?,
+    );
     let room = 2_000_000;
     let store = Vec::with_capacity(alloc, room)?;
     let mut sink = MemSink::new(store, room, write.max(1), vec![in alloc; write_fails]?);
@@ -114,9 +118,14 @@ fn other_words_are_no_command(rt: HostRuntime) -> Result<(), Fail> {
 
 #[test]
 fn limits_are_kept(rt: HostRuntime) -> Result<(), Fail> {
-    let cases = [("100000", Status::Ok, 1_577_785), ("100001", Status::Refused, UNREAD.len())];
+    let cases = [
+        ("100000", Status::Ok, 1_577_785),
+        ("100001", Status::Refused, UNREAD.len()),
+    ];
     for (until, status, size) in cases {
-        let text = format!(in rt.alloc(); "dbp 1\npolicy fp\nuntil {until}\ntask k every 1 from 0 prio 1 cost 1\nout y = 0 then 1\ndone\n")?;
+        let text = format!(in rt.alloc();
+            "dbp 1\npolicy fp\nuntil {until}\ntask k every 1 from 0 prio 1 cost 1\nout y = 0 then 1\ndone\n"
+        )?;
         let answer = call(rt.alloc(), &["mean"], text.as_bytes(), (4096, 0), (4096, 0))?;
         assert_eq!(rt; answer.0, status, "until {until}");
         assert_eq!(rt; answer.1.len(), size, "until {until}");

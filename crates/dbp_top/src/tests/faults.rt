@@ -34,18 +34,33 @@ fn a_reader_and_a_writer_are_adapted(rt: HostRuntime) -> Result<(), Fail> {
     let status = dbp_main(alloc, &words, &mut source, &mut sink);
     drop(sink);
     assert_eq!(rt; status, Status::Refused);
-    assert_eq!(rt; written.as_slice(), b"refused: line 1: 30 Unread\n".as_slice());
+    assert_eq!(rt;
+        written.as_slice(),
+        b"refused: line 1: 30 Unread\n".as_slice()
+    );
     Ok(())
 }
 
 #[test]
 fn notes_tell_the_statuses_apart(rt: HostRuntime) {
     let cases = [
-        (Status::Usage, "usage: dbp COMMAND < DOCUMENT, where COMMAND is one of: mean"),
-        (Status::ReadFault, "a read of the input failed; nothing was written"),
-        (Status::WriteFault, "a write of the output failed; a part of it was written"),
+        (
+            Status::Usage,
+            "usage: dbp COMMAND < DOCUMENT, where COMMAND is one of: mean",
+        ),
+        (
+            Status::ReadFault,
+            "a read of the input failed; nothing was written",
+        ),
+        (
+            Status::WriteFault,
+            "a write of the output failed; a part of it was written",
+        ),
         (Status::NoMemory, "memory ran out; nothing was written"),
-        (Status::TooLarge, "the document has more than 1048576 bytes; nothing was written"),
+        (
+            Status::TooLarge,
+            "the document has more than 1048576 bytes; nothing was written",
+        ),
     ];
     for (status, text) in cases {
         assert_eq!(rt; note(status), text);
