@@ -1,5 +1,7 @@
 pub mod FirstFaults
+pub mod Numbers
 pub mod OccurrenceLemmas
 pub mod Places
 pub mod RankLaws
+pub mod TableRows
 pub mod TreeNodes

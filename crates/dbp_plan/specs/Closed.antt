@@ -43,6 +43,7 @@ pub record IsClosedTask (inputs events links : ℕ) (t : Task) : Type 0 where
   pub linked : All (λ r. r.link < links) t.reads
   pub pointers : All (λ r. r.at < t.cost) t.reads
 
+-- the diagram is closed: its numbers and counts are within the limits, and what it names is there
 pub record IsClosed (d : Diagram) : Type 0 where
   pub until : d.until ≤ MAX_TIME
   pub inputs : length d.inputs ≤ MAX_INPUTS

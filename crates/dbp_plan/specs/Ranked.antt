@@ -5,6 +5,7 @@ use Rattle.dbp_plan.specs.declared.diagram.Policy.TheVariants.{Fp, Edf}
 use Rattle.dbp_plan.specs.Closed.{IsClosed}
 use Rattle.dbp_plan.specs.Ranks.{ranks_of}
 
+-- the diagram is closed, and its tasks have the ranks that its policy gives them
 pub record IsRanked (d : Diagram) : Type 0 where
   pub closed : IsClosed d
   pub prios : d.policy ≡ Fp → All (λ t. IsSome t.prio) d.tasks

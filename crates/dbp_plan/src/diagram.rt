@@ -4,15 +4,24 @@ use crate::{Expr, List, Name};
 #[derive(Clone, Copy, Debug, PartialEq, Eq)]
 pub enum Clock {
     /// At `offset`, `offset + period` and so on, in ticks, below the diagram's `until`.
-    Every { period: u64, offset: u64 },
+    Every {
+        /// In ticks, at least 1.
+        period: u64,
+        /// In ticks from 0.
+        offset: u64,
+    },
     /// At the event's occurrences.
-    On { event: u32 },
+    On {
+        /// The number of the event.
+        event: u32,
+    },
 }
 
 /// A state of a task, with its value before the first instance.
 #[derive(Clone, Copy, PartialEq, Eq)]
 pub struct State {
     pub name: Name,
+    /// The value before the first instance.
     pub first: i64,
 }
 
@@ -20,6 +29,7 @@ pub struct State {
 #[derive(Clone, Copy, PartialEq, Eq)]
 pub struct Sense {
     pub name: Name,
+    /// The number of the input.
     pub input: u32,
 }
 
@@ -27,6 +37,7 @@ pub struct Sense {
 #[derive(Clone, Copy, PartialEq, Eq)]
 pub struct Read {
     pub name: Name,
+    /// The number of the link.
     pub link: u32,
     /// The writer's out.
     pub port: u32,
@@ -44,6 +55,7 @@ pub struct Let {
 /// The value that a state takes at the end of an instance. A state without one keeps its value.
 #[derive(Drop)]
 pub struct Next {
+    /// The number of the state among the task's.
     pub state: u32,
     pub expr: Expr<u32>,
 }
@@ -52,6 +64,7 @@ pub struct Next {
 #[derive(Drop)]
 pub struct Out {
     pub name: Name,
+    /// The value before the first instance.
     pub first: i64,
     pub expr: Expr<u32>,
 }
@@ -81,7 +94,9 @@ pub struct Task {
 /// A link from a writer's outs to a reader. Reads of one task over the same writer and delay share a link.
 #[derive(Clone, Copy, Debug, PartialEq, Eq)]
 pub struct Link {
+    /// The number of the task whose outs are read.
     pub writer: u32,
+    /// The number of the task that reads.
     pub reader: u32,
     /// By how many occurrences of the writer the reader lags; 0 is a direct link.
     pub delay: u32,
@@ -91,6 +106,7 @@ pub struct Link {
 #[derive(Clone, Copy, PartialEq, Eq)]
 pub struct Input {
     pub name: Name,
+    /// The value before the first sample.
     pub first: i64,
 }
 
@@ -108,7 +124,7 @@ pub enum Policy {
 #[derive(Drop)]
 pub struct Diagram {
     pub policy: Policy,
-    /// Tasks occur before this tick.
+    /// Tasks occur before this time, in ticks.
     pub until: u64,
     pub inputs: List<Input>,
     pub events: List<Name>,

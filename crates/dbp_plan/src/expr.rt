@@ -11,9 +11,11 @@ use std::alloc::Global;
 /// nodes first. The last node is the root. Its type keeps this, and that there are at most `MAX_NODES`.
 #[derive(Drop)]
 pub struct Expr<V> {
+    /// In post-order.
     pub nodes: List<Node<V>>,
     /// The tree whose nodes these are.
     pub ghost tree: { HasTree nodes } by { HasTree-prop nodes-code nodes },
+    /// There are at most so many.
     pub ghost few: { length nodes ≤ MAX_NODES },
 }
 

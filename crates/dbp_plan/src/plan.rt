@@ -13,6 +13,7 @@ pub struct Plan {
     pub samples: List<Sample>,
     /// By time.
     pub batches: List<Batch>,
+    /// The rules of a plan.
     pub ghost rules: { IsPlan diagram samples batches } by { Prim.hlevel props },
 }
 

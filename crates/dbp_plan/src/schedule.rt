@@ -5,13 +5,16 @@ use crate::List;
 pub struct Batch {
     /// In ticks from 0.
     pub time: u64,
+    /// Their numbers, which rise.
     pub tasks: List<u32>,
 }
 
 /// A value that an input takes at a time.
 #[derive(Clone, Copy, Debug, PartialEq, Eq)]
 pub struct Sample {
+    /// In ticks from 0.
     pub time: u64,
+    /// The number of the input.
     pub input: u32,
     pub value: i64,
 }

@@ -9,12 +9,14 @@ use crate::List;
 pub struct TaskRows {
     /// Outs of the task.
     pub ports: u32,
+    /// The words of all rows, one row after another.
     pub words: List<i64>,
 }
 
 /// The rows of all tasks, by task.
 #[derive(Drop)]
 pub struct Table {
+    /// By the number of the task.
     pub tasks: List<TaskRows>,
 }
 

@@ -1,12 +1,10 @@
 -- What makes a diagram without inputs, events and delays closed.
-use Rattle.std.proofs.Common.{◌≡◌, ◌≢◌, ◌==◌, ◌<◌, ◌≤◌, ℕ, All, AllPairs, IsTrue, List, [], Some, length, slice_get, sum_by, get_or, sym, ◌∙◌, ap, subst, arith, refl}
+use Rattle.std.proofs.Common.{◌≡◌, ◌≢◌, ◌==◌, ◌<◌, ◌≤◌, ℕ, All, AllPairs, IsTrue, [], Some, length, slice_get, sum_by, sym, ◌∙◌, ap, subst, arith}
 use Rattle.std.specs.List.{list_any}
 use Rattle.dbp_plan.specs.declared.diagram.Diagram.{Diagram}
 use Rattle.dbp_plan.specs.declared.diagram.Link.{Link}
-use Rattle.dbp_plan.specs.declared.diagram.Read.{Read}
 use Rattle.dbp_plan.specs.declared.diagram.Task.{Task}
 use Rattle.dbp_plan.specs.Closed.{IsClosed, IsClosedTask}
-use Rattle.dbp_plan.specs.Limits.{max_delay}
 use Rattle.dbp_plan.proofs.Places.{all_place}
 use Rattle.dbp_top.specs.Closing.{ReadFits}
 

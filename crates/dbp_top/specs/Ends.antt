@@ -1,5 +1,5 @@
 -- How a call of the program ends.
-use Rattle.std.specs.Prelude.{◌≡◌, ℕ, ◌+◌, ◌<◌, ◌≤◌, Option, IfSome, List, [], ◌∷◌, length, map, codes, string_bytes}
+use Rattle.std.specs.Prelude.{◌≡◌, ℕ, ◌+◌, ◌≤◌, Option, IfSome, List, [], ◌∷◌, length, map, codes, string_bytes}
 use Rattle.std.specs.Io.KnownBytes.{Appends, IsAtEnd}
 use Rattle.std.specs.declared.alloc.Global.{Global}
 use Rattle.std.specs.declared.string.String.{String}
@@ -10,6 +10,7 @@ use Rattle.dbp_top.specs.declared.status.Status.{Status}
 use Rattle.dbp_top.specs.declared.status.Status.TheVariants.{Ok, Refused, Usage, ReadFault, WriteFault, NoMemory, TooLarge}
 use Rattle.dbp_top.specs.declared.top.TheConstants.{MAX_DOCUMENT}
 
+-- the words are the command `mean`
 abbrev pub IsMean : List (String Global) → Type 0
 IsMean words = map (λ w. string_bytes w) words ≡ codes "mean" ∷ []
 
@@ -17,6 +18,7 @@ module _ {S K : Type 0} (left : S → Option (List ℕ)) (source_faults : S → 
   -- the source was read to its end, which is within the limit, and no read failed
   pub record ReadWhole (source new_source : S) : Type 0 where
     pub end : IsAtEnd (left new_source)
+    pub taken : LosesFront (left source) (left new_source) (λ n. n ≤ MAX_DOCUMENT)
     pub fits : IfSome (left source) (λ input. length input ≤ MAX_DOCUMENT)
     pub no_fault : source_faults new_source ≡ source_faults source
 

@@ -1,1 +1,6 @@
+pub mod Cycles
+pub mod FrontOrders
+pub mod LetUses
+pub mod Listed
+pub mod Searches
 pub mod Values

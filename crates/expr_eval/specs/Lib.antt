@@ -1,1 +1,3 @@
+pub mod LetOrders
+pub mod LetSearch
 pub mod Values

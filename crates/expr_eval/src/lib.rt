@@ -1,4 +1,4 @@
-//! The values of expressions.
+//! The values of expressions, and the order in which lets are evaluated.
 #![tactic(auto)]
 
 ghost use Rattle.std.specs.Prelude.{◌≡◌, ◌<◌, ◌≤◌, length};
@@ -6,10 +6,14 @@ ghost use Rattle.dbp_plan.specs.LetOrder.{VariablesBelow};
 ghost use Rattle.dbp_plan.specs.Operands.{OperandsBelow};
 ghost use Rattle.expr_eval.specs.Values.{value_of, value_of_node, VariableBelow};
 
+mod cycle;
 mod operator;
+mod order;
+mod variable;
 
 use dbp_plan::{Expr, MAX_NODES, Node};
 use operator::{binary, choice, unary};
+pub use order::{LetFail, no_order_of_a_cycle, one_front_order, order_lets};
 
 // Most expressions have so few nodes, and to clear room for `MAX_NODES` would take longer than to evaluate them.
 const FEW_NODES: u32 = 8;

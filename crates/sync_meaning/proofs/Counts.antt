@@ -15,8 +15,9 @@ use Rattle.dbp_plan.specs.declared.limits.TheConstants.{MAX_OCCURRENCES}
 use Rattle.dbp_plan.specs.declared.schedule.Batch.{Batch}
 use Rattle.dbp_plan.specs.Occurrences.{names, times_of, occurrence_count}
 use Rattle.dbp_plan.proofs.Places.{at_place}
-use Rattle.sync_meaning.specs.Shape.{IsMarked}
-use Rattle.sync_meaning.proofs.Sets.{set_here, set_other, zero_of}
+use Rattle.sync_meaning.specs.Shape.{AreCounted, IsMarked}
+use Rattle.sync_meaning.specs.Places.{set_here, set_other}
+use Rattle.sync_meaning.proofs.Sets.{zero_of}
 
 -- one for a test that passes
 abbrev pub one_if : Bool → ℕ
@@ -102,10 +103,6 @@ marked_few b before after few marked i d inside =
     let one : one_if (names i b) ≤ 1 = one_if_le (names i b) in
     let less : get_or before i 0 < MAX_OCCURRENCES = few i 0 (slice_get_within before i old.0 old.1) in
     omega (arith, value, one, less, get_or_from_slice_get before i old.0 0 old.1)
-
--- the counts are those of these batches
-pub record AreCounted (batches : List Batch) (named : List ℕ) : Type 0 where
-  pub each : (i n : ℕ) → slice_get named i ≡ Some n → n ≡ length (times_of batches i)
 
 pub counted_none : (count : ℕ) (named : List ℕ) → named ≡ replicate count 0 → AreCounted [] named
 counted_none count named zeros = record { each = λ i n at. zero_of count i n named zeros at }

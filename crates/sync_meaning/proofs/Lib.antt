@@ -1,7 +1,9 @@
 pub mod Counts
 pub mod Envs
-pub mod Lets
-pub mod Nexts
+pub mod ExactInputs
+pub mod ExactRuns
+pub mod Growing
+pub mod OneMeaning
 pub mod Ranks
 pub mod Runs
 pub mod Sets

@@ -19,7 +19,8 @@ use Rattle.sync_meaning.specs.Ranking.{IsByRank}
 use Rattle.sync_meaning.specs.Run.{IsRun}
 use Rattle.sync_meaning.specs.Shape.{HasEnvs, IsEnvOf, IsMarked, IsReadable, first_rows}
 use Rattle.sync_meaning.proofs.Ranks.{ranking, length-ranks}
-use Rattle.sync_meaning.proofs.Tables.{all_at, envs_step, readable, row_fits, rows_none, rows_step}
+use Rattle.sync_meaning.specs.Places.{all_at}
+use Rattle.sync_meaning.proofs.Tables.{envs_step, readable, row_fits, rows_none, rows_step}
 use Rattle.sync_meaning.proofs.Sets.{item_at, refill_all}
 use Rattle.sync_meaning.proofs.Steps.{done_marked, done_none, done_skip, done_step}
 
@@ -56,10 +57,10 @@ inside_ranks d i t run next = omega (arith, slice_get_within d.tasks i t next.ta
 rank_of : (d : Diagram) (i : ℕ) (t : Task) (run : Run) → IsNext d i t run → slice_get d.ranks i ≡ Some (get_or d.ranks i 0)
 rank_of d i t run next = slice_get-get_or d.ranks i 0 (inside_ranks d i t run next)
 
-done_of : (d : Diagram) (i : ℕ) (t : Task) (run : Run) → IsNext d i t run → slice_get run.done.items i ≡ Some (get_or run.done.items i 0)
+pub done_of : (d : Diagram) (i : ℕ) (t : Task) (run : Run) → IsNext d i t run → slice_get run.done.items i ≡ Some (get_or run.done.items i 0)
 done_of d i t run next = slice_get-get_or run.done.items i 0 (omega (arith, inside_ranks d i t run next, next.reached.steps.counts))
 
-named_of : (d : Diagram) (i : ℕ) (t : Task) (run : Run) → IsNext d i t run → slice_get run.named.items i ≡ Some (get_or run.named.items i 0)
+pub named_of : (d : Diagram) (i : ℕ) (t : Task) (run : Run) → IsNext d i t run → slice_get run.named.items i ≡ Some (get_or run.named.items i 0)
 named_of d i t run next = slice_get-get_or run.named.items i 0 (omega (arith, inside_ranks d i t run next, next.reached.steps.size))
 
 closed_task : (d : Diagram) (i : ℕ) (t : Task) → IsRanked d → slice_get d.tasks i ≡ Some t → IsClosedTask (length d.inputs) (length d.events) (length d.links) t

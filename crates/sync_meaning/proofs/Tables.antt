@@ -1,7 +1,8 @@
 -- Environments and rows of the tasks.
 use Rattle.std.proofs.Common.{◌≡◌, ◌≢◌, ℕ, ℤ, zero, suc, ◌<◌, ◌≤◌, ◌+◌, ◌-◌, ◌*◌, ◌^◌, List, [], ◌∷◌, ◌++◌, length, map, take, get_or, slice_get, set, option_map, Some, refl, sym, ◌∙◌, ap, subst, arith, ◌⊎◌, inl, inr, length-append, length-take, length-drop, drop}
-use Rattle.std.specs.Prelude.{All, slice_index, pos, replicate}
+use Rattle.std.specs.Prelude.{slice_index, pos, replicate}
 use Rattle.std.proofs.Math.Nat.{mul-le-mul_left, mul-le-mul_right}
+use Rattle.std.proofs.Math.Seq.{take-append_seam}
 use Rattle.std.proofs.lemmas.Bool.{cases_eq}
 use Rattle.std.proofs.lemmas.List.{length-set, length-map, length-replicate}
 use Rattle.std.proofs.lemmas.Option.{get_or_from_slice_get, slice_get-map, slice_get_within, same_Some}
@@ -19,14 +20,12 @@ use Rattle.dbp_plan.specs.Ranked.{IsRanked}
 use Rattle.dbp_plan.specs.Table.{HasRowsOf, HasAllRows, IsRow, row_at}
 use Rattle.dbp_plan.proofs.Places.{at_place, front_place, last_place}
 use Rattle.sync_meaning.specs.declared.env.Env.{Env}
+use Rattle.sync_meaning.specs.Places.{all_at}
 use Rattle.sync_meaning.specs.Ranking.{IsRanking}
 use Rattle.sync_meaning.specs.Run.{HasRowsUpTo, IsDoneAbove}
-use Rattle.sync_meaning.specs.Shape.{IsEnvOf, HasEnvs, IsReadable, first_rows}
-use Rattle.sync_meaning.proofs.Counts.{AreCounted, take_push}
+use Rattle.sync_meaning.specs.Shape.{AreCounted, HasEnvs, HasFirstStates, IsEnvOf, IsReadable, first_rows}
+use Rattle.sync_meaning.proofs.Counts.{take_push}
 use Rattle.sync_meaning.proofs.Sets.{set_cases, zero_of}
-
-pub all_at : {X : Type 0} (P : X → Type 0) (xs : List X) (i : ℕ) (x : X) → All P xs → slice_get xs i ≡ Some x → P x
-all_at P xs i x all at = subst P (get_or_from_slice_get xs i x x at) (all i x (slice_get_within xs i x at))
 
 pub envs_step : (i : ℕ) (t : Task) (e : Env) (tasks : List Task) (envs : List Env) → HasEnvs tasks envs → slice_get tasks i ≡ Some t → IsEnvOf t e → HasEnvs tasks (set envs i e)
 envs_step i t e tasks envs has at is = record {
@@ -39,10 +38,10 @@ envs_step i t e tasks envs has at is = record {
   ];
 }
 
-set_value : (xs : List ℕ) (i j y z : ℕ) → j ≡ i → slice_get (set xs i y) j ≡ Some z → z ≡ y
+pub set_value : (xs : List ℕ) (i j y z : ℕ) → j ≡ i → slice_get (set xs i y) j ≡ Some z → z ≡ y
 set_value xs i j y z same at = elim (set_cases xs i j y z at) [ inl here ↦ sym here.1 | inr there ↦ absurd (there.0 same) ]
 
-set_old : (xs : List ℕ) (i j y z : ℕ) → j ≢ i → slice_get (set xs i y) j ≡ Some z → slice_get xs j ≡ Some z
+pub set_old : (xs : List ℕ) (i j y z : ℕ) → j ≢ i → slice_get (set xs i y) j ≡ Some z → slice_get xs j ≡ Some z
 set_old xs i j y z apart at = elim (set_cases xs i j y z at) [ inl here ↦ absurd (apart here.0) | inr there ↦ there.1 ]
 
 -- one instance more, with its row
@@ -191,6 +190,19 @@ envs_more k t e tasks envs at is has = rw (take_push tasks k t at) (record {
   ];
 })
 
+-- their states are the first ones
+pub firsts_more : (k : ℕ) (t : Task) (e : Env) (tasks : List Task) (envs : List Env) → slice_get tasks k ≡ Some t → take (length t.states) e.now ≡ map (λ s. s.first) t.states → length envs ≡ length (take k tasks)
+    → HasFirstStates (take k tasks) envs → HasFirstStates (take (k + 1) tasks) (envs ++ e ∷ [])
+firsts_more k t e tasks envs at is size has i u f at_u at_f = elim (push_cases (take k tasks) t i u (ap (λ (l : List Task). slice_get l i) (sym (take_push tasks k t at)) ∙ at_u)) [
+  | inl there ↦
+      let inside : i < length envs = omega (arith, slice_get_within (take k tasks) i u there, size) in
+      has i u f there (sym (front_place envs (e ∷ []) i inside) ∙ at_f)
+  | inr here ↦
+      let place : i ≡ length envs = here.0 ∙ sym size in
+      let env : e ≡ f = same_Some _ _ (sym (last_place envs e i place) ∙ at_f) in
+      subst (λ (v : Task). take (length v.states) f.now ≡ map (λ s. s.first) v.states) here.1 (subst (λ (g : Env). take (length t.states) g.now ≡ map (λ s. s.first) t.states) env is)
+]
+
 -- a task's first environment
 pub env_fits : (t : Task) (e : Env) → e.now ≡ map (λ s. s.first) t.states ++ replicate (place_count t - length t.states) (pos 0) → e.later ≡ map (λ s. s.first) t.states → IsEnvOf t e
 env_fits t e now later =
@@ -199,3 +211,9 @@ env_fits t e now later =
       now = ap length now ∙ length-append (map (λ s. s.first) t.states) (replicate (place_count t - length t.states) (pos 0)) ∙ omega (arith, firsts, length-replicate (place_count t - length t.states) (pos 0));
       later = ap length later ∙ firsts;
     }
+
+pub env_first : (t : Task) (e : Env) → e.now ≡ map (λ s. s.first) t.states ++ replicate (place_count t - length t.states) (pos 0) → take (length t.states) e.now ≡ map (λ s. s.first) t.states
+env_first t e now =
+    let firsts : length t.states ≡ length (map (λ s. s.first) t.states) = sym (length-map t.states (λ s. s.first)) in
+    ap (take (length t.states)) now ∙ ap (λ (n : ℕ). take n (map (λ s. s.first) t.states ++ replicate (place_count t - length t.states) (pos 0))) firsts
+    ∙ take-append_seam (map (λ s. s.first) t.states) (replicate (place_count t - length t.states) (pos 0))

@@ -1,4 +1,16 @@
+pub mod Lets
 pub mod Meaning
+pub mod Nexts
+pub mod Numbers
+pub mod Places
 pub mod Ranking
+pub mod Rankings
 pub mod Run
 pub mod Shape
+pub mod SomeMeaning
+pub mod SomeMeaningEnvs
+pub mod SomeMeaningRows
+pub mod SomeMeaningStreams
+pub mod SomeMeaningTables
+pub mod Streams
+pub mod Taken

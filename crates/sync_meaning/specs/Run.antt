@@ -1,10 +1,16 @@
 -- What a run keeps.
-use Rattle.std.specs.Prelude.{◌≡◌, ℕ, ◌+◌, ◌<◌, ◌≤◌, List, length, slice_get, Some}
+use Rattle.std.specs.Prelude.{◌≡◌, ℕ, ◌+◌, ◌<◌, ◌≤◌, List, length, slice_get, take, Some}
 use Rattle.dbp_plan.specs.declared.diagram.Diagram.{Diagram}
 use Rattle.dbp_plan.specs.declared.diagram.Task.{Task}
+use Rattle.dbp_plan.specs.declared.schedule.Batch.{Batch}
+use Rattle.dbp_plan.specs.declared.schedule.Sample.{Sample}
 use Rattle.dbp_plan.specs.declared.table.TaskRows.{TaskRows}
+use Rattle.dbp_plan.specs.Occurrences.{count_until, times_of}
 use Rattle.dbp_plan.specs.Table.{HasRowsOf}
 use Rattle.sync_meaning.specs.Shape.{HasEnvs}
+use Rattle.sync_meaning.specs.Streams.{IsStreamTo}
+use Rattle.sync_meaning.specs.Taken.{AreValuesAt}
+use Rattle.sync_meaning.specs.declared.env.Env.{Env}
 use Rattle.sync_meaning.specs.declared.run.Run.{Run}
 
 -- each task has its rows up to the instances that are computed
@@ -26,3 +32,14 @@ pub record IsRun (d : Diagram) (rank : ℕ) (run : Run) : Type 0 where
   pub envs : HasEnvs d.tasks run.envs.items
   pub rows : HasRowsUpTo d.tasks run.done.items run.table.tasks
   pub steps : IsDoneAbove rank d.ranks run.named.items run.done.items
+
+-- each task's equations hold for the instances that are computed, and its states are those behind them
+pub record HasStreams (d : Diagram) (samples : List Sample) (batches : List Batch) (run : Run) : Type 0 where
+  pub each : (i m : ℕ) (t : Task) (e : Env) → slice_get d.tasks i ≡ Some t → slice_get run.done.items i ≡ Some m → slice_get run.envs.items i ≡ Some e → IsStreamTo d samples batches run.table i t m (take (length t.states) e.now)
+
+-- the inputs and the occurrences are those of a time, and the instances that are named and not yet computed occur then
+pub record IsAtTime (d : Diagram) (samples : List Sample) (batches : List Batch) (run : Run) : Type 0 where
+  pub time : ℕ
+  pub inputs : AreValuesAt d.inputs samples time run.inputs.values.items
+  pub counts : (i n : ℕ) → slice_get run.named.items i ≡ Some n → n ≡ count_until (times_of batches i) time
+  pub due : (i m n : ℕ) → slice_get run.done.items i ≡ Some m → slice_get run.named.items i ≡ Some n → m < n → slice_get (times_of batches i) m ≡ Some time

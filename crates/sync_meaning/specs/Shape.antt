@@ -1,5 +1,5 @@
 -- Sizes of environments, rows and counts.
-use Rattle.std.specs.Prelude.{◌≡◌, ℕ, ℤ, ◌+◌, ◌<◌, ◌≤◌, ◌⊎◌, if◌then◌else◌, List, length, map, slice_get, Some}
+use Rattle.std.specs.Prelude.{◌≡◌, ℕ, ℤ, ◌+◌, ◌<◌, ◌≤◌, ◌⊎◌, if◌then◌else◌, List, length, map, slice_get, take, Some}
 use Rattle.dbp_plan.specs.declared.diagram.Task.{Task}
 use Rattle.dbp_plan.specs.declared.diagram.Link.{Link}
 use Rattle.dbp_plan.specs.declared.diagram.Read.{Read}
@@ -7,7 +7,7 @@ use Rattle.dbp_plan.specs.declared.schedule.Batch.{Batch}
 use Rattle.dbp_plan.specs.declared.table.Table.{Table}
 use Rattle.dbp_plan.specs.declared.table.TaskRows.{TaskRows}
 use Rattle.dbp_plan.specs.Closed.{IsClosedTask, place_count}
-use Rattle.dbp_plan.specs.Occurrences.{names}
+use Rattle.dbp_plan.specs.Occurrences.{names, times_of}
 use Rattle.sync_meaning.specs.declared.env.Env.{Env}
 use Rattle.sync_meaning.specs.Meaning.{IsRead}
 
@@ -23,6 +23,10 @@ pub record IsEnvOf (task : Task) (env : Env) : Type 0 where
 pub record HasEnvs (tasks : List Task) (envs : List Env) : Type 0 where
   pub size : length envs ≡ length tasks
   pub each : (i : ℕ) (t : Task) (e : Env) → slice_get tasks i ≡ Some t → slice_get envs i ≡ Some e → IsEnvOf t e
+
+-- in each task's environment the states have their first values
+abbrev pub HasFirstStates : List Task → List Env → Type 0
+HasFirstStates tasks envs = (i : ℕ) (t : Task) (e : Env) → slice_get tasks i ≡ Some t → slice_get envs i ≡ Some e → take (length t.states) e.now ≡ map (λ s. s.first) t.states
 
 -- the places from the base on hold a word for each item that fits it, and all other words stayed
 pub record AreWritten {X : Type 0} (base : ℕ) (items : List X) (fits : X → ℤ → Type 0) (before after : List ℤ) : Type 0 where
@@ -42,3 +46,13 @@ IsReadable links occurred table read = (word : ℤ) × IsRead links occurred tab
 pub record IsMarked (batch : Batch) (before after : List ℕ) : Type 0 where
   pub size : length after ≡ length before
   pub each : (i n : ℕ) → slice_get before i ≡ Some n → slice_get after i ≡ Some (n + (if names i batch then 1 else 0))
+
+-- the counts are those of these batches
+pub record AreCounted (batches : List Batch) (named : List ℕ) : Type 0 where
+  pub each : (i n : ℕ) → slice_get named i ≡ Some n → n ≡ length (times_of batches i)
+
+-- the batch is the next one behind those that are counted
+pub record IsNextBatch (batches : List Batch) (batch : Batch) (named : List ℕ) : Type 0 where
+  pub place : ℕ
+  pub is : slice_get batches place ≡ Some batch
+  pub counted : AreCounted (take place batches) named

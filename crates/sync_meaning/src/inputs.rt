@@ -1,6 +1,7 @@
-ghost use Rattle.std.specs.Prelude.{◌≡◌, ◌<◌, ◌≤◌, ◌^◌, All, length, map, IfOk};
+ghost use Rattle.std.specs.Prelude.{◌≡◌, map, IfOk};
+ghost use Rattle.sync_meaning.specs.Taken.{AreTaken, AreValuesAt};
 
-use dbp_plan::{Input, NoMemory, Sample};
+use dbp_plan::{Input, NoMemory, Plan};
 use std::alloc::Global;
 
 // The values of the inputs at a time.
@@ -21,11 +22,13 @@ impl Inputs {
         Ok(Inputs { values, taken: 0 })
     }
 
-    // Takes the further samples at or before the time. The samples stand by time.
-    pub(crate) fn take_until(&mut self, samples: &[Sample], time: u64)
-        requires { All (λ s. s.input < length self.old.values.items) samples.now }
-        ensures { length self.new.values.items ≡ length self.old.values.items }
+    // Takes the further samples at or before the time. Those that are taken already are so too.
+    pub(crate) fn take_until(&mut self, plan: &Plan, time: u64)
+        requires { AreTaken plan.now.diagram.inputs plan.now.samples time self.old.taken self.old.values.items }
+        ensures taken { AreTaken plan.now.diagram.inputs plan.now.samples time self.new.taken self.new.values.items }
+        ensures values { AreValuesAt plan.now.diagram.inputs plan.now.samples time self.new.values.items }
     {
+        let samples = plan.samples.items();
         while self.taken < samples.len() && samples[self.taken].time <= time {
             let sample = samples[self.taken];
             self.values[sample.input as usize] = sample.value;

@@ -4,6 +4,7 @@
 mod env;
 mod inputs;
 mod instance;
+mod laws;
 mod ranking;
 mod reading;
 mod rows;
@@ -11,4 +12,5 @@ mod run;
 
 pub use env::{Env, env_of};
 pub use instance::work;
+pub use laws::{one_meaning, some_meaning};
 pub use run::mean;

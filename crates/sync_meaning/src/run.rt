@@ -1,25 +1,29 @@
-ghost use Rattle.std.specs.Prelude.{◌≡◌, ◌<◌, ◌≤◌, ◌+◌, ◌^◌, ◌↔◌, IsTrue, All, length, replicate, slice_index, IfOk, OnOk};
+ghost use Rattle.std.specs.Prelude.{◌≡◌, ◌<◌, ◌≤◌, ◌+◌, ◌↔◌, IsTrue, All, length, replicate, slice_index, IfOk, OnOk};
 ghost use Rattle.std.specs.List.Sorted.{IsStrictlyIncreasing};
-ghost use Rattle.dbp_plan.specs.declared.limits.TheConstants.{MAX_OCCURRENCES, MAX_OUTS, MAX_BODY};
+ghost use Rattle.dbp_plan.specs.declared.limits.TheConstants.{MAX_OCCURRENCES, MAX_BODY};
 ghost use Rattle.dbp_plan.specs.Closed.{place_count};
-ghost use Rattle.dbp_plan.specs.Table.{HasAllRows};
+ghost use Rattle.sync_meaning.specs.Meaning.{IsMeaning};
 ghost use Rattle.sync_meaning.specs.Ranking.{IsByRank};
-ghost use Rattle.sync_meaning.specs.Shape.{HasEnvs, IsMarked};
+ghost use Rattle.sync_meaning.specs.SomeMeaning.{meaning_of};
+ghost use Rattle.sync_meaning.specs.Shape.{HasEnvs, HasFirstStates, IsMarked, IsNextBatch};
+ghost use Rattle.sync_meaning.specs.Taken.{AreTaken};
 
 use crate::inputs::Inputs;
 use crate::ranking::tasks_by_rank;
 use crate::reading::{set_reads, set_senses};
 use crate::rows::{first_table, push_row};
 use crate::{Env, env_of, work};
-use dbp_plan::{Batch, Diagram, NoMemory, Plan, Row, Table, Task};
+use dbp_plan::{Batch, NoMemory, Plan, Row, Table, Task};
 use std::alloc::Global;
 
-/// The zero-time meaning of the plan: of each task the row of its first values, and then a row for each instance.
+/// The zero-time meaning of the plan: of each task the row of its first values, and then a row for each instance. It
+/// is the one table that meets the equations of `IsMeaning`.
 pub fn mean(alloc: Global, plan: &Plan) -> Result<Table, NoMemory>
-    ensures { IfOk result (λ table. HasAllRows plan.now.diagram.tasks plan.now.batches table) }
+    ensures meaning { IfOk result (λ table. IsMeaning plan.now.diagram plan.now.samples plan.now.batches table) }
+    ensures table { IfOk result (λ table. table ≡ meaning_of plan.now) }
 {
     let by_rank = tasks_by_rank(alloc, plan.diagram.ranks.items())?;
-    let mut run = Run::new(alloc, &plan.diagram)?;
+    let mut run = Run::new(alloc, plan)?;
     for batch in plan.batches.items() {
         run.take_batch(plan, &by_rank, batch)?;
     }
@@ -41,20 +45,18 @@ struct Run {
 }
 
 impl Run {
-    ghost use Rattle.sync_meaning.specs.Run.{IsRun};
+    ghost use Rattle.sync_meaning.specs.Run.{HasStreams, IsAtTime, IsRun};
 
     // The run before the first batch.
-    fn new(alloc: Global, diagram: &Diagram) -> Result<Run, NoMemory>
-        requires few { length diagram.now.tasks < 2 ^ 32 }
-        requires ranks { length diagram.now.ranks ≡ length diagram.now.tasks }
-        requires places { All (λ t. place_count t ≤ MAX_BODY) diagram.now.tasks }
-        requires outs { All (λ t. length t.outs ≤ MAX_OUTS) diagram.now.tasks }
-        ensures run { IfOk result (λ run. IsRun diagram.now (length diagram.now.tasks) run) }
-        ensures named { IfOk result (λ run. run.named.items ≡ replicate (length diagram.now.tasks) 0) }
+    fn new(alloc: Global, plan: &Plan) -> Result<Run, NoMemory>
+        ensures run { IfOk result (λ run. IsRun plan.now.diagram (length plan.now.diagram.tasks) run) }
+        ensures named { IfOk result (λ run. run.named.items ≡ replicate (length plan.now.diagram.tasks) 0) }
+        ensures taken { IfOk result (λ run. AreTaken plan.now.diagram.inputs plan.now.samples 0 run.inputs.taken run.inputs.values.items) }
+        ensures streams { IfOk result (λ run. HasStreams plan.now.diagram plan.now.samples plan.now.batches run) }
     {
-        let tasks = diagram.tasks.items();
+        let tasks = plan.diagram.tasks.items();
         Ok(Run {
-            inputs: Inputs::new(alloc, diagram.inputs.items())?,
+            inputs: Inputs::new(alloc, plan.diagram.inputs.items())?,
             envs: first_envs(alloc, tasks)?,
             named: zeros(alloc, tasks.len())?,
             done: zeros(alloc, tasks.len())?,
@@ -66,13 +68,15 @@ impl Run {
     fn take_batch(&mut self, plan: &Plan, by_rank: &[u32], batch: &Batch) -> Result<(), NoMemory>
         requires run { IsRun plan.now.diagram (length plan.now.diagram.tasks) self.old }
         requires by_rank { IsByRank plan.now.diagram.ranks by_rank.now }
-        requires tasks { All (λ i. i < length plan.now.diagram.tasks) batch.now.tasks }
-        requires order { IsStrictlyIncreasing batch.now.tasks }
-        requires few { All (λ n. n < MAX_OCCURRENCES) self.old.named.items }
+        requires next { IsNextBatch plan.now.batches batch.now self.old.named.items }
+        requires taken { AreTaken plan.now.diagram.inputs plan.now.samples batch.now.time self.old.inputs.taken self.old.inputs.values.items }
+        requires streams { HasStreams plan.now.diagram plan.now.samples plan.now.batches self.old }
         ensures run { OnOk result (IsRun plan.now.diagram (length plan.now.diagram.tasks) self.new) }
         ensures named { OnOk result (IsMarked batch.now self.old.named.items self.new.named.items) }
+        ensures taken { OnOk result (AreTaken plan.now.diagram.inputs plan.now.samples batch.now.time self.new.inputs.taken self.new.inputs.values.items) }
+        ensures streams { OnOk result (HasStreams plan.now.diagram plan.now.samples plan.now.batches self.new) }
     {
-        self.inputs.take_until(plan.samples.items(), batch.time);
+        self.inputs.take_until(plan, batch.time);
         mark(&mut self.named, batch);
         self.compute_due(plan, by_rank)
     }
@@ -82,8 +86,12 @@ impl Run {
         requires run { IsRun plan.now.diagram 0 self.old }
         requires by_rank { IsByRank plan.now.diagram.ranks by_rank.now }
         requires few { All (λ n. n ≤ MAX_OCCURRENCES) self.old.named.items }
+        requires time { IsAtTime plan.now.diagram plan.now.samples plan.now.batches self.old }
+        requires streams { HasStreams plan.now.diagram plan.now.samples plan.now.batches self.old }
         ensures run { OnOk result (IsRun plan.now.diagram (length plan.now.diagram.tasks) self.new) }
         ensures named { OnOk result (self.new.named.items ≡ self.old.named.items) }
+        ensures inputs { OnOk result (self.new.inputs ≡ self.old.inputs) }
+        ensures streams { OnOk result (HasStreams plan.now.diagram plan.now.samples plan.now.batches self.new) }
     {
         for task in by_rank {
             if self.is_due(*task) {
@@ -108,8 +116,13 @@ impl Run {
         requires run { IsRun plan.now.diagram (slice_index plan.now.diagram.ranks task) self.old }
         requires due { slice_index self.old.done.items task < slice_index self.old.named.items task }
         requires few { All (λ n. n ≤ MAX_OCCURRENCES) self.old.named.items }
+        requires time { IsAtTime plan.now.diagram plan.now.samples plan.now.batches self.old }
+        requires streams { HasStreams plan.now.diagram plan.now.samples plan.now.batches self.old }
         ensures run { OnOk result (IsRun plan.now.diagram (slice_index plan.now.diagram.ranks task + 1) self.new) }
         ensures named { OnOk result (self.new.named.items ≡ self.old.named.items) }
+        ensures inputs { OnOk result (self.new.inputs ≡ self.old.inputs) }
+        ensures time { OnOk result (IsAtTime plan.now.diagram plan.now.samples plan.now.batches self.new) }
+        ensures streams { OnOk result (HasStreams plan.now.diagram plan.now.samples plan.now.batches self.new) }
     {
         let place = task as usize;
         let body = &plan.diagram.tasks.items()[place];
@@ -141,7 +154,8 @@ fn zeros(alloc: Global, count: usize) -> Result<Vec<u32>, NoMemory>
 // The environment of each task before its first instance.
 fn first_envs(alloc: Global, tasks: &[Task]) -> Result<Vec<Env>, NoMemory>
     requires { All (λ t. place_count t ≤ MAX_BODY) tasks.now }
-    ensures { IfOk result (λ envs. HasEnvs tasks.now envs.items) }
+    ensures envs { IfOk result (λ envs. HasEnvs tasks.now envs.items) }
+    ensures states { IfOk result (λ envs. HasFirstStates tasks.now envs.items) }
 {
     let mut envs = Vec::with_capacity(alloc, tasks.len())?;
     for task in tasks {

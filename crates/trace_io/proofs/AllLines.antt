@@ -1,42 +1,31 @@
 -- Batch by batch, all lines are printed.
-use Rattle.std.proofs.Common.{◌≡◌, ℕ, zero, suc, ◌+◌, ◌*◌, ◌<◌, ◌≤◌, ◌++◌, ◌∷◌, [], true, All, List, length, take, get_or, arith, rules, refl, sym, ap, subst, ◌∙◌, inl, inr}
+use Rattle.std.proofs.Common.{◌≡◌, ℕ, zero, suc, ◌+◌, ◌<◌, ◌≤◌, ◌++◌, ◌∷◌, [], true, All, List, length, take, get_or, arith, rules, refl, sym, ap, subst, ◌∙◌, inl, inr}
 use Rattle.std.specs.Prelude.{◌==◌}
 use Rattle.std.specs.List.{flat_map, list_any}
 use Rattle.std.specs.List.Sorted.{IsStrictlyIncreasing}
 use Rattle.std.proofs.lemmas.Bool.{cases_Bool}
 use Rattle.std.proofs.lemmas.List.{flat_map_more, take_more}
 use Rattle.std.proofs.lemmas.List.Elements.{All-from_get_or}
-use Rattle.std.proofs.Math.Nat.{mul-le-mul_right}
 use Rattle.dbp_plan.specs.declared.diagram.Diagram.{Diagram}
-use Rattle.dbp_plan.specs.declared.diagram.Task.{Task}
 use Rattle.dbp_plan.specs.declared.limits.TheConstants.{MAX_OCCURRENCES}
 use Rattle.dbp_plan.specs.declared.schedule.Batch.{Batch}
 use Rattle.dbp_plan.specs.declared.schedule.Sample.{Sample}
 use Rattle.dbp_plan.specs.declared.table.Table.{Table}
 use Rattle.dbp_plan.specs.Occurrences.{names, times_of}
 use Rattle.dbp_plan.specs.Plan.{IsPlan}
-use Rattle.dbp_plan.specs.Table.{HasAllRows, HasRow, row_at}
-use Rattle.dbp_plan.proofs.Places.{at_place}
+use Rattle.dbp_plan.specs.Table.{HasRow, HasRows}
 use Rattle.trace_io.specs.Lines.{line_of, number_of, numbered_line}
 use Rattle.trace_io.specs.Printing.{CanPrint, Counts, numbered_lines}
 use Rattle.trace_io.proofs.BatchLines.{same-all}
 use Rattle.trace_io.proofs.Due.{or-true}
-use Rattle.trace_io.proofs.Numbers.{Rise, rise, number-is, more-named, more-other, some-of, of-all}
+use Rattle.dbp_plan.proofs.Numbers.{Rise, rise, number-is}
+use Rattle.trace_io.proofs.Numbers.{more-named, more-other, some-of, of-all}
 
 -- the lines of the batches before place k stand, and each task is counted up to there
 pub record PrintedTo (d : Diagram) (batches : List Batch) (table : Table) (k : ℕ) (counts text : List ℕ) : Type 0 where
   pub places : length counts ≡ length d.tasks
   pub counted : (i : ℕ) → i < length d.tasks → get_or counts i 0 ≡ length (times_of (take k batches) i)
   pub lines : text ≡ flat_map (λ b. flat_map (line_of d.tasks batches table b.time) b.tasks) (take k batches)
-
--- a table has the row of each occurrence
-pub has-row : (tasks : List Task) (batches : List Batch) (table : Table) (i n : ℕ) → HasAllRows tasks batches table → i < length tasks → n ≤ length (times_of batches i) → HasRow table i n
-has-row tasks batches table i n all fits few =
-    let (t, is_task) = at_place tasks i fits in
-    let (rows, is_rows) = at_place table.tasks i (rw all.size fits) in
-    let has = all.each i t rows is_task is_rows in
-    let room : (n + 1) * rows.ports ≤ length rows.words = rw (has.size, has.ports) (mul-le-mul_right (length t.outs) (omega arith)) in
-    (row_at rows n, record { rows = rows; has_rows = is_rows; there = room; is = refl })
 
 is-named : (xs : List ℕ) (k : ℕ) → k < length xs → list_any (λ n. n == get_or xs k 0) xs ≡ true
 is-named [] k fits = absurd (omega arith)
@@ -63,7 +52,7 @@ next-is d samples batches table k counts text b j plan p fits same named less =
       number = ap (λ (a : Batch). number_of batches i a.time) (sym same) ∙ number;
     }
 
-pub can-print : (d : Diagram) (samples : List Sample) (batches : List Batch) (table : Table) (k : ℕ) (counts text : List ℕ) (b : Batch) → IsPlan d samples batches → HasAllRows d.tasks batches table
+pub can-print : (d : Diagram) (samples : List Sample) (batches : List Batch) (table : Table) (k : ℕ) (counts text : List ℕ) (b : Batch) → IsPlan d samples batches → HasRows d.tasks batches table
     → PrintedTo d batches table k counts text → k < length batches → get_or batches k b ≡ b → CanPrint d.tasks table counts b.tasks
 can-print d samples batches table k counts text b plan all p fits same =
     let named : All (λ i. i < length d.tasks) b.tasks = subst (λ (a : Batch). All (λ i. i < length d.tasks) a.tasks) same (plan.named k b fits) in
@@ -74,7 +63,7 @@ can-print d samples batches table k counts text b plan all p fits same =
       there = named;
       rows = All-from_get_or (λ i. HasRow table i (get_or counts i 0 + 1)) b.tasks 0 (λ j less.
           let next = next-is d samples batches table k counts text b j plan p fits same named less in
-          has-row d.tasks batches table (get_or b.tasks j 0) (get_or counts (get_or b.tasks j 0) 0 + 1) all (named j 0 less) next.there);
+          all (get_or b.tasks j 0) (get_or counts (get_or b.tasks j 0) 0 + 1) (named j 0 less) next.there);
     }
 
 pub printed-more : (d : Diagram) (samples : List Sample) (batches : List Batch) (table : Table) (k : ℕ) (counts next text : List ℕ) (b : Batch) → IsPlan d samples batches

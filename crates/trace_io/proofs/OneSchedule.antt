@@ -12,7 +12,7 @@ use Rattle.dbp_plan.specs.Occurrences.{names, times_of}
 use Rattle.dbp_plan.proofs.Places.{at_place}
 use Rattle.trace_io.specs.Batches.{AreBatches}
 use Rattle.trace_io.proofs.Due.{named-below}
-use Rattle.trace_io.proofs.Numbers.{Rise, rise, rise-rest}
+use Rattle.dbp_plan.proofs.Numbers.{Rise, rise, rise-rest}
 
 own : (x : ℕ) → (x == x) ≡ true
 own x = search rules

@@ -1,7 +1,7 @@
 // The printed lines of a table.
 
 ghost use Rattle.std.specs.Prelude.{◌≡◌, ◌++◌, IfOk, OnOk};
-ghost use Rattle.dbp_plan.specs.Table.{HasAllRows};
+ghost use Rattle.dbp_plan.specs.Table.{HasRows};
 ghost use Rattle.trace_io.specs.Lines.{cells_of, line_text, lines_of};
 ghost use Rattle.trace_io.specs.Printing.{CanPrint, Counts, numbered_lines};
 
@@ -13,7 +13,7 @@ use std::alloc::Global;
 /// that ends with LF. There `t` is the time in ticks, `n` the number of the task's occurrence, from 1, and the `v` are
 /// the words of its row `n`.
 pub fn lines(alloc: Global, plan: &Plan, table: &Table) -> Result<Vec<u8>, NoMemory>
-    requires { HasAllRows plan.now.diagram.tasks plan.now.batches table.now }
+    requires { HasRows plan.now.diagram.tasks plan.now.batches table.now }
     ensures { IfOk result (λ text. text.items ≡ lines_of plan.now.diagram plan.now.batches table.now) }
 {
     let tasks = plan.diagram.tasks.items();

@@ -10,9 +10,10 @@ use std::str;
 // The words of one line.
 pub(super) type Line<'a> = Vec<&'a str>;
 
-const RESERVED: [&str; 19] = [
-    "dbp", "policy", "fp", "until", "task", "every", "from", "prio", "cost", "state", "read",
-    "next", "out", "then", "pre", "if", "min", "max", "done",
+const RESERVED: [&str; 35] = [
+    "dbp", "policy", "fp", "edf", "until", "input", "event", "task", "every", "from", "on", "prio",
+    "deadline", "cost", "state", "sense", "let", "next", "read", "pre", "at", "out", "then", "if",
+    "else", "or", "and", "not", "min", "max", "trace", "script", "done", "when", "cpu",
 ];
 
 #[derive(Drop)]

@@ -4,8 +4,8 @@ use super::Unread;
 use super::document::{Document, Line, count, name, number, push_name, push_within, task_lines};
 use super::expression::{place_of, sum};
 use dbp_plan::{
-    Clock, Link, List, MAX_BODY, MAX_OUTS, MAX_PRIO, MAX_READ_LINES, MAX_READS, MAX_TIME, Name,
-    Next, Out, Read, State, Task,
+    Clock, Link, List, MAX_BODY, MAX_OUTS, MAX_PRIO, MAX_READ_LINES, MAX_READS, MAX_TASKS,
+    MAX_TIME, Name, Next, Out, Read, State, Task,
 };
 use std::alloc::Global;
 
@@ -18,7 +18,7 @@ pub(super) fn tasks_of(
     let mut tasks = List::new(alloc);
     for number in 0..document.names.len() {
         let task = task_of(alloc, document, number, links)?;
-        push_within(&mut tasks, task, 32)?;
+        push_within(&mut tasks, task, MAX_TASKS)?;
     }
     Ok(tasks)
 }

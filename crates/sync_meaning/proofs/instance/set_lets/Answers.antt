@@ -5,9 +5,9 @@ use Rattle.std.proofs.lemmas.Option.{slice_get-get_or}
 use Rattle.dbp_plan.specs.declared.diagram.Let.{Let}
 use Rattle.dbp_plan.specs.Closed.{let_base}
 use Rattle.expr_eval.specs.Values.{value_of}
-use Rattle.sync_meaning.proofs.Lets.{lets_more, lets_all}
+use Rattle.sync_meaning.specs.Lets.{lets_more, lets_all}
 use Rattle.sync_meaning.proofs.Sets.{item_at, refill_all}
-use Rattle.sync_meaning.proofs.Tables.{all_at}
+use Rattle.sync_meaning.specs.Places.{all_at}
 use Rattle.sync_meaning.proofs.instance.set_lets.Goals as goal
 use mir.Val.{to_z, of_z}
 

@@ -1,4 +1,4 @@
-use Rattle.sync_meaning.proofs.Lets.{LetsUpTo}
+use Rattle.sync_meaning.specs.Lets.{LetsUpTo}
 use Rattle.sync_meaning.proofs.instance.set_lets.Given as goal
 
 abbrev pub invariant-loop-place : goal.invariant-loop-place

@@ -1,7 +1,7 @@
 use Rattle.std.proofs.Common.{◌≡◌, ◌<◌, ℤ, List, length, take, ap, ◌∙◌, subst, arith, rules, w64}
 use Rattle.std.proofs.lemmas.Int.{to_z-of_z}
 use Rattle.sync_meaning.specs.Meaning.{AreStatesAfter}
-use Rattle.sync_meaning.proofs.Nexts.{nexts_more, nexts_all}
+use Rattle.sync_meaning.specs.Nexts.{nexts_more, nexts_all}
 use Rattle.sync_meaning.proofs.Sets.{item_at, refill_all}
 use Rattle.sync_meaning.proofs.instance.set_nexts.Goals as goal
 use mir.Val.{to_z, of_z}

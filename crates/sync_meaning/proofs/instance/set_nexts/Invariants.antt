@@ -1,4 +1,4 @@
-use Rattle.sync_meaning.proofs.Nexts.{NextsUpTo}
+use Rattle.sync_meaning.specs.Nexts.{NextsUpTo}
 use Rattle.sync_meaning.proofs.instance.set_nexts.Given as goal
 
 abbrev pub invariant-loop-next : goal.invariant-loop-next

@@ -6,7 +6,7 @@ use Rattle.sync_meaning.specs.Meaning.{IsRead}
 use Rattle.sync_meaning.specs.Shape.{AreWritten, IsReadable}
 use Rattle.sync_meaning.proofs.Envs.{written_more, written_all}
 use Rattle.sync_meaning.proofs.Sets.{item_at, refill_all}
-use Rattle.sync_meaning.proofs.Tables.{all_at}
+use Rattle.sync_meaning.specs.Places.{all_at}
 use Rattle.sync_meaning.proofs.reading.set_reads.Goals as goal
 use mir.Val.{to_z, of_z}
 

@@ -1,4 +1,4 @@
-use Rattle.std.proofs.Common.{◌≡◌, ◌≢◌, ◌==◌, ◌<◌, ◌≤◌, ℕ, IsTrue, Some, length, slice_get, sum_by, get_or, take}
+use Rattle.std.proofs.Common.{◌≡◌, ◌<◌, ℕ, Some, slice_get}
 use Rattle.dbp_plan.specs.declared.node.Node.TheVariants.{Var}
 use Rattle.dbp_top.proofs.stand_in.closed.are_below.Given as goal
 

@@ -1,4 +1,4 @@
-use Rattle.std.proofs.Common.{◌≡◌, ◌≢◌, ◌==◌, ◌<◌, ◌≤◌, ℕ, IsTrue, Some, length, slice_get, sum_by, get_or, take}
+use Rattle.std.proofs.Common.{◌<◌, ℕ, get_or}
 use Rattle.dbp_plan.specs.Closed.{IsClosedTask}
 use Rattle.dbp_plan.specs.declared.diagram.Task.{Task}
 use Rattle.dbp_top.proofs.stand_in.closed.are_closed.Given as goal

@@ -1,4 +1,4 @@
-use Rattle.std.proofs.Common.{◌≡◌, ◌≢◌, ◌==◌, ◌<◌, ◌≤◌, ℕ, IsTrue, Some, length, slice_get, sum_by, get_or, take}
+use Rattle.std.proofs.Common.{◌==◌, ◌<◌, ℕ, IsTrue}
 use Rattle.std.specs.List.{list_any}
 use Rattle.dbp_top.proofs.stand_in.closed.are_used.Given as goal
 

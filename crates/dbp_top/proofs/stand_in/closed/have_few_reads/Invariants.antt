@@ -1,4 +1,4 @@
-use Rattle.std.proofs.Common.{◌≡◌, ◌≢◌, ◌==◌, ◌<◌, ◌≤◌, ℕ, IsTrue, Some, length, slice_get, sum_by, get_or, take}
+use Rattle.std.proofs.Common.{◌≡◌, ◌≤◌, length, sum_by, take}
 use Rattle.dbp_top.proofs.stand_in.closed.have_few_reads.Given as goal
 
 abbrev pub invariant-loop-task : goal.invariant-loop-task

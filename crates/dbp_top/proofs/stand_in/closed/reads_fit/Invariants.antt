@@ -1,4 +1,4 @@
-use Rattle.std.proofs.Common.{◌≡◌, ◌≢◌, ◌==◌, ◌<◌, ◌≤◌, ℕ, IsTrue, Some, length, slice_get, sum_by, get_or, take}
+use Rattle.std.proofs.Common.{◌<◌, ℕ, get_or}
 use Rattle.dbp_top.specs.Closing.{ReadFits}
 use Rattle.dbp_plan.specs.declared.diagram.Read.{Read}
 use Rattle.dbp_top.proofs.stand_in.closed.reads_fit.Given as goal

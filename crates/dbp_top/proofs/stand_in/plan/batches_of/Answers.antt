@@ -1,6 +1,4 @@
-use Rattle.std.proofs.Common.{◌≡◌, ◌∙◌, ap, map, List}
-use Rattle.dbp_plan.specs.declared.diagram.Clock.{Clock}
-use Rattle.dbp_plan.specs.declared.diagram.Task.{Task}
+use Rattle.std.proofs.Common.{◌≡◌, ◌∙◌, ap}
 use Rattle.dbp_top.proofs.Plans.{clocks_fit, clocks_of}
 use Rattle.dbp_top.proofs.stand_in.plan.batches_of.Goals as goal
 

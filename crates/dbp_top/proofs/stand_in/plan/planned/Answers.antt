@@ -1,4 +1,4 @@
-use Rattle.std.proofs.Common.{◌≡◌, ◌∙◌, All, length, refl, ap, arith}
+use Rattle.std.proofs.Common.{◌≡◌, ◌∙◌, length, refl, ap, arith}
 use Rattle.dbp_plan.specs.Ranked.{IsRanked}
 use Rattle.dbp_plan.proofs.RankLaws.{length-ranks_of}
 use Rattle.dbp_top.proofs.Plans.{plan_from}

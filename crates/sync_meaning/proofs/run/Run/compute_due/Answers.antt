@@ -4,7 +4,7 @@ use Rattle.std.proofs.lemmas.Bool.{cases_lt}
 use Rattle.dbp_plan.specs.declared.diagram.Diagram.{Diagram}
 use Rattle.sync_meaning.specs.declared.run.Run.{Run}
 use Rattle.std.proofs.lemmas.Option.{slice_get_within}
-use Rattle.sync_meaning.specs.Run.{IsRun}
+use Rattle.sync_meaning.specs.Run.{HasStreams, IsAtTime, IsRun}
 use Rattle.sync_meaning.proofs.Ranks.{length-ranks}
 use Rattle.sync_meaning.proofs.Runs.{has_counts, next_skip, rank_read, ranked_at}
 use Rattle.sync_meaning.proofs.run.Run.compute_due.Goals as goal
@@ -41,11 +41,17 @@ loop-task-preserved c =
           record {
             run = subst (λ (r : Run). IsRun d (k + 1) r) (sym w.self-is) reached;
             named = ap (λ (r : Run). r.named.items) w.self-is ∙ w.in_ok-compute.ensures.named ∙ c.loop-task.invariant.named;
+            inputs = ap (λ (r : Run). r.inputs) w.self-is ∙ w.in_ok-compute.ensures.inputs ∙ c.loop-task.invariant.inputs;
+            time = subst (λ (r : Run). IsAtTime d c.args.plan.now.samples c.args.plan.now.batches r) (sym w.self-is) w.in_ok-compute.ensures.time;
+            streams = subst (λ (r : Run). HasStreams d c.args.plan.now.samples c.args.plan.now.batches r) (sym w.self-is) w.in_ok-compute.ensures.streams;
           }
       | else-is_due w ↦
           let none : get_or c.loop-task.self.named.items i 0 ≤ get_or c.loop-task.self.done.items i 0 = not_due c.is_due.result _ _ w.if-is_due.false c.is_due.ensures.1 in
           record {
             run = subst (λ (r : Run). IsRun d (k + 1) r) (sym w.self-is) (next_skip d i k c.loop-task.self c.args.plan.now.rules.ranked at none c.loop-task.invariant.run);
             named = ap (λ (r : Run). r.named.items) w.self-is ∙ c.loop-task.invariant.named;
+            inputs = ap (λ (r : Run). r.inputs) w.self-is ∙ c.loop-task.invariant.inputs;
+            time = subst (λ (r : Run). IsAtTime d c.args.plan.now.samples c.args.plan.now.batches r) (sym w.self-is) c.loop-task.invariant.time;
+            streams = subst (λ (r : Run). HasStreams d c.args.plan.now.samples c.args.plan.now.batches r) (sym w.self-is) c.loop-task.invariant.streams;
           }
     ]

@@ -1,0 +1,6 @@
+use Rattle.std.proofs.Common.{◌≡◌, ℕ, ◌+◌, ◌<◌, slice_get, Some}
+use Rattle.dbp_plan.specs.declared.node.Node.TheVariants.{Var}
+use Rattle.expr_eval.proofs.variable.uses.Given as goal
+
+abbrev pub invariant-loop-node : goal.invariant-loop-node
+invariant-loop-node l = (k j : ℕ) → k < l.node-index → slice_get l.node-items k ≡ Some (Var (l.base + j)) → j ≡ l.used → ⊥

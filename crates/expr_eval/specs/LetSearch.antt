@@ -1,0 +1,26 @@
+-- The search for a cycle through a let.
+use Rattle.std.specs.Prelude.{◌≡◌, ◌≢◌, ℕ, ◌<◌, All, AllPairs, Contains, List, length, slice_get, Some}
+use Rattle.dbp_plan.specs.declared.diagram.Let.{Let}
+use Rattle.expr_eval.specs.LetOrders.{Uses}
+
+-- distinct numbers below a bound
+pub record AreListed (count : ℕ) (numbers : List ℕ) : Type 0 where
+  pub named : All (λ i. i < count) numbers
+  pub once : AllPairs (λ i j. i ≢ j) numbers
+
+-- the let uses one of these
+abbrev pub UsesOneOf : ℕ → List Let → List ℕ → ℕ → Type 0
+UsesOneOf base lets found i = (j : ℕ) × Contains found j × Uses base lets i j
+
+abbrev pub UsesNoneOf : ℕ → List Let → List ℕ → ℕ → Type 0
+UsesNoneOf base lets found i = (j : ℕ) → Contains found j → Uses base lets i j → ⊥
+
+-- the target, and lets of which each uses one before it: so uses lead from each of them to the target
+pub record LeadTo (base : ℕ) (lets : List Let) (target : ℕ) (found : List ℕ) : Type 0 where
+  pub listed : AreListed (length lets) found
+  pub begins : slice_get found 0 ≡ Some target
+  pub linked : (k i : ℕ) → 0 < k → slice_get found k ≡ Some i → (m : ℕ) × (j : ℕ) × (m < k) × (slice_get found m ≡ Some j) × Uses base lets i j
+
+-- all that use one of them are among them
+abbrev pub AreAllLeading : ℕ → List Let → List ℕ → Type 0
+AreAllLeading base lets found = (i j : ℕ) → Contains found j → Uses base lets i j → Contains found i
