@@ -1,7 +1,6 @@
 pub mod FirstFaults
 pub mod Numbers
 pub mod OccurrenceLemmas
-pub mod Places
 pub mod RankLaws
 pub mod TableRows
 pub mod TreeNodes

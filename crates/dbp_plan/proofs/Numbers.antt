@@ -1,14 +1,14 @@
 -- An occurrence's number: how many batches up to its own name the task.
-use Rattle.std.proofs.Common.{◌≡◌, ℕ, zero, suc, ◌+◌, ◌<◌, ◌≤◌, cond, All, List, [], ◌∷◌, length, map, take, get_or, arith, refl, sym, ap, ◌∙◌, inl, inr}
-use Rattle.std.specs.Prelude.{AllPairs, filter, nat_le}
+use Rattle.std.proofs.Common.{◌≡◌, ℕ, zero, suc, ◌+◌, ◌<◌, All, List, [], ◌∷◌, length, map, take, get_or, arith, sym, ap, ◌∙◌, inl, inr}
+use Rattle.std.specs.Prelude.{AllPairs, filter}
 use Rattle.std.specs.List.Sorted.{IsStrictlyIncreasing}
-use Rattle.std.proofs.lemmas.Bool.{cases_Bool, le-leb, lt-leb}
+use Rattle.std.proofs.lemmas.Bool.{cases_Bool}
 use Rattle.std.proofs.lemmas.List.{length-map}
 use Rattle.std.proofs.lemmas.List.Elements.{All-filter, All-map}
 use Rattle.std.proofs.lemmas.List.Kept.{AllPairs-from_increasing}
-use Rattle.std.proofs.lemmas.List.Sums.{sum_by-cons}
 use Rattle.std.proofs.Math.ListN.{get_or-map}
 use Rattle.dbp_plan.specs.declared.schedule.Batch.{Batch}
+use Rattle.dbp_plan.specs.Times.{count-come, none-come}
 use Rattle.dbp_plan.specs.Occurrences.{count_until, names, times_of}
 
 -- each batch is before all later ones
@@ -25,16 +25,6 @@ rise bs rising = record {
 
 pub rise-rest : (b : Batch) (bs : List Batch) → Rise (b ∷ bs) → Rise bs
 rise-rest b bs up = record { pairs = λ i j d less fits. up.pairs (suc i) (suc j) d (omega arith) (omega arith) }
-
--- a first time and the others
-count-come : (t : ℕ) (ts : List ℕ) (time : ℕ) → t ≤ time → count_until (t ∷ ts) time ≡ 1 + count_until ts time
-count-come t ts time come = sum_by-cons (λ (u : ℕ). cond (nat_le u time) 1 0) t ts ∙ rw (le-leb t time come) refl
-
-none-come : (ts : List ℕ) (time : ℕ) → All (λ t. time < t) ts → count_until ts time ≡ 0
-none-come [] time later = refl
-none-come (t ∷ ts) time later =
-    let rest : count_until ts time ≡ 0 = none-come ts time (λ k d fits. later (suc k) d (omega arith)) in
-    sum_by-cons (λ (u : ℕ). cond (nat_le u time) 1 0) t ts ∙ rw (lt-leb t time (later 0 0 (omega arith))) (omega (arith, rest))
 
 -- of a task's times as many have come at a batch as batches up to it name the task
 come-by : (bs : List Batch) (i k : ℕ) (d : Batch) → Rise bs → k < length bs → count_until (times_of bs i) (get_or bs k d).time ≡ length (times_of (take (suc k) bs) i)

@@ -13,6 +13,7 @@ pub mod Name
 pub mod NameInside
 pub mod Occurrences
 pub mod Operands
+pub mod Places
 pub mod Plan
 pub mod Ranked
 pub mod Ranks
@@ -21,6 +22,7 @@ pub mod Samples
 pub mod Sink
 pub mod Source
 pub mod Table
+pub mod Times
 pub mod Tree
 pub mod TreeLaws
 pub mod WriteSink

@@ -5,7 +5,7 @@ use Rattle.dbp_plan.specs.declared.diagram.Diagram.{Diagram}
 use Rattle.dbp_plan.specs.declared.diagram.Link.{Link}
 use Rattle.dbp_plan.specs.declared.diagram.Task.{Task}
 use Rattle.dbp_plan.specs.Closed.{IsClosed, IsClosedTask}
-use Rattle.dbp_plan.proofs.Places.{all_place}
+use Rattle.dbp_plan.specs.Places.{all_place}
 use Rattle.dbp_top.specs.Closing.{ReadFits}
 
 pub closed_from : (d : Diagram) → d.until ≤ 1000000000 → d.inputs ≡ [] → d.events ≡ [] → length d.tasks ≤ 32 → length d.links ≤ 128

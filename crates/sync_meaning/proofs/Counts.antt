@@ -14,9 +14,8 @@ use Rattle.std.proofs.lemmas.Option.{slice_get-get_or, slice_get_within, get_or_
 use Rattle.dbp_plan.specs.declared.limits.TheConstants.{MAX_OCCURRENCES}
 use Rattle.dbp_plan.specs.declared.schedule.Batch.{Batch}
 use Rattle.dbp_plan.specs.Occurrences.{names, times_of, occurrence_count}
-use Rattle.dbp_plan.proofs.Places.{at_place}
+use Rattle.dbp_plan.specs.Places.{at_place, set_here, set_other}
 use Rattle.sync_meaning.specs.Shape.{AreCounted, IsMarked}
-use Rattle.sync_meaning.specs.Places.{set_here, set_other}
 use Rattle.sync_meaning.proofs.Sets.{zero_of}
 
 -- one for a test that passes

@@ -21,7 +21,7 @@ use Rattle.dbp_plan.specs.Samples.{input_value}
 use Rattle.dbp_plan.specs.Table.{IsRow}
 use Rattle.dbp_plan.proofs.Numbers.{number-is, rise}
 use Rattle.dbp_plan.proofs.OccurrenceLemmas.{time_here}
-use Rattle.dbp_plan.proofs.Places.{at_place, same_places}
+use Rattle.dbp_plan.specs.Places.{at_place, same_places, all_place}
 use Rattle.expr_eval.specs.Values.{value_of}
 use Rattle.sync_meaning.specs.declared.env.Env.{Env}
 use Rattle.sync_meaning.specs.declared.run.Run.{Run}
@@ -36,7 +36,6 @@ use Rattle.sync_meaning.proofs.Growing.{env_stays, read_counted, row_pushed, row
 use Rattle.sync_meaning.proofs.Ranks.{length-ranks, ranking}
 use Rattle.sync_meaning.proofs.Runs.{IsNext, done_of, named_of}
 use Rattle.sync_meaning.proofs.Sets.{item_at, refill_all, set_cases, zero_of}
-use Rattle.sync_meaning.specs.Places.{all_at}
 use Rattle.sync_meaning.proofs.Tables.{rows_all, set_old, set_value}
 
 front_same : (n : ℕ) (xs : List ℤ) (k : ℕ) (x : ℤ) → slice_get (take n xs) k ≡ Some x → slice_get xs k ≡ Some x
@@ -121,7 +120,7 @@ streams_none d samples batches run done table firsts = record {
 
 -- the next batch is one of the plan's, and the counts may still grow
 pub next_at : (P : Batch → Type 0) (batches : List Batch) (batch : Batch) (named : List ℕ) → IsNextBatch batches batch named → All P batches → P batch
-next_at P batches batch named next all = all_at P batches next.place batch all next.is
+next_at P batches batch named next all = all_place P batches next.place batch all next.is
 
 pub next_few : (batches : List Batch) (batch : Batch) (named : List ℕ) → All (λ b. b.tasks ≢ []) batches → occurrence_count batches ≤ MAX_OCCURRENCES → IsNextBatch batches batch named → All (λ n. n < MAX_OCCURRENCES) named
 next_few batches batch named some few next = counted_few next.place batches named (slice_get_within batches next.place batch next.is) some few next.counted

@@ -19,7 +19,7 @@ use Rattle.dbp_plan.specs.Occurrences.{count_until, times_of}
 use Rattle.dbp_plan.specs.Table.{HasRowsOf, IsRow, row_at}
 use Rattle.sync_meaning.specs.Meaning.{AreStatesAfter, IsEnv, IsRead, IsStream, outs_in}
 use Rattle.sync_meaning.specs.Streams.{HasRowsOfTable, IsStreamTo}
-use Rattle.sync_meaning.specs.Places.{set_here, set_other}
+use Rattle.dbp_plan.specs.Places.{set_here, set_other}
 
 range_front : (xs ys : List ℤ) (a b : ℕ) → a ≤ b → b ≤ length xs → slice_range (xs ++ ys) a b ≡ slice_range xs a b
 range_front xs ys a b le inside =

@@ -15,7 +15,7 @@ use Rattle.dbp_plan.specs.Occurrences.{count_until, times_of}
 use Rattle.dbp_plan.specs.Plan.{IsPlan}
 use Rattle.dbp_plan.specs.Table.{IsRow}
 use Rattle.sync_meaning.specs.Meaning.{AreStatesAfter, IsEnv, IsMeaning, IsRead, IsStream, outs_in}
-use Rattle.sync_meaning.specs.Places.{place_of}
+use Rattle.dbp_plan.specs.Places.{at_place}
 use Rattle.sync_meaning.specs.SomeMeaningStreams.{env_at-is, length-states_at, read_given, sense_given, state_given}
 use Rattle.sync_meaning.specs.SomeMeaningEnvs.{IsEnvFrom, one_env, one_states_after, states_after, states_after-are}
 use Rattle.sync_meaning.specs.SomeMeaningRows.{AgreeBelow, Solves, env_at, given_at, one_solution, row_of, states_at, states_at-more, states_at-none, task_rules, turn, word_at}
@@ -37,20 +37,20 @@ module _ (d : Diagram) (samples : List Sample) (batches : List Batch) (table : T
     size = is.size;
     given_words = λ j below. elim (cases_lt j (length states)) [
       | inl early ↦
-          let word : (w : ℤ) × (slice_get states j ≡ Some w) = place_of states j early in
+          let word : (w : ℤ) × (slice_get states j ≡ Some w) = at_place states j early in
           is.state j word.0 word.1 ∙ sym word.1 ∙ sym (state_given d samples batches (rows_in table) task time j states early)
       | inr behind ↦ elim (cases_lt j (length task.states + length task.senses)) [
         | inl sensed ↦
             let k : ℕ = j - length task.states in
             let place : length task.states + k ≡ j = omega arith in
-            let s : (s : Sense) × (slice_get task.senses k ≡ Some s) = place_of task.senses k (omega arith) in
+            let s : (s : Sense) × (slice_get task.senses k ≡ Some s) = at_place task.senses k (omega arith) in
             subst (λ (p : ℕ). slice_get env p ≡ slice_get (given_at d samples batches (rows_in table) task time states) p) place
             (is.sense k s.0 s.1 ∙ sym (sense_given d samples batches (rows_in table) task time k s.0 states size s.1))
         | inr after ↦
             let k : ℕ = j - (length task.states + length task.senses) in
             let place : length task.states + length task.senses + k ≡ j = omega arith in
-            let r : (r : Read) × (slice_get task.reads k ≡ Some r) = place_of task.reads k (omega arith) in
-            let word : (w : ℤ) × (slice_get env (length task.states + length task.senses + k) ≡ Some w) = place_of env (length task.states + length task.senses + k) (omega (arith, is.size)) in
+            let r : (r : Read) × (slice_get task.reads k ≡ Some r) = at_place task.reads k (omega arith) in
+            let word : (w : ℤ) × (slice_get env (length task.states + length task.senses + k) ≡ Some w) = at_place env (length task.states + length task.senses + k) (omega (arith, is.size)) in
             let same : word_at d samples batches (rows_in table) time r.0 ≡ word.0 = word_is time r.0 word.0 (is.read k r.0 word.0 r.1 word.1) in
             subst (λ (p : ℕ). slice_get env p ≡ slice_get (given_at d samples batches (rows_in table) task time states) p) place
             (word.1 ∙ ap (λ (w : ℤ). Some w) (sym same) ∙ sym (read_given d samples batches (rows_in table) task time k r.0 states size r.1))

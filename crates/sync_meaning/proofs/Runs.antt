@@ -19,7 +19,7 @@ use Rattle.sync_meaning.specs.Ranking.{IsByRank}
 use Rattle.sync_meaning.specs.Run.{IsRun}
 use Rattle.sync_meaning.specs.Shape.{HasEnvs, IsEnvOf, IsMarked, IsReadable, first_rows}
 use Rattle.sync_meaning.proofs.Ranks.{ranking, length-ranks}
-use Rattle.sync_meaning.specs.Places.{all_at}
+use Rattle.dbp_plan.specs.Places.{all_place}
 use Rattle.sync_meaning.proofs.Tables.{envs_step, readable, row_fits, rows_none, rows_step}
 use Rattle.sync_meaning.proofs.Sets.{item_at, refill_all}
 use Rattle.sync_meaning.proofs.Steps.{done_marked, done_none, done_skip, done_step}
@@ -64,7 +64,7 @@ pub named_of : (d : Diagram) (i : ℕ) (t : Task) (run : Run) → IsNext d i t r
 named_of d i t run next = slice_get-get_or run.named.items i 0 (omega (arith, inside_ranks d i t run next, next.reached.steps.size))
 
 closed_task : (d : Diagram) (i : ℕ) (t : Task) → IsRanked d → slice_get d.tasks i ≡ Some t → IsClosedTask (length d.inputs) (length d.events) (length d.links) t
-closed_task d i t ranked at = all_at (IsClosedTask (length d.inputs) (length d.events) (length d.links)) d.tasks i t ranked.closed.each at
+closed_task d i t ranked at = all_place (IsClosedTask (length d.inputs) (length d.events) (length d.links)) d.tasks i t ranked.closed.each at
 
 -- it can read
 pub next_reads : (d : Diagram) (i : ℕ) (t : Task) (run : Run) → IsNext d i t run → All (λ r. IsReadable d.links (slice_index run.named.items) run.table r) t.reads

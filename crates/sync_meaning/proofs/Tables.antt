@@ -18,9 +18,8 @@ use Rattle.dbp_plan.specs.Closed.{IsClosed, IsClosedTask, place_count}
 use Rattle.dbp_plan.specs.Occurrences.{times_of}
 use Rattle.dbp_plan.specs.Ranked.{IsRanked}
 use Rattle.dbp_plan.specs.Table.{HasRowsOf, HasAllRows, IsRow, row_at}
-use Rattle.dbp_plan.proofs.Places.{at_place, front_place, last_place}
+use Rattle.dbp_plan.specs.Places.{at_place, front_place, last_place, all_place}
 use Rattle.sync_meaning.specs.declared.env.Env.{Env}
-use Rattle.sync_meaning.specs.Places.{all_at}
 use Rattle.sync_meaning.specs.Ranking.{IsRanking}
 use Rattle.sync_meaning.specs.Run.{HasRowsUpTo, IsDoneAbove}
 use Rattle.sync_meaning.specs.Shape.{AreCounted, HasEnvs, HasFirstStates, IsEnvOf, IsReadable, first_rows}
@@ -125,7 +124,7 @@ enough : (d : Diagram) (i p m n : ℕ) (l : Link) (named done : List ℕ) (at : 
     → slice_get done l.writer ≡ Some m → slice_get named l.writer ≡ Some n → IsDoneAbove p d.ranks named done → n - l.delay ≤ m
 enough d i p m n l named done at ranked at_l reader at_p at_m at_n steps = elim (cases_eq l.delay 0) [
   | inl direct ↦
-      let lower : get_or d.ranks l.writer 0 < get_or d.ranks l.reader 0 = all_at (λ (k : Link). k.delay ≡ 0 → get_or d.ranks k.writer 0 < get_or d.ranks k.reader 0) d.links at l ranked.downward at_l direct in
+      let lower : get_or d.ranks l.writer 0 < get_or d.ranks l.reader 0 = all_place (λ (k : Link). k.delay ≡ 0 → get_or d.ranks k.writer 0 < get_or d.ranks k.reader 0) d.links at l ranked.downward at_l direct in
       let inside : l.writer < length d.ranks = omega (arith, slice_get_within done l.writer m at_m, steps.counts) in
       let q : (q : ℕ) × (slice_get d.ranks l.writer ≡ Some q) = at_place d.ranks l.writer inside in
       let first : get_or d.ranks l.writer 0 ≡ q.0 = get_or_from_slice_get d.ranks l.writer q.0 0 q.1 in
@@ -143,10 +142,10 @@ pub readable : (d : Diagram) (i k p : ℕ) (t : Task) (read : Read) (named done 
     → slice_get d.ranks i ≡ Some p → IsDoneAbove p d.ranks named done → HasRowsUpTo d.tasks done table.tasks → IsReadable d.links (slice_index named) table read
 readable d i k p t read named done table ranked at_t at_read at_p steps has =
     let closed : IsClosed d = ranked.closed in
-    let task : IsClosedTask (length d.inputs) (length d.events) (length d.links) t = all_at (IsClosedTask (length d.inputs) (length d.events) (length d.links)) d.tasks i t closed.each at_t in
-    let linked : read.link < length d.links = all_at (λ (r : Read). r.link < length d.links) t.reads k read task.linked at_read in
+    let task : IsClosedTask (length d.inputs) (length d.events) (length d.links) t = all_place (IsClosedTask (length d.inputs) (length d.events) (length d.links)) d.tasks i t closed.each at_t in
+    let linked : read.link < length d.links = all_place (λ (r : Read). r.link < length d.links) t.reads k read task.linked at_read in
     let l : (l : Link) × (slice_get d.links read.link ≡ Some l) = at_place d.links read.link linked in
-    let ends : (l.0.writer < length d.tasks) × (l.0.reader < length d.tasks) × (l.0.writer ≢ l.0.reader) = all_at (λ (a : Link). (a.writer < length d.tasks) × (a.reader < length d.tasks) × (a.writer ≢ a.reader)) d.links read.link l.0 closed.ends l.1 in
+    let ends : (l.0.writer < length d.tasks) × (l.0.reader < length d.tasks) × (l.0.writer ≢ l.0.reader) = all_place (λ (a : Link). (a.writer < length d.tasks) × (a.reader < length d.tasks) × (a.writer ≢ a.reader)) d.links read.link l.0 closed.ends l.1 in
     let w : (w : Task) × (slice_get d.tasks l.0.writer ≡ Some w) = at_place d.tasks l.0.writer ends.0 in
     let m : (m : ℕ) × (slice_get done l.0.writer ≡ Some m) = at_place done l.0.writer (omega (arith, ends.0, has.counts)) in
     let n : (n : ℕ) × (slice_get named l.0.writer ≡ Some n) = at_place named l.0.writer (omega (arith, ends.0, has.counts, steps.counts, steps.size)) in

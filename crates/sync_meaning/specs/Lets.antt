@@ -17,7 +17,7 @@ use Rattle.dbp_plan.specs.Tree.{Tree, number, variable, unary, binary, choice, s
 use Rattle.expr_eval.specs.Values.{value_of, tree_value, value_of_unary, value_of_binary, value_of_choice}
 use Rattle.sync_meaning.specs.Meaning.{HasLets}
 use Rattle.sync_meaning.specs.Ranking.{IsRanking}
-use Rattle.sync_meaning.specs.Places.{all_at, behind_place, front_place, pair_at, set_here, set_other}
+use Rattle.dbp_plan.specs.Places.{all_place, behind_place, front_place, pair_at, set_here, set_other}
 use Rattle.sync_meaning.specs.Rankings.{task_of}
 
 -- both environments have the same words at the variables of the nodes
@@ -129,7 +129,7 @@ order_apart task i j r order at_i at_j = elim (cases_lt i j) [
 
 pub order_ranking : (task : Task) → IsLetOrder (let_base task) task.lets task.order → IsRanking task.order
 order_ranking task order = record {
-  below = λ i r at. omega (arith, all_at (λ k. k < length task.lets) task.order i r order.named at, order.size);
+  below = λ i r at. omega (arith, all_place (λ k. k < length task.lets) task.order i r order.named at, order.size);
   apart = λ i j r at_i at_j. order_apart task i j r order at_i at_j;
 }
 

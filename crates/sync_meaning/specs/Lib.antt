@@ -1,8 +1,6 @@
 pub mod Lets
 pub mod Meaning
 pub mod Nexts
-pub mod Numbers
-pub mod Places
 pub mod Ranking
 pub mod Rankings
 pub mod Run

@@ -16,7 +16,7 @@ use Rattle.expr_eval.specs.Values.{value_of}
 use Rattle.sync_meaning.specs.Lets.{AgreeOn, LetsUpTo, lets_all, lets_more, lets_none, order_ranking, same_value}
 use Rattle.sync_meaning.specs.Meaning.{AreStatesAfter, HasLets}
 use Rattle.sync_meaning.specs.Nexts.{NextsUpTo, nexts_all, nexts_more, nexts_none}
-use Rattle.sync_meaning.specs.Places.{all_at, front_place, place_of, same_list}
+use Rattle.dbp_plan.specs.Places.{all_place, front_place, at_place, same_list}
 use Rattle.sync_meaning.specs.Rankings.{task_of}
 
 -- the environment begins with the words that are given, and behind them stand the lets
@@ -45,8 +45,8 @@ lets_set-is (suc n) task env order size few =
     let before : LetsUpTo n task env (lets_set task env n) = lets_set-is n task env order size (omega arith) in
     let k : ℕ = get_or task.order n 0 in
     let at_k : slice_get task.order n ≡ Some k = slice_get-get_or task.order n 0 (omega arith) in
-    let below : k < length task.lets = all_at (λ i. i < length task.lets) task.order n k order.named at_k in
-    let l : (l : Let) × (slice_get task.lets k ≡ Some l) = place_of task.lets k below in
+    let below : k < length task.lets = all_place (λ i. i < length task.lets) task.order n k order.named at_k in
+    let l : (l : Let) × (slice_get task.lets k ≡ Some l) = at_place task.lets k below in
     let inside : let_base task + k < length (lets_set task env n) = omega (arith, before.size) in
     let next : LetsUpTo (n + 1) task env (set (lets_set task env n) (let_base task + k) (value_of l.0.expr (lets_set task env n))) = lets_more n k l.0 task env (lets_set task env n) order at_k l.1 inside before in
     let one : n + 1 ≡ suc n = omega arith in
@@ -104,8 +104,8 @@ agree_all (suc n) task given one other order few a b =
       same = λ p k below at_k. elim (cases_eq p n) [
         | inl here ↦
             let at_n : slice_get task.order n ≡ Some k = ap (λ q. slice_get task.order q) (sym here) ∙ at_k in
-            let named : k < length task.lets = all_at (λ i. i < length task.lets) task.order p k order.named at_k in
-            let l : (l : Let) × (slice_get task.lets k ≡ Some l) = place_of task.lets k named in
+            let named : k < length task.lets = all_place (λ i. i < length task.lets) task.order p k order.named at_k in
+            let l : (l : Let) × (slice_get task.lets k ≡ Some l) = at_place task.lets k named in
             let value : value_of l.0.expr one ≡ value_of l.0.expr other = same_value l.0.expr one other (agree_next n k l.0 task given one other order at_n l.1 a b before) in
             a.lets k l.0 l.1 ∙ ap (λ (z : ℤ). Some z) value ∙ sym (b.lets k l.0 l.1)
         | inr apart ↦ before.same p k (omega arith) at_k
@@ -141,8 +141,8 @@ unfolding nexts_set
 nexts_set-is zero nexts env states apart inside few = nexts_none nexts env states
 nexts_set-is (suc m) nexts env states apart inside few =
     let before : NextsUpTo m nexts env states (nexts_set nexts env states m) = nexts_set-is m nexts env states apart inside (omega arith) in
-    let n : (n : Next) × (slice_get nexts m ≡ Some n) = place_of nexts m (omega arith) in
-    let there : n.0.state < length states = all_at (λ (o : Next). o.state < length states) nexts m n.0 inside n.1 in
+    let n : (n : Next) × (slice_get nexts m ≡ Some n) = at_place nexts m (omega arith) in
+    let there : n.0.state < length states = all_place (λ (o : Next). o.state < length states) nexts m n.0 inside n.1 in
     let next : NextsUpTo (m + 1) nexts env states (set (nexts_set nexts env states m) n.0.state (value_of n.0.expr env)) = nexts_more m n.0 nexts env states (nexts_set nexts env states m) apart n.1 (omega (arith, before.size)) before in
     let one : m + 1 ≡ suc m = omega arith in
     subst (λ (k : ℕ). NextsUpTo k nexts env states (next_set nexts env (nexts_set nexts env states m) m)) one (rw (next_set-is nexts env (nexts_set nexts env states m) m n.0 n.1) next)

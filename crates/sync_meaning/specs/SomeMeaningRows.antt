@@ -18,8 +18,8 @@ use Rattle.dbp_plan.specs.Occurrences.{count_until, names, times_of}
 use Rattle.dbp_plan.specs.Plan.{IsPlan}
 use Rattle.dbp_plan.specs.Samples.{input_value}
 use Rattle.sync_meaning.specs.Meaning.{outs_in}
-use Rattle.sync_meaning.specs.Numbers.{Rises, has_come, times-rise}
-use Rattle.sync_meaning.specs.Places.{all_at, place_of}
+use Rattle.dbp_plan.specs.Times.{Rises, has_come, times-rise}
+use Rattle.dbp_plan.specs.Places.{all_place, at_place}
 use Rattle.sync_meaning.specs.SomeMeaningEnvs.{env_from, states_after}
 
 -- functions that agree on the items of a list
@@ -127,7 +127,7 @@ module _ (d : Diagram) (samples : List Sample) (batches : List Batch) where
         earlier (get_or (times_of batches w) k 0) (get_or (times_of batches i) n 0) (get_or d.ranks w 0) (get_or d.ranks i 0) (omega (arith, until, less)) (omega (arith, rank_le d.ranks w))
 
     pub task_rules : (i : ℕ) (task : Task) → slice_get d.tasks i ≡ Some task → IsClosedTask (length d.inputs) (length d.events) (length d.links) task
-    task_rules i task at = all_at (IsClosedTask (length d.inputs) (length d.events) (length d.links)) d.tasks i task plan.ranked.closed.each at
+    task_rules i task at = all_place (IsClosedTask (length d.inputs) (length d.events) (length d.links)) d.tasks i task plan.ranked.closed.each at
 
     -- the link of a read, and its writer
     pub record IsLinkOf (i : ℕ) (task : Task) (read : Read) : Type 0 where
@@ -141,10 +141,10 @@ module _ (d : Diagram) (samples : List Sample) (batches : List Batch) where
     pub link_of : (i k : ℕ) (task : Task) (read : Read) → slice_get d.tasks i ≡ Some task → slice_get task.reads k ≡ Some read → IsLinkOf i task read
     link_of i k task read at_task at_read =
         let closed : IsClosed d = plan.ranked.closed in
-        let linked : read.link < length d.links = all_at (λ (r : Read). r.link < length d.links) task.reads k read (task_rules i task at_task).linked at_read in
-        let l : (l : Link) × (slice_get d.links read.link ≡ Some l) = place_of d.links read.link linked in
+        let linked : read.link < length d.links = all_place (λ (r : Read). r.link < length d.links) task.reads k read (task_rules i task at_task).linked at_read in
+        let l : (l : Link) × (slice_get d.links read.link ≡ Some l) = at_place d.links read.link linked in
         let writer : l.0.writer < length d.tasks = (closed_ends read.link l.0 l.1) in
-        let w : (w : Task) × (slice_get d.tasks l.0.writer ≡ Some w) = place_of d.tasks l.0.writer writer in
+        let w : (w : Task) × (slice_get d.tasks l.0.writer ≡ Some w) = at_place d.tasks l.0.writer writer in
         record {
           link = l.0;
           has_link = l.1;
@@ -155,14 +155,14 @@ module _ (d : Diagram) (samples : List Sample) (batches : List Batch) where
         }
       where
         closed_ends : (p : ℕ) (l : Link) → slice_get d.links p ≡ Some l → l.writer < length d.tasks
-        closed_ends p l at = all_at (λ (a : Link). a.writer < length d.tasks) d.links p l (λ j e below. (plan.ranked.closed.ends j e below).0) at
+        closed_ends p l at = all_place (λ (a : Link). a.writer < length d.tasks) d.links p l (λ j e below. (plan.ranked.closed.ends j e below).0) at
 
     -- what a read goes back to has an earlier turn
     read_turn : (i n : ℕ) (task : Task) (read : Read) (l : IsLinkOf i task read) → turn l.link.writer (count_until (times_of batches l.link.writer) (get_or (times_of batches i) n 0) - l.link.delay) < turn i (suc n)
     read_turn i n task read l = elim (cases_eq l.link.delay 0) [
       | inl direct ↦
           let above : get_or d.ranks l.link.writer 0 < get_or d.ranks l.link.reader 0 =
-          all_at (λ (a : Link). a.delay ≡ 0 → get_or d.ranks a.writer 0 < get_or d.ranks a.reader 0) d.links read.link l.link plan.ranked.downward l.has_link direct in
+          all_place (λ (a : Link). a.delay ≡ 0 → get_or d.ranks a.writer 0 < get_or d.ranks a.reader 0) d.links read.link l.link plan.ranked.downward l.has_link direct in
           let rank : get_or d.ranks l.link.reader 0 ≡ get_or d.ranks i 0 = ap (λ p. get_or d.ranks p 0) l.reader in
           direct_turn l.link.writer i (count_until (times_of batches l.link.writer) (get_or (times_of batches i) n 0) - l.link.delay) n (omega arith) (omega arith)
       | inr late ↦ late_turn l.link.writer i (count_until (times_of batches l.link.writer) (get_or (times_of batches i) n 0) - l.link.delay) n (omega arith)

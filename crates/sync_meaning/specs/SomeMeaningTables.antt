@@ -13,7 +13,7 @@ use Rattle.dbp_plan.specs.declared.table.Table.{Table}
 use Rattle.dbp_plan.specs.declared.table.TaskRows.{TaskRows}
 use Rattle.dbp_plan.specs.Occurrences.{times_of}
 use Rattle.dbp_plan.specs.Table.{HasAllRows, HasRowsOf, IsRow, row_at}
-use Rattle.sync_meaning.specs.Places.{place_of, same_list}
+use Rattle.dbp_plan.specs.Places.{at_place, same_list}
 
 range_front : (xs ys : List ℤ) (a b : ℕ) → a ≤ b → b ≤ length xs → slice_range (xs ++ ys) a b ≡ slice_range xs a b
 range_front xs ys a b less inside =
@@ -96,9 +96,9 @@ pub same_table : (tasks : List Task) (batches : List Batch) (x y : Table) → Ha
     → ((i n : ℕ) (task : Task) → slice_get tasks i ≡ Some task → n ≤ length (times_of batches i) → rows_in x i n ≡ rows_in y i n) → x ≡ y
 same_table tasks batches x y has_x has_y same =
     let all : x.tasks ≡ y.tasks = same_list x.tasks y.tasks (has_x.size ∙ sym has_y.size) (λ i below.
-    let t : (t : Task) × (slice_get tasks i ≡ Some t) = place_of tasks i (omega (arith, has_x.size)) in
-    let a : (r : TaskRows) × (slice_get x.tasks i ≡ Some r) = place_of x.tasks i below in
-    let b : (r : TaskRows) × (slice_get y.tasks i ≡ Some r) = place_of y.tasks i (omega (arith, has_x.size, has_y.size)) in
+    let t : (t : Task) × (slice_get tasks i ≡ Some t) = at_place tasks i (omega (arith, has_x.size)) in
+    let a : (r : TaskRows) × (slice_get x.tasks i ≡ Some r) = at_place x.tasks i below in
+    let b : (r : TaskRows) × (slice_get y.tasks i ≡ Some r) = at_place y.tasks i (omega (arith, has_x.size, has_y.size)) in
     let rows : a.0 ≡ b.0 = same_rows (length t.0.outs) (length (times_of batches i)) a.0 b.0 (has_x.each i t.0 a.0 t.1 a.1) (has_y.each i t.0 b.0 t.1 b.1)
     (λ n few. sym (rows_in-at x i n a.0 a.1) ∙ same i n t.0 t.1 few ∙ rows_in-at y i n b.0 b.1) in
     a.1 ∙ ap (λ (r : TaskRows). Some r) rows ∙ sym b.1) in

@@ -7,7 +7,7 @@ use Rattle.dbp_plan.specs.Closed.{let_base}
 use Rattle.expr_eval.specs.Values.{value_of}
 use Rattle.sync_meaning.specs.Lets.{lets_more, lets_all}
 use Rattle.sync_meaning.proofs.Sets.{item_at, refill_all}
-use Rattle.sync_meaning.specs.Places.{all_at}
+use Rattle.dbp_plan.specs.Places.{all_place}
 use Rattle.sync_meaning.proofs.instance.set_lets.Goals as goal
 use mir.Val.{to_z, of_z}
 
@@ -20,7 +20,7 @@ loop-place-preserved c =
     let l : Let = c.index-items-place.result in
     let now : List ℤ = c.loop-place.now in
     let at_i : slice_get task.order n ≡ Some i = ap (λ (xs : List ℕ). slice_get xs n) (sym c.items-place-items.ensures.value) ∙ slice_get-get_or c.items-place-items.result.now n 0 c.loop-place-test.true in
-    let below : i < length task.lets = all_at (λ k. k < length task.lets) task.order n i order.named at_i in
+    let below : i < length task.lets = all_place (λ k. k < length task.lets) task.order n i order.named at_i in
     let at_l : slice_get task.lets i ≡ Some l = item_at task.lets c.items.result.now i l c.items.ensures.value below c.index-items-place.is in
     let word : c.eval-value.result ≡ value_of l.expr now =
     c.eval-value.ensures ∙ ap (λ (m : Let). value_of m.expr c.items-in-loop-place.result.now) (sym c.index-items-place.is) ∙ ap (λ (e : List ℤ). value_of l.expr e) c.items-in-loop-place.ensures.value in

@@ -1,19 +1,18 @@
 use Rattle.std.proofs.Common.{◌≡◌, ◌<◌, ◌+◌, ℤ, List, subst, length, ap, ◌∙◌, arith, rules, w64}
 use Rattle.std.proofs.lemmas.Int.{to_z-of_z}
 use Rattle.std.specs.Prelude.{slice_index}
-use Rattle.dbp_plan.proofs.Places.{read_place}
+use Rattle.dbp_plan.specs.Places.{read_place, all_place}
 use Rattle.sync_meaning.specs.Meaning.{IsRead}
 use Rattle.sync_meaning.specs.Shape.{AreWritten, IsReadable}
 use Rattle.sync_meaning.proofs.Envs.{written_more, written_all}
 use Rattle.sync_meaning.proofs.Sets.{item_at, refill_all}
-use Rattle.sync_meaning.specs.Places.{all_at}
 use Rattle.sync_meaning.proofs.reading.set_reads.Goals as goal
 use mir.Val.{to_z, of_z}
 
 pub read_word-requires-clause-there : goal.read_word-requires-clause-there
 read_word-requires-clause-there c =
     let at = read_place _ _ _ c.loop-k-test.true c.read-item.is in
-    all_at (IsReadable c.args.links.now (slice_index c.args.named.now) c.args.table.now) c.args.task.now.reads c.loop-k.k c.read-item.result c.requires.reads (rw c.items-read-items.ensures.value at at)
+    all_place (IsReadable c.args.links.now (slice_index c.args.named.now) c.args.table.now) c.args.task.now.reads c.loop-k.k c.read-item.result c.requires.reads (rw c.items-read-items.ensures.value at at)
 
 pub loop-k-preserved : goal.loop-k-preserved
 loop-k-preserved c =

@@ -66,13 +66,13 @@ times-rise bs i rising = times_rise bs i (record {
       omega arith;
 })
 
-count-come : (t : ℕ) (ts : List ℕ) (time : ℕ) → t ≤ time → count_until (t ∷ ts) time ≡ 1 + count_until ts time
+pub count-come : (t : ℕ) (ts : List ℕ) (time : ℕ) → t ≤ time → count_until (t ∷ ts) time ≡ 1 + count_until ts time
 count-come t ts time come = sum_by-cons (λ (u : ℕ). cond (nat_le u time) 1 0) t ts ∙ rw (le-leb t time come) refl
 
-count-later : (t : ℕ) (ts : List ℕ) (time : ℕ) → time < t → count_until (t ∷ ts) time ≡ count_until ts time
+pub count-later : (t : ℕ) (ts : List ℕ) (time : ℕ) → time < t → count_until (t ∷ ts) time ≡ count_until ts time
 count-later t ts time later = sum_by-cons (λ (u : ℕ). cond (nat_le u time) 1 0) t ts ∙ rw (lt-leb t time later) (omega arith)
 
-none-come : (ts : List ℕ) (time : ℕ) → All (λ t. time < t) ts → count_until ts time ≡ 0
+pub none-come : (ts : List ℕ) (time : ℕ) → All (λ t. time < t) ts → count_until ts time ≡ 0
 none-come [] time later = refl
 none-come (t ∷ ts) time later =
     count-later t ts time (later 0 0 (omega arith)) ∙ none-come ts time (λ k d fits. later (suc k) d (omega arith))
