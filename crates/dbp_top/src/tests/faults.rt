@@ -42,27 +42,34 @@ fn a_reader_and_a_writer_are_adapted(rt: HostRuntime) -> Result<(), Fail> {
 }
 
 #[test]
-fn notes_tell_the_statuses_apart(rt: HostRuntime) {
+fn statuses_have_numbers_and_notes(rt: HostRuntime) {
     let cases = [
+        (Status::Ok, 0, "done"),
+        (Status::Refused, 1, "the document was refused"),
         (
             Status::Usage,
+            2,
             "usage: dbp COMMAND < DOCUMENT, where COMMAND is one of: mean",
         ),
         (
             Status::ReadFault,
+            4,
             "a read of the input failed; nothing was written",
         ),
         (
             Status::WriteFault,
+            5,
             "a write of the output failed; a part of it was written",
         ),
-        (Status::NoMemory, "memory ran out; nothing was written"),
+        (Status::NoMemory, 6, "memory ran out; nothing was written"),
         (
             Status::TooLarge,
+            7,
             "the document has more than 1048576 bytes; nothing was written",
         ),
     ];
-    for (status, text) in cases {
+    for (status, number, text) in cases {
+        assert_eq!(rt; status as u8, number);
         assert_eq!(rt; note(status), text);
     }
 }
