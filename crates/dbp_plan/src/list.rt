@@ -113,6 +113,16 @@ impl<T: Drop> List<T> {
 }
 
 impl<T: Copy> List<T> {
+    /// Adds the items at the end, in order. Where memory runs out the list stays as it was.
+    pub fn extend_from_slice(&mut self, items: &[T]) -> Result<(), NoMemory>
+        requires { length self.old + length items.now < 2 ^ 32 }
+        ensures ok { OnOk result (self.new ≡ self.old ++ items.now) }
+        ensures err { OnErr result (self.new ≡ self.old) }
+    {
+        self.items.extend_from_slice(items)?;
+        Ok(())
+    }
+
     /// An equal list.
     pub fn copied(&self) -> Result<List<T>, NoMemory>
         ensures { IfOk result (λ copy. copy ≡ self.now) }

@@ -41,6 +41,8 @@ fn lists_grow(rt: HostRuntime) -> Result<(), Fail> {
     list.push(8)?;
     assert_eq!(rt; list.items(), [7, 8].as_slice());
     assert_eq!(rt; list.copied()?.items(), [7, 8].as_slice());
+    list.extend_from_slice(&[9, 7])?;
+    assert_eq!(rt; list.items(), [7, 8, 9, 7].as_slice());
     Ok(())
 }
 
