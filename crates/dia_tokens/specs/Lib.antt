@@ -1,0 +1,11 @@
+pub mod Blanks
+pub mod Fronts
+pub mod Kinds
+pub mod Lexes
+pub mod Line
+pub mod Pieces
+pub mod Reading
+pub mod Spelling
+pub mod Shapes
+pub mod Values
+pub mod Words

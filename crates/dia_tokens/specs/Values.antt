@@ -1,0 +1,56 @@
+-- The values of tokens.
+use Rattle.std.specs.Prelude.{◌≡◌, ℕ, ℤ, pos, neg_ℤ, ◌+◌, ◌-◌, ◌*◌, ◌^◌, Bool, true, nat_le, nat_lt, ◌==◌, List, [], ◌∷◌, length, drop, get_or, if◌then◌else◌}
+use Rattle.dia_tokens.specs.declared.token.Symbol.{Symbol}
+use Rattle.dia_tokens.specs.declared.token.Word.{Word}
+use Rattle.dia_tokens.specs.declared.token.Token.{Token}
+use Rattle.dia_tokens.specs.declared.token.Token.TheVariants as value
+use Rattle.dia_tokens.specs.Pieces.{Piece, word, name, number, symbol}
+use Rattle.dia_tokens.specs.Words.{word_of}
+
+-- the number that decimal digits make, behind the number so far
+abbrev pub digits_behind : ℕ → List ℕ → ℕ
+digits_behind n [] = n
+digits_behind n (d ∷ ds) = digits_behind (n * 10 + (d - 48)) ds
+
+-- the number that decimal digits make
+abbrev pub digits_value : List ℕ → ℕ
+digits_value ds = digits_behind 0 ds
+
+-- whether the text begins with `-`
+abbrev pub is_negative : List ℕ → Bool
+is_negative text = get_or text 0 0 == 45
+
+-- the number that a text of digits makes, with a `-` in front or without
+abbrev pub number_of : List ℕ → ℤ
+number_of text = if is_negative text then neg_ℤ (pos (digits_value (drop 1 text))) else pos (digits_value text)
+
+-- whether that number lies from -2^63 to 2^63 - 1
+abbrev pub is_in_range : List ℕ → Bool
+is_in_range text = if is_negative text then nat_le (digits_value (drop 1 text)) (2 ^ 63) else nat_lt (digits_value text) (2 ^ 63)
+
+-- the token isn't a number outside of 64 bits
+abbrev pub is_narrow : Piece → Bool
+is_narrow (number text) = is_in_range text
+is_narrow _ = true
+
+-- the token isn't a name of more than 24 bytes
+abbrev pub is_short : Piece → Bool
+is_short (name text) = nat_le (length text) 24
+is_short _ = true
+
+-- the token's text has the value
+pub data HasValue : Piece → Token → Type 0 where
+  of_word : (w : Word) → HasValue (word w) (value.Word w)
+  of_name : (text : List ℕ) → nat_le (length text) 24 ≡ true → HasValue (name text) (value.Name text)
+  of_number : (text : List ℕ) → is_in_range text ≡ true → HasValue (number text) (value.Number (number_of text))
+  of_symbol : (s : Symbol) → HasValue (symbol s) (value.Symbol s)
+
+-- each token's text has its value
+pub data HaveValues : List Piece → List Token → Type 0 where
+  none : HaveValues [] []
+  another : (p : Piece) (t : Token) (ps : List Piece) (ts : List Token) → HasValue p t → HaveValues ps ts → HaveValues (p ∷ ps) (t ∷ ts)
+
+-- the token isn't a reserved word that is taken for a name
+abbrev pub IsFreeName : Token → Type 0
+IsFreeName (value.Name text) = word_of text ≡ name text
+IsFreeName _ = Unit {0}

@@ -1,0 +1,20 @@
+//! The tokens of a line of a diagram.
+#![tactic(auto)]
+
+mod kind;
+mod laws;
+mod lexing;
+mod line;
+mod piece;
+mod reserved;
+mod spelling;
+mod token;
+mod values;
+
+pub use laws::{one_fault, one_list, one_spelling, read_word, spelled_again};
+pub use line::{LineFail, tokens};
+pub use spelling::push_spelling;
+pub use token::{Symbol, Token, Word};
+
+#[cfg(test)]
+mod tests;

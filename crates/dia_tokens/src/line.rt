@@ -1,0 +1,104 @@
+// The tokens of a line, and its first fault.
+
+ghost use Rattle.std.specs.Prelude.{◌≡◌, ◌⊎◌, List, IfOk, IfErr, MatchResult};
+ghost use Rattle.std.specs.List.{list_all};
+ghost use Rattle.dia_tokens.specs.Kinds.{is_allowed};
+ghost use Rattle.dia_tokens.specs.Line.{Spells, HasFault, Refuses};
+ghost use Rattle.dia_tokens.specs.declared.line.LineFail.{LineFail as Fault};
+ghost use Rattle.dia_tokens.specs.declared.line.LineFail.TheVariants.{NoMemory};
+ghost use Rattle.dia_tokens.specs.declared.token.Token.{Token as Spelled};
+
+use crate::Token;
+use crate::lexing::{Front, may_sign, next_token};
+use crate::values::{first_fault, token_of};
+use std::alloc::{AllocError, AllocFailed, Global};
+
+/// Why a line has no tokens. Where it has several faults, the first of these that it has.
+#[derive(Clone, Copy, Debug, PartialEq, Eq)]
+pub enum LineFail {
+    /// A byte that is neither printed ASCII, a space nor a tab.
+    BadByte,
+    /// A text that makes no token.
+    BadToken,
+    /// A number outside of 64 bits.
+    NumberTooWide,
+    /// A name of more than 24 bytes.
+    NameTooLong,
+    /// Memory ran out. That may be at any time.
+    NoMemory,
+}
+
+impl From<AllocError> for LineFail {
+    ghost from_gives = { λ _ e. e ≡ NoMemory };
+
+    fn from(_e: AllocError) -> LineFail {
+        LineFail::NoMemory
+    }
+}
+
+impl<T: Drop> From<AllocFailed<T>> for LineFail {
+    ghost from_gives = { λ _ e. e ≡ NoMemory };
+
+    fn from(_e: AllocFailed<T>) -> LineFail {
+        LineFail::NoMemory
+    }
+}
+
+fn is_allowed_byte(byte: u8) -> bool
+    ensures { result ≡ is_allowed byte }
+{
+    matches!(byte, b' '..=b'~' | b'\t')
+}
+
+fn all_allowed(line: &[u8]) -> bool
+    ensures { result ≡ list_all is_allowed line.now }
+{
+    line.iter().all(|byte| is_allowed_byte(*byte))
+}
+
+/// The tokens of a line, or its first fault.
+fn read(alloc: Global, line: &[u8]) -> Result<Vec<Token>, LineFail>
+    ensures found { IfOk result (λ ts. Spells line.now ts.items) }
+    ensures fault { IfErr result (λ e. Refuses line.now e) }
+{
+    if !all_allowed(line) {
+        return Err(LineFail::BadByte);
+    }
+    let mut out = Vec::new(alloc);
+    let mut fault = None;
+    let mut signed = true;
+    let mut rest = line;
+    loop {
+        match next_token(signed, rest) {
+            Front::Nothing => {
+                return match fault {
+                    Some(fail) => Err(fail),
+                    None => Ok(out),
+                };
+            }
+            Front::Bad => return Err(LineFail::BadToken),
+            Front::Found(piece, after) => {
+                match token_of(piece) {
+                    Ok(token) => out.push(token)?,
+                    Err(fail) => fault = Some(first_fault(fault, fail)),
+                }
+                signed = may_sign(piece);
+                rest = after;
+            }
+        }
+    }
+}
+
+/// The tokens of a line, or its first fault.
+pub fn tokens(alloc: Global, line: &[u8]) -> Result<Vec<Token>, LineFail>
+    // The line spells the tokens.
+    ensures found { IfOk result (λ ts. Spells line.now ts.items) }
+    // Tokens that the line spells are given, unless memory runs out.
+    ensures only { (ts : List Spelled) → Spells line.now ts → MatchResult result (λ v. v.items ≡ ts) (λ e. e ≡ NoMemory) }
+    // A refusal says the line's first fault, unless memory ran out.
+    ensures fault { IfErr result (λ e. Refuses line.now e) }
+    // A line with a first fault is refused with it, unless memory runs out.
+    ensures refused { (f : Fault) → HasFault line.now f → MatchResult result (λ _. ⊥) (λ e. (e ≡ NoMemory) ⊎ (e ≡ f)) }
+{
+    read(alloc, line)
+}
