@@ -1,0 +1,204 @@
+// The tokens that are operators or marks, and what stands behind them.
+
+ghost use Rattle.std.specs.Prelude.{◌≡◌, ◌+◌, [], ◌∷◌, IfSome, IsNone, length};
+ghost use Rattle.std.specs.Option.{option_map};
+ghost use Rattle.dia_exprs.specs.Counts.{node_count};
+ghost use Rattle.dia_exprs.specs.Grammar.{tighter, operator, comparison as compared, prefix as prefixed, called as is_called};
+ghost use Rattle.dia_exprs.specs.Reading.{if_at, then_at, else_at, open_at, comma_at, close_at};
+ghost use Rattle.dia_exprs.specs.Parsing.{operator_at, comparison_at, prefix_at};
+
+use crate::Level;
+use dbp_plan::{BinOp, UnOp};
+use dia_tokens::{Symbol, Token, Word};
+
+pub(crate) fn next_level(level: Level) -> Level
+    ensures { result ≡ tighter level }
+{
+    match level {
+        Level::Whole => Level::Disjunction,
+        Level::Disjunction => Level::Conjunction,
+        Level::Conjunction => Level::Comparison,
+        Level::Comparison => Level::Sum,
+        Level::Sum => Level::Product,
+        Level::Product => Level::Prefixed,
+        Level::Prefixed | Level::Factor => Level::Factor,
+    }
+}
+
+fn operator_of(level: Level, token: Token) -> Option<BinOp>
+    ensures { result ≡ operator level token }
+{
+    match (level, token) {
+        (Level::Disjunction, Token::Word(Word::Or)) => Some(BinOp::Or),
+        (Level::Conjunction, Token::Word(Word::And)) => Some(BinOp::And),
+        (Level::Sum, Token::Symbol(Symbol::Plus)) => Some(BinOp::Add),
+        (Level::Sum, Token::Symbol(Symbol::Minus)) => Some(BinOp::Sub),
+        (Level::Product, Token::Symbol(Symbol::Star)) => Some(BinOp::Mul),
+        (Level::Product, Token::Symbol(Symbol::Slash)) => Some(BinOp::Div),
+        (Level::Product, Token::Symbol(Symbol::Percent)) => Some(BinOp::Rem),
+        _ => None,
+    }
+}
+
+fn comparison(token: Token) -> Option<BinOp>
+    ensures { result ≡ compared token }
+{
+    match token {
+        Token::Symbol(Symbol::Equal) => Some(BinOp::Eq),
+        Token::Symbol(Symbol::Unequal) => Some(BinOp::Ne),
+        Token::Symbol(Symbol::Less) => Some(BinOp::Lt),
+        Token::Symbol(Symbol::AtMost) => Some(BinOp::Le),
+        Token::Symbol(Symbol::Greater) => Some(BinOp::Gt),
+        Token::Symbol(Symbol::AtLeast) => Some(BinOp::Ge),
+        _ => None,
+    }
+}
+
+fn prefix(token: Token) -> Option<UnOp>
+    ensures { result ≡ prefixed token }
+{
+    match token {
+        Token::Symbol(Symbol::Minus) => Some(UnOp::Neg),
+        Token::Word(Word::Not) => Some(UnOp::Not),
+        _ => None,
+    }
+}
+
+/// The operator that a token is before two arguments.
+pub(crate) fn called(token: Token) -> Option<BinOp>
+    ensures { result ≡ is_called token }
+{
+    match token {
+        Token::Word(Word::Min) => Some(BinOp::Min),
+        Token::Word(Word::Max) => Some(BinOp::Max),
+        _ => None,
+    }
+}
+
+/// The operator of the level in front, and the tokens behind it.
+pub(crate) fn split_operator(level: Level, tokens: &[Token]) -> Option<(BinOp, &[Token])>
+    ensures value { option_map (λ x. (x.0, x.1.now)) result ≡ operator_at level tokens.now }
+    ensures shorter { IfSome result (λ x. length x.1.now + 1 ≡ length tokens.now) }
+    ensures counts { IfSome result (λ x. node_count x.1.now + 1 ≡ node_count tokens.now) }
+{
+    match tokens {
+        [token, rest @ ..] => match operator_of(level, *token) {
+            Some(op) => Some((op, rest)),
+            None => None,
+        },
+        [] => None,
+    }
+}
+
+/// The comparison in front, and the tokens behind it.
+pub(crate) fn split_comparison(tokens: &[Token]) -> Option<(BinOp, &[Token])>
+    ensures value { option_map (λ x. (x.0, x.1.now)) result ≡ comparison_at tokens.now }
+    ensures shorter { IfSome result (λ x. length x.1.now + 1 ≡ length tokens.now) }
+    ensures counts { IfSome result (λ x. node_count x.1.now + 1 ≡ node_count tokens.now) }
+{
+    match tokens {
+        [token, rest @ ..] => match comparison(*token) {
+            Some(op) => Some((op, rest)),
+            None => None,
+        },
+        [] => None,
+    }
+}
+
+/// The prefix in front, and the tokens behind it.
+pub(crate) fn split_prefix(tokens: &[Token]) -> Option<(UnOp, &[Token])>
+    ensures value { option_map (λ x. (x.0, x.1.now)) result ≡ prefix_at tokens.now }
+    ensures shorter { IfSome result (λ x. length x.1.now + 1 ≡ length tokens.now) }
+    ensures counts { IfSome result (λ x. node_count x.1.now + 1 ≡ node_count tokens.now) }
+{
+    match tokens {
+        [token, rest @ ..] => match prefix(*token) {
+            Some(op) => Some((op, rest)),
+            None => None,
+        },
+        [] => None,
+    }
+}
+
+/// The tokens behind `then`.
+pub(crate) fn split_then(tokens: &[Token]) -> Option<&[Token]>
+    ensures value { option_map (λ rest. rest.now) result ≡ then_at tokens.now }
+    ensures shorter { IfSome result (λ rest. length rest.now + 1 ≡ length tokens.now) }
+    ensures counts { IfSome result (λ rest. node_count rest.now ≡ node_count tokens.now) }
+{
+    match tokens {
+        [Token::Word(Word::Then), rest @ ..] => Some(rest),
+        _ => None,
+    }
+}
+
+/// The tokens behind `else`.
+pub(crate) fn split_else(tokens: &[Token]) -> Option<&[Token]>
+    ensures value { option_map (λ rest. rest.now) result ≡ else_at tokens.now }
+    ensures shorter { IfSome result (λ rest. length rest.now + 1 ≡ length tokens.now) }
+    ensures counts { IfSome result (λ rest. node_count rest.now ≡ node_count tokens.now) }
+{
+    match tokens {
+        [Token::Word(Word::Else), rest @ ..] => Some(rest),
+        _ => None,
+    }
+}
+
+/// The tokens behind `(`.
+pub(crate) fn split_open(tokens: &[Token]) -> Option<&[Token]>
+    ensures value { option_map (λ rest. rest.now) result ≡ open_at tokens.now }
+    ensures shorter { IfSome result (λ rest. length rest.now + 1 ≡ length tokens.now) }
+    ensures counts { IfSome result (λ rest. node_count rest.now ≡ node_count tokens.now) }
+{
+    match tokens {
+        [Token::Symbol(Symbol::Open), rest @ ..] => Some(rest),
+        _ => None,
+    }
+}
+
+/// The tokens behind a comma.
+pub(crate) fn split_comma(tokens: &[Token]) -> Option<&[Token]>
+    ensures value { option_map (λ rest. rest.now) result ≡ comma_at tokens.now }
+    ensures shorter { IfSome result (λ rest. length rest.now + 1 ≡ length tokens.now) }
+    ensures counts { IfSome result (λ rest. node_count rest.now ≡ node_count tokens.now) }
+{
+    match tokens {
+        [Token::Symbol(Symbol::Comma), rest @ ..] => Some(rest),
+        _ => None,
+    }
+}
+
+/// The tokens behind `)`.
+pub(crate) fn split_close(tokens: &[Token]) -> Option<&[Token]>
+    ensures value { option_map (λ rest. rest.now) result ≡ close_at tokens.now }
+    ensures shorter { IfSome result (λ rest. length rest.now + 1 ≡ length tokens.now) }
+    ensures counts { IfSome result (λ rest. node_count rest.now ≡ node_count tokens.now) }
+{
+    match tokens {
+        [Token::Symbol(Symbol::Close), rest @ ..] => Some(rest),
+        _ => None,
+    }
+}
+
+/// The tokens behind `if`.
+pub(crate) fn split_if(tokens: &[Token]) -> Option<&[Token]>
+    ensures value { option_map (λ rest. rest.now) result ≡ if_at tokens.now }
+    ensures shorter { IfSome result (λ rest. length rest.now + 1 ≡ length tokens.now) }
+    ensures counts { IfSome result (λ rest. node_count rest.now + 1 ≡ node_count tokens.now) }
+{
+    match tokens {
+        [Token::Word(Word::If), rest @ ..] => Some(rest),
+        _ => None,
+    }
+}
+
+/// The first token, and the tokens behind it.
+pub(crate) fn split_token(tokens: &[Token]) -> Option<(&Token, &[Token])>
+    ensures some { IfSome result (λ x. tokens.now ≡ x.0.now ∷ x.1.now) }
+    ensures none { IsNone result → tokens.now ≡ [] }
+{
+    match tokens {
+        [token, rest @ ..] => Some((token, rest)),
+        [] => None,
+    }
+}
