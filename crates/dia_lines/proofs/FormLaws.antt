@@ -1,0 +1,330 @@
+-- Which statements a line's tokens are, by their form.
+use Rattle.std.proofs.Common.{◌≡◌, ℕ, ℤ, pos, Bool, true, false, cond, List, [], ◌∷◌, ◌++◌, Option, Some, None, refl, sym, ap, subst, ◌∙◌, ◌≤◌, arith, append_assoc}
+use Rattle.std.specs.Option.{option_map}
+use Rattle.std.specs.Ordering.{int_eq}
+use Rattle.std.proofs.lemmas.Bool.Decides.{Decides-int_eq}
+use Rattle.dbp_plan.specs.Tree.{Tree, number}
+use Rattle.dia_tokens.specs.declared.token.Token.{Token}
+use Rattle.dia_tokens.specs.declared.token.Token.TheVariants.{Name, Number, Symbol, Word}
+use Rattle.dia_tokens.specs.declared.token.Symbol.TheVariants.{Assign, Point}
+use Rattle.dia_tokens.specs.declared.token.Word as words
+use Rattle.dia_tokens.specs.declared.token.Word.TheVariants as word
+use Rattle.dia_exprs.proofs.AllTokens.{one-spelled}
+use Rattle.dia_exprs.specs.Counts.{node_count, depth_of}
+use Rattle.dia_lines.specs.declared.place.Place.{Place}
+use Rattle.dia_lines.specs.declared.place.Place.TheVariants.{Header, Policy, Until, Declarations, Body, Trace, Script, Ended}
+use Rattle.dia_lines.specs.Statements.{Statement, Clock, IsStatement, SpellsClock, SpellsOption, SpellsAt, SpellsDelay}
+use Rattle.dia_lines.specs.Statements as st
+use Rattle.dia_lines.specs.Places.{leads}
+use Rattle.dia_lines.specs.Lines.{expression_of}
+use Rattle.dia_lines.specs.Forms.{Shape, plain, of_let, of_next, of_out, Completes, tokens_of, example_of, offset_at, prio_at, deadline_at, delay_at, cost_alone, tick_alone, word_alone, ending_at, header_at, policy_at, until_at, input_at, event_at, options_at, task_at, state_at, sense_at, port_read_at, read_at, let_at, next_at, out_at, declared_at, line_at, shape_at}
+
+-- the statement is of the form that was found
+abbrev pub Inverts : Statement → Option Shape → Type 0
+Inverts s None = ⊥
+Inverts s (Some f) = Completes s f
+
+-- each statement of the tokens has their form
+pub Inverts-shape : (ts : List Token) (s : Statement) → IsStatement ts s → Inverts s (shape_at ts)
+unfolding shape_at line_at declared_at header_at until_at input_at event_at options_at task_at state_at sense_at port_read_at read_at let_at next_at out_at
+Inverts-shape ts s st.a_blank_line = refl
+Inverts-shape ts s st.a_header = refl
+Inverts-shape ts s st.fixed_priorities = refl
+Inverts-shape ts s st.earliest_deadline = refl
+Inverts-shape ts s (st.an_until end) = refl
+Inverts-shape ts s (st.an_input name first) = refl
+Inverts-shape ts s (st.an_event name) = refl
+Inverts-shape ts s (st.a_task name cs ps ds clock prio deadline cost c p d) = at_task c p d
+  where
+    at_task : {cs ps ds : List Token} {clock : Clock} {prio deadline : Option ℤ} → SpellsClock cs clock → SpellsOption word.Prio ps prio → SpellsOption word.Deadline ds deadline
+        → Inverts (st.task name clock prio deadline cost) (task_at (Name name ∷ (cs ++ ps ++ ds ++ Word word.Cost ∷ Number cost ∷ [])))
+    at_task (st.from_zero period) st.left_out st.left_out = refl
+    at_task (st.from_zero period) st.left_out (st.given deadline) = refl
+    at_task (st.from_zero period) (st.given prio) st.left_out = refl
+    at_task (st.from_zero period) (st.given prio) (st.given deadline) = refl
+    at_task (st.from_offset period offset) st.left_out st.left_out = refl
+    at_task (st.from_offset period offset) st.left_out (st.given deadline) = refl
+    at_task (st.from_offset period offset) (st.given prio) st.left_out = refl
+    at_task (st.from_offset period offset) (st.given prio) (st.given deadline) = refl
+    at_task (st.with_event event) st.left_out st.left_out = refl
+    at_task (st.with_event event) st.left_out (st.given deadline) = refl
+    at_task (st.with_event event) (st.given prio) st.left_out = refl
+    at_task (st.with_event event) (st.given prio) (st.given deadline) = refl
+Inverts-shape ts s (st.a_state name first) = refl
+Inverts-shape ts s (st.a_sense name from) = refl
+Inverts-shape ts s (st.a_read name writer port pre ats delay at d a) = at_read d a
+  where
+    at_read : {pre ats : List Token} {delay at : ℤ} → SpellsDelay pre delay → SpellsAt ats at
+        → Inverts (st.read name delay writer port at) (read_at (Name name ∷ Symbol Assign ∷ (pre ++ Name writer ∷ Symbol Point ∷ Name port ∷ ats)))
+    at_read st.direct st.at_once = refl
+    at_read st.direct (st.at_tick value) = refl
+    at_read st.delayed st.at_once = refl
+    at_read st.delayed (st.at_tick value) = refl
+Inverts-shape ts s (st.a_let_line name us x d) = (x, refl, d)
+Inverts-shape ts s (st.a_next_line name us x d) = (x, refl, d)
+Inverts-shape ts s (st.an_out name first us x d) = (x, refl, d)
+Inverts-shape ts s st.a_trace = refl
+Inverts-shape ts s st.a_script = refl
+Inverts-shape ts s st.an_end = refl
+
+-- ---- building
+
+-- what the tokens are where they have the form
+abbrev pub Builds : List Token → Option Shape → Type 0
+Builds ts None = Unit {0}
+Builds ts (Some (plain u)) = IsStatement ts u
+Builds ts (Some (of_let name us)) = ts ≡ Word word.Let ∷ Name name ∷ Symbol Assign ∷ us
+Builds ts (Some (of_next name us)) = ts ≡ Word word.Next ∷ Name name ∷ Symbol Assign ∷ us
+Builds ts (Some (of_out name first us)) = ts ≡ Word word.Out ∷ Name name ∷ Symbol Assign ∷ Number first ∷ Word word.Then ∷ us
+
+Builds-header : (ts : List Token) → Builds (Word word.Dbp ∷ ts) (header_at ts)
+unfolding header_at
+Builds-header (Number value ∷ []) = by_value (int_eq value (pos 1)) refl
+  where
+    by_value : (b : Bool) → int_eq value (pos 1) ≡ b → Builds (Word word.Dbp ∷ Number value ∷ []) (cond b (Some (plain st.header)) None)
+    by_value true e = subst (λ (v : ℤ). IsStatement (Word word.Dbp ∷ Number v ∷ []) st.header) (sym ((Decides-int_eq value (pos 1)).0 e)) st.a_header
+    by_value false e = tt
+Builds-header _ = tt
+
+Builds-policy : (ts : List Token) → Builds (Word word.Policy ∷ ts) (policy_at ts)
+Builds-policy (Word word.Fp ∷ []) = st.fixed_priorities
+Builds-policy (Word word.Edf ∷ []) = st.earliest_deadline
+Builds-policy _ = tt
+
+Builds-until : (ts : List Token) → Builds (Word word.Until ∷ ts) (until_at ts)
+unfolding until_at
+Builds-until (Number end ∷ []) = st.an_until end
+Builds-until _ = tt
+
+Builds-input : (ts : List Token) → Builds (Word word.Input ∷ ts) (input_at ts)
+unfolding input_at
+Builds-input (Name name ∷ Symbol Assign ∷ Number first ∷ []) = st.an_input name first
+Builds-input _ = tt
+
+Builds-event : (ts : List Token) → Builds (Word word.Event ∷ ts) (event_at ts)
+unfolding event_at
+Builds-event (Name name ∷ []) = st.an_event name
+Builds-event _ = tt
+
+Builds-state : (ts : List Token) → Builds (Word word.State ∷ ts) (state_at ts)
+unfolding state_at
+Builds-state (Name name ∷ Symbol Assign ∷ Number first ∷ []) = st.a_state name first
+Builds-state _ = tt
+
+Builds-sense : (ts : List Token) → Builds (Word word.Sense ∷ ts) (sense_at ts)
+unfolding sense_at
+Builds-sense (Name name ∷ Symbol Assign ∷ Name from ∷ []) = st.a_sense name from
+Builds-sense _ = tt
+
+Builds-let : (ts : List Token) → Builds (Word word.Let ∷ ts) (let_at ts)
+unfolding let_at
+Builds-let (Name name ∷ Symbol Assign ∷ us) = refl
+Builds-let _ = tt
+
+Builds-next : (ts : List Token) → Builds (Word word.Next ∷ ts) (next_at ts)
+unfolding next_at
+Builds-next (Name name ∷ Symbol Assign ∷ us) = refl
+Builds-next _ = tt
+
+Builds-out : (ts : List Token) → Builds (Word word.Out ∷ ts) (out_at ts)
+unfolding out_at
+Builds-out (Name name ∷ Symbol Assign ∷ Number first ∷ Word word.Then ∷ us) = refl
+Builds-out _ = tt
+
+Builds-alone : (w : words.Word) → Builds (Word w ∷ []) (word_alone w)
+Builds-alone word.Trace = st.a_trace
+Builds-alone word.Script = st.a_script
+Builds-alone word.Done = st.an_end
+Builds-alone _ = tt
+
+Builds-ending : (w : words.Word) (ts : List Token) → Builds (Word w ∷ ts) (ending_at w ts)
+Builds-ending w [] = Builds-alone w
+Builds-ending w (t ∷ ts) = tt
+
+-- ---- the line of a task
+
+offset-split : (period : ℤ) (ts : List Token)
+    → (cs : List Token) × (Word word.Every ∷ Number period ∷ ts ≡ cs ++ (offset_at ts).1) × SpellsClock cs (st.every period (offset_at ts).0)
+offset-split period (Word word.From ∷ Number offset ∷ ts) = (Word word.Every ∷ Number period ∷ Word word.From ∷ Number offset ∷ [], refl, st.from_offset period offset)
+offset-split period ts = (Word word.Every ∷ Number period ∷ [], refl, st.from_zero period)
+
+prio-split : (ts : List Token) → (ps : List Token) × (ts ≡ ps ++ (prio_at ts).1) × SpellsOption word.Prio ps (prio_at ts).0
+prio-split (Word word.Prio ∷ Number value ∷ ts) = (Word word.Prio ∷ Number value ∷ [], refl, st.given value)
+prio-split ts = ([], refl, st.left_out)
+
+deadline-split : (ts : List Token) → (ds : List Token) × (ts ≡ ds ++ (deadline_at ts).1) × SpellsOption word.Deadline ds (deadline_at ts).0
+deadline-split (Word word.Deadline ∷ Number value ∷ ts) = (Word word.Deadline ∷ Number value ∷ [], refl, st.given value)
+deadline-split ts = ([], refl, st.left_out)
+
+cost-is : (ts : List Token) (cost : ℤ) → cost_alone ts ≡ Some cost → ts ≡ Word word.Cost ∷ Number cost ∷ []
+cost-is (Word word.Cost ∷ Number value ∷ []) cost e = cc
+cost-is _ cost e = absurd cc
+
+in_four : (a b c d : List Token) → a ++ (b ++ (c ++ d)) ≡ a ++ b ++ c ++ d
+in_four a b c d = simp append_assoc
+
+Builds-options : (name : List ℕ) (cs : List Token) (clock : Clock) → SpellsClock cs clock → (ts : List Token) → Builds (Word word.Task ∷ Name name ∷ (cs ++ ts)) (options_at name clock ts)
+unfolding options_at
+Builds-options name cs clock c ts = by_cost (cost_alone (deadline_at (prio_at ts).1).1) refl
+  where
+    by_cost : (o : Option ℤ) → cost_alone (deadline_at (prio_at ts).1).1 ≡ o
+        → Builds (Word word.Task ∷ Name name ∷ (cs ++ ts)) (option_map (λ cost. plain (st.task name clock (prio_at ts).0 (deadline_at (prio_at ts).1).0 cost)) o)
+    by_cost None e = tt
+    by_cost (Some cost) e =
+        let ps = prio-split ts in
+        let ds = deadline-split (prio_at ts).1 in
+        let last = Word word.Cost ∷ Number cost ∷ [] in
+        let all : ts ≡ ps.0 ++ (ds.0 ++ last) =
+        ps.1 ∙ ap (λ (us : List Token). ps.0 ++ us) (ds.1 ∙ ap (λ (us : List Token). ds.0 ++ us) (cost-is (deadline_at (prio_at ts).1).1 cost e)) in
+        let whole : cs ++ ps.0 ++ ds.0 ++ last ≡ cs ++ ts = sym (ap (λ (us : List Token). cs ++ us) all ∙ in_four cs ps.0 ds.0 last) in
+        subst (λ (us : List Token). IsStatement (Word word.Task ∷ Name name ∷ us) (st.task name clock (prio_at ts).0 (deadline_at (prio_at ts).1).0 cost)) whole
+        (st.a_task name cs ps.0 ds.0 clock (prio_at ts).0 (deadline_at (prio_at ts).1).0 cost c ps.2 ds.2)
+
+Builds-task : (ts : List Token) → Builds (Word word.Task ∷ ts) (task_at ts)
+unfolding task_at
+Builds-task (Name name ∷ Word word.Every ∷ Number period ∷ ts) =
+    let cs = offset-split period ts in
+    subst (λ (us : List Token). Builds (Word word.Task ∷ Name name ∷ us) (options_at name (st.every period (offset_at ts).0) (offset_at ts).1)) (sym cs.1)
+    (Builds-options name cs.0 (st.every period (offset_at ts).0) cs.2 (offset_at ts).1)
+Builds-task (Name name ∷ Word word.On ∷ Name event ∷ ts) = Builds-options name (Word word.On ∷ Name event ∷ []) (st.on event) (st.with_event event) ts
+Builds-task _ = tt
+
+-- ---- the line of a read value
+
+delay-split : (ts : List Token) → (pre : List Token) × (ts ≡ pre ++ (delay_at ts).1) × SpellsDelay pre (delay_at ts).0
+delay-split (Word word.Pre ∷ ts) = (Word word.Pre ∷ [], refl, st.delayed)
+delay-split ts = ([], refl, st.direct)
+
+tick-spelled : (ts : List Token) (at : ℤ) → tick_alone ts ≡ Some at → SpellsAt ts at
+tick-spelled [] at e = let same : pos 0 ≡ at = cc in subst (SpellsAt []) same st.at_once
+tick-spelled (Word word.At ∷ Number value ∷ []) at e = let same : value ≡ at = cc in subst (SpellsAt (Word word.At ∷ Number value ∷ [])) same (st.at_tick value)
+tick-spelled _ at e = absurd cc
+
+Builds-port : (name : List ℕ) (pre : List Token) (delay : ℤ) → SpellsDelay pre delay → (ts : List Token)
+    → Builds (Word word.Read ∷ Name name ∷ Symbol Assign ∷ (pre ++ ts)) (port_read_at name delay ts)
+unfolding port_read_at
+Builds-port name pre delay d (Name writer ∷ Symbol Point ∷ Name port ∷ ts) = by_tick (tick_alone ts) refl
+  where
+    by_tick : (o : Option ℤ) → tick_alone ts ≡ o
+        → Builds (Word word.Read ∷ Name name ∷ Symbol Assign ∷ (pre ++ Name writer ∷ Symbol Point ∷ Name port ∷ ts)) (option_map (λ at. plain (st.read name delay writer port at)) o)
+    by_tick None e = tt
+    by_tick (Some at) e = st.a_read name writer port pre ts delay at d (tick-spelled ts at e)
+Builds-port name pre delay d _ = tt
+
+Builds-read : (ts : List Token) → Builds (Word word.Read ∷ ts) (read_at ts)
+unfolding read_at
+Builds-read (Name name ∷ Symbol Assign ∷ ts) =
+    let d = delay-split ts in
+    subst (λ (us : List Token). Builds (Word word.Read ∷ Name name ∷ Symbol Assign ∷ us) (port_read_at name (delay_at ts).0 (delay_at ts).1)) (sym d.1)
+    (Builds-port name d.0 (delay_at ts).0 d.2 (delay_at ts).1)
+Builds-read _ = tt
+
+-- ---- all lines
+
+Builds-declared : (w : words.Word) (ts : List Token) → Builds (Word w ∷ ts) (declared_at w ts)
+unfolding declared_at
+Builds-declared word.Dbp ts = Builds-header ts
+Builds-declared word.Policy ts = Builds-policy ts
+Builds-declared word.Until ts = Builds-until ts
+Builds-declared word.Input ts = Builds-input ts
+Builds-declared word.Event ts = Builds-event ts
+Builds-declared _ ts = tt
+
+Builds-line : (w : words.Word) (ts : List Token) → Builds (Word w ∷ ts) (line_at w ts)
+unfolding line_at
+Builds-line word.Task ts = Builds-task ts
+Builds-line word.State ts = Builds-state ts
+Builds-line word.Sense ts = Builds-sense ts
+Builds-line word.Read ts = Builds-read ts
+Builds-line word.Let ts = Builds-let ts
+Builds-line word.Next ts = Builds-next ts
+Builds-line word.Out ts = Builds-out ts
+Builds-line word.Trace ts = Builds-ending word.Trace ts
+Builds-line word.Script ts = Builds-ending word.Script ts
+Builds-line word.Done ts = Builds-ending word.Done ts
+Builds-line w ts = Builds-declared w ts
+
+pub Builds-shape : (ts : List Token) → Builds ts (shape_at ts)
+unfolding shape_at
+Builds-shape [] = st.a_blank_line
+Builds-shape (Word w ∷ ts) = Builds-line w ts
+Builds-shape _ = tt
+
+-- what completes the form of the tokens is their statement
+pub completed : (ts : List Token) (f : Shape) → shape_at ts ≡ Some f → (s : Statement) → Completes s f → IsStatement ts s
+completed ts f e = of_form f (subst (Builds ts) e (Builds-shape ts))
+  where
+    of_form : (f : Shape) → Builds ts (Some f) → (s : Statement) → Completes s f → IsStatement ts s
+    of_form (plain u) b s c = subst (IsStatement ts) (sym c) b
+    of_form (of_let name us) b s c = subst (λ (ts : List Token). IsStatement ts s) (sym b) (subst (IsStatement _) (sym c.1) (st.a_let_line name us c.0 c.2))
+    of_form (of_next name us) b s c = subst (λ (ts : List Token). IsStatement ts s) (sym b) (subst (IsStatement _) (sym c.1) (st.a_next_line name us c.0 c.2))
+    of_form (of_out name first us) b s c = subst (λ (ts : List Token). IsStatement ts s) (sym b) (subst (IsStatement _) (sym c.1) (st.an_out name first us c.0 c.2))
+
+-- the statement of the tokens completes their form
+pub inverted : (ts : List Token) (f : Shape) → shape_at ts ≡ Some f → (s : Statement) → IsStatement ts s → Completes s f
+inverted ts f e s d = let i : Inverts s (Some f) = subst (Inverts s) e (Inverts-shape ts s d) in i
+
+-- tokens of no form are no statement
+pub none-inverted : (ts : List Token) → shape_at ts ≡ None → (s : Statement) → IsStatement ts s → ⊥
+none-inverted ts e s d = let i : Inverts s None = subst (Inverts s) e (Inverts-shape ts s d) in i
+
+-- the tokens of the form's expression are those of the line
+pub expression-fits : (ts : List Token) (f : Shape) → shape_at ts ≡ Some f
+    → (node_count (tokens_of f) ≤ node_count (expression_of ts)) × (depth_of (tokens_of f) ≤ depth_of ts)
+expression-fits ts f e = of_form f (subst (Builds ts) e (Builds-shape ts))
+  where
+    of_form : (f : Shape) → Builds ts (Some f) → (node_count (tokens_of f) ≤ node_count (expression_of ts)) × (depth_of (tokens_of f) ≤ depth_of ts)
+    of_form (plain u) b = (omega arith, omega arith)
+    of_form (of_let name us) b = subst (λ (ts : List Token). (node_count us ≤ node_count (expression_of ts)) × (depth_of us ≤ depth_of ts)) (sym b) (omega arith, omega arith)
+    of_form (of_next name us) b = subst (λ (ts : List Token). (node_count us ≤ node_count (expression_of ts)) × (depth_of us ≤ depth_of ts)) (sym b) (omega arith, omega arith)
+    of_form (of_out name first us) b = subst (λ (ts : List Token). (node_count us ≤ node_count (expression_of ts)) × (depth_of us ≤ depth_of ts)) (sym b) (omega arith, omega arith)
+
+-- the tokens of a line are one statement at most
+pub one-statement : (ts : List Token) (s u : Statement) → IsStatement ts s → IsStatement ts u → s ≡ u
+one-statement ts s u d e = at_shape (shape_at ts) (Inverts-shape ts s d) (Inverts-shape ts u e)
+  where
+    at_shape : (o : Option Shape) → Inverts s o → Inverts u o → s ≡ u
+    at_shape None i j = absurd i
+    at_shape (Some (plain v)) i j = i ∙ sym j
+    at_shape (Some (of_let n us)) i j = i.1 ∙ ap (λ (x : Tree (List ℕ)). st.a_let n x) (one-spelled us i.0 j.0 i.2 j.2) ∙ sym j.1
+    at_shape (Some (of_next n us)) i j = i.1 ∙ ap (λ (x : Tree (List ℕ)). st.a_next n x) (one-spelled us i.0 j.0 i.2 j.2) ∙ sym j.1
+    at_shape (Some (of_out n v us)) i j = i.1 ∙ ap (λ (x : Tree (List ℕ)). st.out n v x) (one-spelled us i.0 j.0 i.2 j.2) ∙ sym j.1
+
+-- ---- where a statement may stand
+
+leads-let : (place : Place) (name : List ℕ) (x y : Tree (List ℕ)) → leads place (st.a_let name x) ≡ leads place (st.a_let name y)
+leads-let Header name x y = refl
+leads-let Policy name x y = refl
+leads-let Until name x y = refl
+leads-let Declarations name x y = refl
+leads-let Body name x y = refl
+leads-let Trace name x y = refl
+leads-let Script name x y = refl
+leads-let Ended name x y = refl
+
+leads-next : (place : Place) (name : List ℕ) (x y : Tree (List ℕ)) → leads place (st.a_next name x) ≡ leads place (st.a_next name y)
+leads-next Header name x y = refl
+leads-next Policy name x y = refl
+leads-next Until name x y = refl
+leads-next Declarations name x y = refl
+leads-next Body name x y = refl
+leads-next Trace name x y = refl
+leads-next Script name x y = refl
+leads-next Ended name x y = refl
+
+leads-out : (place : Place) (name : List ℕ) (first : ℤ) (x y : Tree (List ℕ)) → leads place (st.out name first x) ≡ leads place (st.out name first y)
+leads-out Header name first x y = refl
+leads-out Policy name first x y = refl
+leads-out Until name first x y = refl
+leads-out Declarations name first x y = refl
+leads-out Body name first x y = refl
+leads-out Trace name first x y = refl
+leads-out Script name first x y = refl
+leads-out Ended name first x y = refl
+
+-- a statement of the form leads where each does
+pub leads-example : (place : Place) (f : Shape) (s : Statement) → Completes s f → leads place s ≡ leads place (example_of f)
+leads-example place (plain u) s c = ap (leads place) c
+leads-example place (of_let name us) s c = ap (leads place) c.1 ∙ leads-let place name c.0 (number (pos 0))
+leads-example place (of_next name us) s c = ap (leads place) c.1 ∙ leads-next place name c.0 (number (pos 0))
+leads-example place (of_out name first us) s c = ap (leads place) c.1 ∙ leads-out place name first c.0 (number (pos 0))

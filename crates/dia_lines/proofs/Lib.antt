@@ -1,0 +1,10 @@
+pub mod TextLaws
+pub mod TrimLaws
+pub mod TraceLaws
+pub mod FormLaws
+pub mod StatementLaws
+pub mod CountLaws
+pub mod LineLaws
+pub mod PlaceLaws
+pub mod Reading
+pub mod FreeNames

@@ -1,0 +1,28 @@
+use Rattle.std.proofs.Common.{sym, ◌∙◌, arith}
+use Rattle.dia_exprs.proofs.Steps.{ok_map, err_map}
+use Rattle.dia_lines.specs.FormShapes.{shape_of}
+use Rattle.dia_lines.proofs.FormLaws.{expression-fits}
+use Rattle.dia_lines.proofs.StatementLaws.{kept-stands, refused-stands, none-stands, no-form}
+use Rattle.dia_lines.proofs.statement.statement.Goals as goal
+
+pub kept-requires-clause-nodes : goal.kept-requires-clause-nodes
+kept-requires-clause-nodes c = let fits = expression-fits c.args.tokens.now (shape_of c.in-Some.form) (sym c.in-Some.ensures) in omega arith
+
+pub kept-requires-clause-depth : goal.kept-requires-clause-depth
+kept-requires-clause-depth c = let fits = expression-fits c.args.tokens.now (shape_of c.in-Some.form) (sym c.in-Some.ensures) in omega arith
+
+pub returns-then-stands-clause-found : goal.returns-then-stands-clause-found
+returns-then-stands-clause-found c =
+    ok_map _ _ c.kept.result (λ l. kept-stands c.args.place c.args.tokens.now (shape_of c.in-Some.form) l c.in-Some.ensures (sym c.stands.ensures ∙ c.if-stands.true))
+    c.kept.ensures.found
+
+pub returns-then-stands-clause-fault : goal.returns-then-stands-clause-fault
+returns-then-stands-clause-fault c =
+    err_map _ _ c.kept.result (λ e. refused-stands c.args.place c.args.tokens.now (shape_of c.in-Some.form) e c.in-Some.ensures (sym c.stands.ensures ∙ c.if-stands.true))
+    c.kept.ensures.fault
+
+pub returns-else-stands-clause-fault : goal.returns-else-stands-clause-fault
+returns-else-stands-clause-fault c = none-stands c.args.place c.args.tokens.now (shape_of c.in-Some.form) c.in-Some.ensures (sym c.stands.ensures ∙ c.if-stands.false)
+
+pub returns-in-None-clause-fault : goal.returns-in-None-clause-fault
+returns-in-None-clause-fault c = no-form c.args.place c.args.tokens.now c.in-None.ensures

@@ -1,0 +1,62 @@
+-- What holds where a line is refused. Where memory ran out nothing is said.
+use Rattle.std.specs.Prelude.{◌≡◌, ℕ, true, false, List}
+use Rattle.dia_tokens.specs.declared.token.Token.{Token}
+use Rattle.dia_exprs.specs.Answers.{IsSpelled, SpellsNone}
+use Rattle.dia_lines.specs.declared.fault.Limit.TheVariants.{Number}
+use Rattle.dia_lines.specs.declared.item.Part.TheVariants as part
+use Rattle.dia_lines.specs.declared.item.Line.{Line}
+use Rattle.dia_lines.specs.declared.item.Line.TheVariants as line
+use Rattle.dia_lines.specs.Forms.{Shape, plain, of_let, of_next, of_out}
+use Rattle.dia_lines.specs.Held.{IsKept}
+use Rattle.dia_lines.specs.declared.fault.LineError.{LineError}
+use Rattle.dia_lines.specs.declared.fault.LineError.TheVariants.{Refused, NoMemory}
+use Rattle.dia_lines.specs.declared.fault.ReadCode.TheVariants.{BadLine, LimitHit}
+use Rattle.dia_lines.specs.declared.place.Place.{Place}
+use Rattle.dia_lines.specs.Statements.{Statement}
+use Rattle.dia_lines.specs.Limits.{numbers_fit}
+use Rattle.dia_lines.specs.Lines.{Said, MayStand, HasTextFault, HasDiagramFault, HasFault}
+
+-- the line has the fault, as its first one
+abbrev pub Refuses : List Said → List ℕ → LineError → Type 0
+Refuses before line (Refused code) = HasFault before line code
+Refuses before line NoMemory = Unit {0}
+
+-- the line spells no tokens, and has the fault
+abbrev pub RefusesText : List ℕ → LineError → Type 0
+RefusesText line (Refused code) = HasTextFault line code
+RefusesText line NoMemory = Unit {0}
+
+-- the line of the diagram has the fault, as its first one
+abbrev pub RefusesInDiagram : List Said → List ℕ → LineError → Type 0
+RefusesInDiagram before line (Refused code) = HasDiagramFault before line code
+RefusesInDiagram before line NoMemory = Unit {0}
+
+-- the tokens are no statement that may stand at the place, or one with a number past its limit
+abbrev pub RefusesStatement : Place → List Token → LineError → Type 0
+RefusesStatement place ts (Refused BadLine) = (s : Statement) → MayStand place ts s → ⊥
+RefusesStatement place ts (Refused (LimitHit Number)) = (s : Statement) × MayStand place ts s × (numbers_fit s ≡ false)
+RefusesStatement place ts (Refused _) = ⊥
+RefusesStatement place ts NoMemory = Unit {0}
+
+-- ---- of a form
+
+-- what is kept of a line of the form, whose numbers are within their limits
+abbrev pub KeepsShape : Shape → Line → Type 0
+KeepsShape (plain s) l = IsKept s l × (numbers_fit s ≡ true)
+KeepsShape (of_let name ts) (line.Part (part.Let n e)) = (name ≡ n) × IsSpelled ts e
+KeepsShape (of_next name ts) (line.Part (part.Next n e)) = (name ≡ n) × IsSpelled ts e
+KeepsShape (of_out name first ts) (line.Part (part.Out n v e)) = (name ≡ n) × (first ≡ v) × IsSpelled ts e
+KeepsShape _ _ = ⊥
+
+-- the refusal of the tokens of an expression is right
+abbrev pub RefusesExpression : List Token → LineError → Type 0
+RefusesExpression ts NoMemory = Unit {0}
+RefusesExpression ts (Refused BadLine) = SpellsNone ts
+RefusesExpression ts _ = ⊥
+
+-- the refusal of the form is right
+abbrev pub RefusesShape : Shape → LineError → Type 0
+RefusesShape (plain s) e = (e ≡ Refused (LimitHit Number)) × (numbers_fit s ≡ false)
+RefusesShape (of_let name ts) e = RefusesExpression ts e
+RefusesShape (of_next name ts) e = RefusesExpression ts e
+RefusesShape (of_out name first ts) e = RefusesExpression ts e

@@ -1,0 +1,15 @@
+pub mod Answers
+pub mod Counting
+pub mod FirstLine
+pub mod FormShapes
+pub mod Forms
+pub mod Held
+pub mod Limits
+pub mod Lines
+pub mod Moves
+pub mod Places
+pub mod Positions
+pub mod Sections
+pub mod Statements
+pub mod Text
+pub mod Trimmed

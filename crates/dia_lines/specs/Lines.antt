@@ -1,0 +1,155 @@
+-- What a line says behind the lines before it, and its first fault.
+use Rattle.std.specs.Prelude.{◌≡◌, ◌≢◌, ℕ, pos, codes, Bool, true, false, nat_lt, not, List, [], ◌∷◌, Option, Some, None, if◌then◌else◌}
+use Rattle.std.specs.List.{list_all}
+use Rattle.std.specs.Option.{option_map}
+use Rattle.std.specs.Ordering.{int_eq}
+use Rattle.dbp_plan.specs.declared.limits.TheConstants.{MAX_NODES}
+use Rattle.dia_tokens.specs.declared.token.Token.{Token}
+use Rattle.dia_tokens.specs.declared.token.Token.TheVariants as token
+use Rattle.dia_tokens.specs.declared.token.Word.TheVariants as word
+use Rattle.dia_tokens.specs.declared.token.Symbol.TheVariants as symbol
+use Rattle.dia_tokens.specs.declared.line.LineFail.{LineFail}
+use Rattle.dia_tokens.specs.declared.line.LineFail.TheVariants as line_fail
+use Rattle.dia_tokens.specs.Spelling.{IsSpelling}
+use Rattle.dia_tokens.specs.Line.{Spells as SpellsTokens, HasFault as HasTokenFault}
+use Rattle.dia_exprs.specs.declared.counts.TheConstants.{MAX_DEPTH}
+use Rattle.dia_exprs.specs.Counts.{node_count, depth_of}
+use Rattle.dia_lines.specs.declared.place.Place.{Place}
+use Rattle.dia_lines.specs.declared.place.Place.TheVariants.{Header, Trace, Script}
+use Rattle.dia_lines.specs.declared.fault.ReadCode.{ReadCode}
+use Rattle.dia_lines.specs.declared.fault.ReadCode.TheVariants.{BadByte, BadToken, BadLine, NumberTooWide, NameTooLong, LimitHit, MissingHeader, DepthHit}
+use Rattle.dia_lines.specs.declared.fault.Limit.TheVariants.{Nodes, Number as NumberLimit}
+use Rattle.dia_lines.specs.Statements.{Statement, nothing, script, done, IsStatement}
+use Rattle.dia_lines.specs.Places.{leads}
+use Rattle.dia_lines.specs.Limits.{numbers_fit, passed_count}
+use Rattle.dia_lines.specs.Sections.{is_space, is_trace_byte, IsAlone, IsKeptRow}
+
+-- what a line says: a statement, a row of the trace section, or a step of the script section as it is kept
+pub data Said : Type 0 where
+  says : Statement → Said
+  row : List ℕ → Said
+  step : List ℕ → Said
+
+-- where a line leads: lines that were read lead somewhere
+abbrev pub led_to : Place → Option Place → Place
+led_to place None = place
+led_to place (Some next) = next
+
+-- where the lines lead, of which the latest is the first
+abbrev pub place_behind : List Said → Place
+place_behind [] = Header
+place_behind (says s ∷ before) = led_to (place_behind before) (leads (place_behind before) s)
+place_behind (_ ∷ before) = place_behind before
+
+-- the statements of the lines, the latest first
+abbrev pub statements : List Said → List Statement
+statements [] = []
+statements (says s ∷ before) = s ∷ statements before
+statements (_ ∷ before) = statements before
+
+-- a section whose lines are kept
+abbrev pub keeps_lines : Place → Bool
+keeps_lines Trace = true
+keeps_lines Script = true
+keeps_lines _ = false
+
+abbrev pub is_header : List Token → Bool
+is_header (token.Word word.Dbp ∷ token.Number value ∷ []) = int_eq value (pos 1)
+is_header _ = false
+
+-- the first line with tokens, and no header
+abbrev pub lacks_header : Place → List Token → Bool
+lacks_header place [] = false
+lacks_header Header (t ∷ ts) = not (is_header (t ∷ ts))
+lacks_header _ _ = false
+
+-- the tokens behind the first `=`
+abbrev pub behind_assign : List Token → List Token
+behind_assign [] = []
+behind_assign (token.Symbol symbol.Assign ∷ ts) = ts
+behind_assign (_ ∷ ts) = behind_assign ts
+
+-- the tokens behind the first `then`
+abbrev pub behind_then : List Token → List Token
+behind_then [] = []
+behind_then (token.Word word.Then ∷ ts) = ts
+behind_then (_ ∷ ts) = behind_then ts
+
+-- where an expression stands on a line that begins as one with an expression does
+abbrev pub expression_of : List Token → List Token
+expression_of (token.Word word.Let ∷ ts) = behind_assign ts
+expression_of (token.Word word.Next ∷ ts) = behind_assign ts
+expression_of (token.Word word.Out ∷ ts) = behind_then ts
+expression_of _ = []
+
+-- the first fault of the tokens, but for their form
+abbrev pub token_fault : Place → List Token → Option ReadCode
+token_fault place ts =
+    if lacks_header place ts then Some MissingHeader else
+    if nat_lt MAX_NODES (node_count (expression_of ts)) then Some (LimitHit Nodes) else
+    if nat_lt MAX_DEPTH (depth_of ts) then Some DepthHit else None
+
+-- the code of a line that spells no tokens
+abbrev pub code_of : LineFail → Option ReadCode
+code_of line_fail.BadByte = Some BadByte
+code_of line_fail.BadToken = Some BadToken
+code_of line_fail.NumberTooWide = Some NumberTooWide
+code_of line_fail.NameTooLong = Some NameTooLong
+code_of line_fail.NoMemory = None
+
+-- the first of its limits that a statement passes behind those before it: those of its numbers, then the counts
+abbrev pub limit_fault : List Statement → Statement → Option ReadCode
+limit_fault before s = if numbers_fit s then option_map LimitHit (passed_count before s) else Some (LimitHit NumberLimit)
+
+-- the tokens are a statement that may stand at the place
+pub record MayStand (place : Place) (ts : List Token) (s : Statement) : Type 0 where
+  pub form : IsStatement ts s
+  pub next : Place
+  pub stands : leads place s ≡ Some next
+
+-- behind those before it, the line of the diagram is without fault and says the statement
+pub record SaysStatement (before : List Said) (line : List ℕ) (s : Statement) : Type 0 where
+  pub tokens : List Token
+  pub spelled : SpellsTokens line tokens
+  pub faultless : token_fault (place_behind before) tokens ≡ None
+  pub stands : MayStand (place_behind before) tokens s
+  pub within : limit_fault (statements before) s ≡ None
+
+-- the line of the trace section is without fault, and says this
+pub data SaysInTrace : List ℕ → Said → Type 0 where
+  an_empty_row : (line : List ℕ) → list_all is_space line ≡ true → SaysInTrace line (says nothing)
+  trace_ends : (line : List ℕ) → IsAlone (codes "done") line → SaysInTrace line (says done)
+  script_begins : (line : List ℕ) → IsAlone (codes "script") line → SaysInTrace line (says script)
+  a_row : (line : List ℕ) → list_all is_trace_byte line ≡ true → IsKeptRow line → SaysInTrace line (row line)
+
+-- the line of the script section is without fault, and says this
+pub data SaysInScript : List ℕ → Said → Type 0 where
+  no_step : (line : List ℕ) → SpellsTokens line [] → SaysInScript line (says nothing)
+  script_ends : (line : List ℕ) → SpellsTokens line (token.Word word.Done ∷ []) → SaysInScript line (says done)
+  a_step : (line kept : List ℕ) (ts : List Token) → SpellsTokens line ts → ts ≢ [] → ts ≢ token.Word word.Done ∷ [] → IsSpelling line kept
+      → SaysInScript line (step kept)
+
+-- behind those before it the line is without fault, and says this
+pub data Reads (before : List Said) : List ℕ → Said → Type 0 where
+  of_the_diagram : (line : List ℕ) (s : Statement) → keeps_lines (place_behind before) ≡ false → SaysStatement before line s → Reads before line (says s)
+  of_the_trace : (line : List ℕ) (said : Said) → place_behind before ≡ Trace → SaysInTrace line said → Reads before line said
+  of_the_script : (line : List ℕ) (said : Said) → place_behind before ≡ Script → SaysInScript line said → Reads before line said
+
+-- the first fault of a line that spells no tokens
+abbrev pub HasTextFault : List ℕ → ReadCode → Type 0
+HasTextFault line code = (fault : LineFail) × HasTokenFault line fault × (code_of fault ≡ Some code)
+
+-- the first fault of a line of the diagram behind those before it
+pub data HasDiagramFault (before : List Said) (line : List ℕ) : ReadCode → Type 0 where
+  of_the_text : (code : ReadCode) → HasTextFault line code → HasDiagramFault before line code
+  of_the_tokens : (ts : List Token) (code : ReadCode) → SpellsTokens line ts → token_fault (place_behind before) ts ≡ Some code → HasDiagramFault before line code
+  no_statement : (ts : List Token) → SpellsTokens line ts → token_fault (place_behind before) ts ≡ None
+      → ((s : Statement) → MayStand (place_behind before) ts s → ⊥) → HasDiagramFault before line BadLine
+  past_a_limit : (ts : List Token) (s : Statement) (code : ReadCode) → SpellsTokens line ts → token_fault (place_behind before) ts ≡ None
+      → MayStand (place_behind before) ts s → limit_fault (statements before) s ≡ Some code → HasDiagramFault before line code
+
+-- the first fault of a line behind those before it
+pub data HasFault (before : List Said) (line : List ℕ) : ReadCode → Type 0 where
+  in_the_diagram : (code : ReadCode) → keeps_lines (place_behind before) ≡ false → HasDiagramFault before line code → HasFault before line code
+  in_the_trace : place_behind before ≡ Trace → list_all is_trace_byte line ≡ false → HasFault before line BadByte
+  in_the_script : (code : ReadCode) → place_behind before ≡ Script → HasTextFault line code → HasFault before line code

@@ -1,0 +1,28 @@
+-- Where a line leads, and what tokens say in the script section.
+use Rattle.std.specs.Prelude.{List, [], ◌∷◌}
+use Rattle.dia_tokens.specs.declared.token.Token.{Token}
+use Rattle.dia_tokens.specs.declared.token.Token.TheVariants as token
+use Rattle.dia_tokens.specs.declared.token.Word.TheVariants as word
+use Rattle.dia_lines.specs.declared.item.Line.{Line}
+use Rattle.dia_lines.specs.declared.item.Line.TheVariants as line
+use Rattle.dia_lines.specs.declared.place.Place.{Place}
+use Rattle.dia_lines.specs.declared.place.Place.TheVariants.{Policy, Until, Declarations, Body, Trace, Script, Ended}
+
+-- the place behind a line that may stand at the place
+abbrev pub place_behind_line : Place → Line → Place
+place_behind_line place line.Header = Policy
+place_behind_line place (line.Policy p) = Until
+place_behind_line place (line.Until end) = Declarations
+place_behind_line place (line.Decl d) = Declarations
+place_behind_line place (line.Task t) = Body
+place_behind_line place (line.Part p) = Body
+place_behind_line place line.Trace = Trace
+place_behind_line place line.Script = Script
+place_behind_line place line.Done = Ended
+place_behind_line place _ = place
+
+-- what is held of a line of the script section with these tokens
+abbrev pub step_of_tokens : List Token → Line
+step_of_tokens [] = line.Nothing
+step_of_tokens (token.Word word.Done ∷ []) = line.Done
+step_of_tokens _ = line.Step

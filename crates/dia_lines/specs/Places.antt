@@ -1,0 +1,42 @@
+-- How far the lines before a line have come, and what it may say there.
+use Rattle.std.specs.Prelude.{Bool, true, false, Option, Some, None, if◌then◌else◌}
+use Rattle.dia_lines.specs.declared.place.Place.{Place}
+use Rattle.dia_lines.specs.declared.place.Place.TheVariants.{Header, Policy, Until, Declarations, Body, Trace, Script, Ended}
+use Rattle.dia_lines.specs.Statements.{Statement, nothing, header, policy, until, input, event, task, state, sense, read, a_let, a_next, out, trace, script, done}
+
+-- the line belongs to a task's body
+abbrev pub is_body : Statement → Bool
+is_body (state n v) = true
+is_body (sense n i) = true
+is_body (read n d w p a) = true
+is_body (a_let n x) = true
+is_body (a_next n x) = true
+is_body (out n v x) = true
+is_body _ = false
+
+-- the line declares an input or an event
+abbrev pub is_declaration : Statement → Bool
+is_declaration (input n v) = true
+is_declaration (event n) = true
+is_declaration _ = false
+
+-- where a line leads that may follow the declarations and likewise a task: a task, a section, the end
+abbrev pub behind_declarations : Statement → Option Place
+behind_declarations (task n c p d w) = Some Body
+behind_declarations trace = Some Trace
+behind_declarations script = Some Script
+behind_declarations done = Some Ended
+behind_declarations _ = None
+
+-- where a line leads from a place, where it may stand there
+abbrev pub leads : Place → Statement → Option Place
+leads place nothing = Some place
+leads Header header = Some Policy
+leads Policy (policy p) = Some Until
+leads Until (until n) = Some Declarations
+leads Declarations s = if is_declaration s then Some Declarations else behind_declarations s
+leads Body s = if is_body s then Some Body else behind_declarations s
+leads Trace script = Some Script
+leads Trace done = Some Ended
+leads Script done = Some Ended
+leads _ _ = None

@@ -1,0 +1,85 @@
+-- What a line of the diagram says, by its tokens.
+use Rattle.std.specs.Prelude.{ℕ, ℤ, pos, List, [], ◌∷◌, ◌++◌, Option, Some, None}
+use Rattle.dbp_plan.specs.Tree.{Tree}
+use Rattle.dbp_plan.specs.declared.diagram.Policy.{Policy}
+use Rattle.dbp_plan.specs.declared.diagram.Policy.TheVariants.{Fp, Edf}
+use Rattle.dia_tokens.specs.declared.token.Token.{Token}
+use Rattle.dia_tokens.specs.declared.token.Token.TheVariants.{Name, Number, Symbol, Word}
+use Rattle.dia_tokens.specs.declared.token.Symbol.TheVariants.{Assign, Point}
+use Rattle.dia_tokens.specs.declared.token.Word as words
+use Rattle.dia_tokens.specs.declared.token.Word.TheVariants.{Dbp, Policy as PolicyWord, Fp as FpWord, Edf as EdfWord, Until, Input, Event, Task, Every, From, On, Prio, Deadline, Cost, State, Sense, Let, Next, Read, Pre, At, Out, Then, Trace, Script, Done}
+use Rattle.dia_exprs.specs.declared.level.Level.TheVariants.{Whole}
+use Rattle.dia_exprs.specs.Grammar.{Spells}
+
+-- when a task occurs: from an offset on with a period, or with an event
+pub data Clock : Type 0 where
+  every : ℤ → ℤ → Clock
+  on : List ℕ → Clock
+
+-- what a line says
+pub data Statement : Type 0 where
+  nothing : Statement
+  header : Statement
+  policy : Policy → Statement
+  until : ℤ → Statement
+  input : List ℕ → ℤ → Statement
+  event : List ℕ → Statement
+  -- its name, clock, priority, deadline and cost
+  task : List ℕ → Clock → Option ℤ → Option ℤ → ℤ → Statement
+  state : List ℕ → ℤ → Statement
+  sense : List ℕ → List ℕ → Statement
+  -- its name, delay, writer, port and time
+  read : List ℕ → ℤ → List ℕ → List ℕ → ℤ → Statement
+  a_let : List ℕ → Tree (List ℕ) → Statement
+  a_next : List ℕ → Tree (List ℕ) → Statement
+  out : List ℕ → ℤ → Tree (List ℕ) → Statement
+  trace : Statement
+  script : Statement
+  done : Statement
+
+-- `every N`, with `from N` or from 0, or `on NAME`
+pub data SpellsClock : List Token → Clock → Type 0 where
+  from_zero : (period : ℤ) → SpellsClock (Word Every ∷ Number period ∷ []) (every period (pos 0))
+  from_offset : (period offset : ℤ) → SpellsClock (Word Every ∷ Number period ∷ Word From ∷ Number offset ∷ []) (every period offset)
+  with_event : (name : List ℕ) → SpellsClock (Word On ∷ Name name ∷ []) (on name)
+
+-- the word and a number, or nothing
+pub data SpellsOption (w : words.Word) : List Token → Option ℤ → Type 0 where
+  left_out : SpellsOption w [] None
+  given : (value : ℤ) → SpellsOption w (Word w ∷ Number value ∷ []) (Some value)
+
+-- `at N`, or nothing for 0
+pub data SpellsAt : List Token → ℤ → Type 0 where
+  at_once : SpellsAt [] (pos 0)
+  at_tick : (value : ℤ) → SpellsAt (Word At ∷ Number value ∷ []) value
+
+-- `pre` for one occurrence of the writer ago, or nothing for none
+pub data SpellsDelay : List Token → ℤ → Type 0 where
+  direct : SpellsDelay [] (pos 0)
+  delayed : SpellsDelay (Word Pre ∷ []) (pos 1)
+
+-- the tokens of a line are the statement
+pub data IsStatement : List Token → Statement → Type 0 where
+  a_blank_line : IsStatement [] nothing
+  a_header : IsStatement (Word Dbp ∷ Number (pos 1) ∷ []) header
+  fixed_priorities : IsStatement (Word PolicyWord ∷ Word FpWord ∷ []) (policy Fp)
+  earliest_deadline : IsStatement (Word PolicyWord ∷ Word EdfWord ∷ []) (policy Edf)
+  an_until : (end : ℤ) → IsStatement (Word Until ∷ Number end ∷ []) (until end)
+  an_input : (name : List ℕ) (first : ℤ) → IsStatement (Word Input ∷ Name name ∷ Symbol Assign ∷ Number first ∷ []) (input name first)
+  an_event : (name : List ℕ) → IsStatement (Word Event ∷ Name name ∷ []) (event name)
+  a_task : (name : List ℕ) (cs ps ds : List Token) (clock : Clock) (prio deadline : Option ℤ) (cost : ℤ)
+      → SpellsClock cs clock → SpellsOption Prio ps prio → SpellsOption Deadline ds deadline
+      → IsStatement (Word Task ∷ Name name ∷ (cs ++ ps ++ ds ++ Word Cost ∷ Number cost ∷ [])) (task name clock prio deadline cost)
+  a_state : (name : List ℕ) (first : ℤ) → IsStatement (Word State ∷ Name name ∷ Symbol Assign ∷ Number first ∷ []) (state name first)
+  a_sense : (name from : List ℕ) → IsStatement (Word Sense ∷ Name name ∷ Symbol Assign ∷ Name from ∷ []) (sense name from)
+  a_read : (name writer port : List ℕ) (pre ats : List Token) (delay at : ℤ) → SpellsDelay pre delay → SpellsAt ats at
+      → IsStatement (Word Read ∷ Name name ∷ Symbol Assign ∷ (pre ++ Name writer ∷ Symbol Point ∷ Name port ∷ ats)) (read name delay writer port at)
+  a_let_line : (name : List ℕ) (ts : List Token) (x : Tree (List ℕ)) → Spells Whole ts x
+      → IsStatement (Word Let ∷ Name name ∷ Symbol Assign ∷ ts) (a_let name x)
+  a_next_line : (name : List ℕ) (ts : List Token) (x : Tree (List ℕ)) → Spells Whole ts x
+      → IsStatement (Word Next ∷ Name name ∷ Symbol Assign ∷ ts) (a_next name x)
+  an_out : (name : List ℕ) (first : ℤ) (ts : List Token) (x : Tree (List ℕ)) → Spells Whole ts x
+      → IsStatement (Word Out ∷ Name name ∷ Symbol Assign ∷ Number first ∷ Word Then ∷ ts) (out name first x)
+  a_trace : IsStatement (Word Trace ∷ []) trace
+  a_script : IsStatement (Word Script ∷ []) script
+  an_end : IsStatement (Word Done ∷ []) done

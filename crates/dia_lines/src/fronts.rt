@@ -1,0 +1,141 @@
+// What stands in front of tokens, and the tokens behind it; or what all that is left is.
+
+ghost use Rattle.std.specs.Prelude.{◌≡◌, pos};
+ghost use Rattle.std.specs.Option.{option_map};
+ghost use Rattle.dia_lines.specs.Forms.{assigned_at, first_at, offset_at, clock_at, prio_at, deadline_at, delay_at, port_at, name_alone as is_name_alone, number_alone as is_number_alone, cost_alone as is_cost_alone, tick_alone as is_tick_alone};
+ghost use Rattle.dia_lines.specs.FormShapes.{clock_of};
+
+use crate::form::ClockForm;
+use dbp_plan::Name;
+use dia_tokens::{Symbol, Token, Word};
+
+/// `NAME =` in front.
+pub(crate) fn assigned(tokens: &[Token]) -> Option<(Name, &[Token])>
+    ensures { option_map (λ x. (x.0, x.1.now)) result ≡ assigned_at tokens.now }
+{
+    match tokens {
+        [Token::Name(name), Token::Symbol(Symbol::Assign), rest @ ..] => Some((*name, rest)),
+        _ => None,
+    }
+}
+
+/// `N then` in front.
+pub(crate) fn first_value(tokens: &[Token]) -> Option<(i64, &[Token])>
+    ensures { option_map (λ x. (x.0, x.1.now)) result ≡ first_at tokens.now }
+{
+    match tokens {
+        [Token::Number(first), Token::Word(Word::Then), rest @ ..] => Some((*first, rest)),
+        _ => None,
+    }
+}
+
+// `from N` in front, or 0.
+fn offset(tokens: &[Token]) -> (i64, &[Token])
+    ensures { (result.0, result.1.now) ≡ offset_at tokens.now }
+{
+    match tokens {
+        [Token::Word(Word::From), Token::Number(offset), rest @ ..] => (*offset, rest),
+        _ => (0, tokens),
+    }
+}
+
+/// A task's clock in front.
+pub(crate) fn clock(tokens: &[Token]) -> Option<(ClockForm, &[Token])>
+    ensures { option_map (λ x. (clock_of x.0, x.1.now)) result ≡ clock_at tokens.now }
+{
+    match tokens {
+        [Token::Word(Word::Every), Token::Number(period), behind @ ..] => {
+            let (offset, rest) = offset(behind);
+            Some((ClockForm::Every(*period, offset), rest))
+        }
+        [Token::Word(Word::On), Token::Name(name), rest @ ..] => Some((ClockForm::On(*name), rest)),
+        _ => None,
+    }
+}
+
+/// `prio N` in front, if it is.
+pub(crate) fn prio(tokens: &[Token]) -> (Option<i64>, &[Token])
+    ensures { (result.0, result.1.now) ≡ prio_at tokens.now }
+{
+    match tokens {
+        [Token::Word(Word::Prio), Token::Number(value), rest @ ..] => (Some(*value), rest),
+        _ => (None, tokens),
+    }
+}
+
+/// `deadline N` in front, if it is.
+pub(crate) fn deadline(tokens: &[Token]) -> (Option<i64>, &[Token])
+    ensures { (result.0, result.1.now) ≡ deadline_at tokens.now }
+{
+    match tokens {
+        [Token::Word(Word::Deadline), Token::Number(value), rest @ ..] => (Some(*value), rest),
+        _ => (None, tokens),
+    }
+}
+
+/// How many occurrences ago is meant: 1 with `pre` in front, else 0.
+pub(crate) fn delay(tokens: &[Token]) -> (u32, &[Token])
+    ensures { (pos result.0, result.1.now) ≡ delay_at tokens.now }
+{
+    if let [Token::Word(Word::Pre), rest @ ..] = tokens {
+        (1, rest)
+    } else {
+        (0, tokens)
+    }
+}
+
+/// `TASK.PORT` in front.
+pub(crate) fn port(tokens: &[Token]) -> Option<(Name, Name, &[Token])>
+    ensures { option_map (λ x. (x.0, x.1, x.2.now)) result ≡ port_at tokens.now }
+{
+    match tokens {
+        [
+            Token::Name(task),
+            Token::Symbol(Symbol::Point),
+            Token::Name(port),
+            rest @ ..,
+        ] => Some((*task, *port, rest)),
+        _ => None,
+    }
+}
+
+/// A name, and nothing behind it.
+pub(crate) fn name_alone(tokens: &[Token]) -> Option<Name>
+    ensures { result ≡ is_name_alone tokens.now }
+{
+    match tokens {
+        [Token::Name(name)] => Some(*name),
+        _ => None,
+    }
+}
+
+/// A number, and nothing behind it.
+pub(crate) fn number_alone(tokens: &[Token]) -> Option<i64>
+    ensures { result ≡ is_number_alone tokens.now }
+{
+    match tokens {
+        [Token::Number(value)] => Some(*value),
+        _ => None,
+    }
+}
+
+/// `cost N`, and nothing behind it.
+pub(crate) fn cost_alone(tokens: &[Token]) -> Option<i64>
+    ensures { result ≡ is_cost_alone tokens.now }
+{
+    match tokens {
+        [Token::Word(Word::Cost), Token::Number(cost)] => Some(*cost),
+        _ => None,
+    }
+}
+
+/// `at N` and nothing behind it, or 0 for nothing at all.
+pub(crate) fn tick_alone(tokens: &[Token]) -> Option<i64>
+    ensures { result ≡ is_tick_alone tokens.now }
+{
+    match tokens {
+        [] => Some(0),
+        [Token::Word(Word::At), Token::Number(value)] => Some(*value),
+        _ => None,
+    }
+}

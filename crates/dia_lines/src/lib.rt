@@ -1,0 +1,32 @@
+//! The lines of a document: what each says behind those before it, or its first fault.
+#![tactic(auto)]
+
+mod before_form;
+mod fault;
+mod form;
+mod fronts;
+mod item;
+mod laws;
+mod line;
+mod line_forms;
+#[cfg(test)]
+mod line_tests;
+mod place;
+mod position;
+mod ranges;
+mod standing;
+mod statement;
+#[cfg(test)]
+mod statement_tests;
+mod text;
+#[cfg(test)]
+mod text_tests;
+mod trace;
+
+pub use fault::{Limit, LineError, ReadCode};
+pub use item::{Decl, Line, Part, RawClock, TaskLine};
+pub use laws::{one_line_fault, one_reading, one_statement};
+pub use line::read_line;
+pub use place::Place;
+pub use position::{Counts, Position};
+pub use text::next_line;

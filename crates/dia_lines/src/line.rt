@@ -1,0 +1,114 @@
+// What a line says behind those before it, or its first fault.
+
+ghost use Rattle.std.specs.Prelude.{◌≡◌, ◌∷◌, List, IfOk, IfErr};
+ghost use Rattle.dia_tokens.specs.Line.{Spells as SpellsTokens};
+ghost use Rattle.dia_lines.specs.Answers.{Refuses, RefusesText, RefusesInDiagram};
+ghost use Rattle.dia_lines.specs.Held.{IsHeld, IsKept};
+ghost use Rattle.dia_lines.specs.Lines.{Said, SaysStatement, SaysInScript, Reads, statements};
+ghost use Rattle.dia_lines.specs.Moves.{place_behind_line, step_of_tokens};
+ghost use Rattle.dia_lines.specs.Positions.{AreCounts, IsBehind};
+ghost use Rattle.dia_lines.specs.Statements.{Statement};
+
+use crate::before_form::token_code;
+use crate::statement::statement;
+use crate::trace::trace_line;
+use crate::{Counts, Line, LineError, Place, Position, ReadCode};
+use dia_tokens::{LineFail, Token, Word, tokens};
+use std::alloc::Global;
+
+/// The tokens of a line, or its first fault.
+fn line_tokens(alloc: Global, line: &[u8]) -> Result<Vec<Token>, LineError>
+    ensures found { IfOk result (λ ts. SpellsTokens line.now ts.items) }
+    ensures fault { IfErr result (λ e. RefusesText line.now e) }
+{
+    match tokens(alloc, line) {
+        Ok(tokens) => Ok(tokens),
+        Err(LineFail::BadByte) => Err(LineError::Refused(ReadCode::BadByte)),
+        Err(LineFail::BadToken) => Err(LineError::Refused(ReadCode::BadToken)),
+        Err(LineFail::NumberTooWide) => Err(LineError::Refused(ReadCode::NumberTooWide)),
+        Err(LineFail::NameTooLong) => Err(LineError::Refused(ReadCode::NameTooLong)),
+        Err(LineFail::NoMemory) => Err(LineError::NoMemory),
+    }
+}
+
+/// A line of the diagram, and the counts behind it.
+fn diagram_line(alloc: Global, position: Position, line: &[u8]) -> Result<(Line, Counts), LineError>
+    ensures found { (before : List Said) → IsBehind before position → IfOk result (λ r. (s : Statement) × SaysStatement before line.now s × IsKept s r.0 × AreCounts (s ∷ statements before) r.1) }
+    ensures fault { (before : List Said) → IsBehind before position → IfErr result (λ e. RefusesInDiagram before line.now e) }
+{
+    let tokens = line_tokens(alloc, line)?;
+    let line = match token_code(position.place, &tokens) {
+        Some(code) => return Err(LineError::Refused(code)),
+        None => statement(alloc, position.place, &tokens)?,
+    };
+    match position.counts.with_line(&line) {
+        Ok(counts) => Ok((line, counts)),
+        Err(limit) => Err(LineError::Refused(ReadCode::LimitHit(limit))),
+    }
+}
+
+fn step_of(tokens: &[Token]) -> Line
+    ensures { result ≡ step_of_tokens tokens.now }
+{
+    match tokens {
+        [] => Line::Nothing,
+        [Token::Word(Word::Done)] => Line::Done,
+        _ => Line::Step,
+    }
+}
+
+/// A line of the script section.
+fn script_line(alloc: Global, line: &[u8]) -> Result<Line, LineError>
+    ensures found { IfOk result (λ l. (said : Said) × SaysInScript line.now said × IsHeld said l) }
+    ensures fault { IfErr result (λ e. RefusesText line.now e) }
+{
+    let tokens = line_tokens(alloc, line)?;
+    Ok(step_of(&tokens))
+}
+
+/// The place behind a line that may stand at the place.
+fn place_behind(place: Place, line: &Line) -> Place
+    ensures { result ≡ place_behind_line place line.now }
+{
+    match line {
+        Line::Header => Place::Policy,
+        Line::Policy(_) => Place::Until,
+        Line::Until(_) | Line::Decl(_) => Place::Declarations,
+        Line::Task(_) | Line::Part(_) => Place::Body,
+        Line::Trace => Place::Trace,
+        Line::Script => Place::Script,
+        Line::Done => Place::Ended,
+        Line::Nothing | Line::Row | Line::Step => place,
+    }
+}
+
+/// What the line says behind those before it, and the counts behind it.
+fn counted_line(alloc: Global, position: Position, line: &[u8]) -> Result<(Line, Counts), LineError>
+    ensures found { (before : List Said) → IsBehind before position → IfOk result (λ r. (said : Said) × Reads before line.now said × IsHeld said r.0 × AreCounts (statements (said ∷ before)) r.1) }
+    ensures fault { (before : List Said) → IsBehind before position → IfErr result (λ e. Refuses before line.now e) }
+{
+    match position.place {
+        Place::Trace => match trace_line(line) {
+            Ok(line) => Ok((line, position.counts)),
+            Err(code) => Err(LineError::Refused(code)),
+        },
+        Place::Script => Ok((script_line(alloc, line)?, position.counts)),
+        _ => diagram_line(alloc, position, line),
+    }
+}
+
+/// What the line says behind those before it, and the position behind it; or its first fault.
+pub fn read_line(
+    alloc: Global,
+    position: Position,
+    line: &[u8],
+) -> Result<(Line, Position), LineError>
+    // The line says what is held of it.
+    ensures found { (before : List Said) → IsBehind before position → IfOk result (λ r. (said : Said) × Reads before line.now said × IsHeld said r.0 × IsBehind (said ∷ before) r.1) }
+    // A refusal says the line's first fault, unless memory ran out.
+    ensures fault { (before : List Said) → IsBehind before position → IfErr result (λ e. Refuses before line.now e) }
+{
+    let (line, counts) = counted_line(alloc, position, line)?;
+    let place = place_behind(position.place, &line);
+    Ok((line, Position { place, counts }))
+}

@@ -1,0 +1,238 @@
+// The form of a line, by its first word: a function for each word, which takes the tokens behind it.
+
+ghost use Rattle.std.specs.Prelude.{◌≡◌, pos};
+ghost use Rattle.std.specs.Option.{option_map};
+ghost use Rattle.dia_lines.specs.Forms.{header_at, policy_at, until_at, input_at, event_at, options_at, task_at, state_at, sense_at, port_read_at, read_at, let_at, next_at, out_at, ending_at, declared_at, line_at, shape_at};
+ghost use Rattle.dia_lines.specs.FormShapes.{clock_of, shape_of};
+
+use crate::form::{ClockForm, Form, ReadForm, TaskForm};
+use crate::fronts::{
+    assigned, clock, cost_alone, deadline, delay, first_value, name_alone, number_alone, port,
+    prio, tick_alone,
+};
+use dbp_plan::{Name, Policy};
+use dia_tokens::{Token, Word};
+
+#[tactic(auto, unfolding(crate::specs::Forms::header_at))]
+fn header<'t>(tokens: &'t [Token]) -> Option<Form<'t>>
+    ensures { option_map shape_of result ≡ header_at tokens.now }
+{
+    if number_alone(tokens)? == 1 {
+        Some(Form::Header)
+    } else {
+        None
+    }
+}
+
+fn policy<'t>(tokens: &'t [Token]) -> Option<Form<'t>>
+    ensures { option_map shape_of result ≡ policy_at tokens.now }
+{
+    match tokens {
+        [Token::Word(Word::Fp)] => Some(Form::Policy(Policy::Fp)),
+        [Token::Word(Word::Edf)] => Some(Form::Policy(Policy::Edf)),
+        _ => None,
+    }
+}
+
+#[tactic(auto, unfolding(crate::specs::Forms::until_at))]
+fn until<'t>(tokens: &'t [Token]) -> Option<Form<'t>>
+    ensures { option_map shape_of result ≡ until_at tokens.now }
+{
+    let end = number_alone(tokens)?;
+    Some(Form::Until(end))
+}
+
+#[tactic(auto, unfolding(crate::specs::Forms::input_at))]
+fn input<'t>(tokens: &'t [Token]) -> Option<Form<'t>>
+    ensures { option_map shape_of result ≡ input_at tokens.now }
+{
+    let Some((name, rest)) = assigned(tokens) else {
+        return None;
+    };
+    let first = number_alone(rest)?;
+    Some(Form::Input(name, first))
+}
+
+#[tactic(auto, unfolding(crate::specs::Forms::event_at))]
+fn event<'t>(tokens: &'t [Token]) -> Option<Form<'t>>
+    ensures { option_map shape_of result ≡ event_at tokens.now }
+{
+    let name = name_alone(tokens)?;
+    Some(Form::Event(name))
+}
+
+// What is left of a task's line behind its clock.
+#[tactic(auto, unfolding(crate::specs::Forms::options_at))]
+fn options<'t>(name: Name, clock: ClockForm, tokens: &'t [Token]) -> Option<Form<'t>>
+    ensures { option_map shape_of result ≡ options_at name (clock_of clock) tokens.now }
+{
+    let (prio, behind) = prio(tokens);
+    let (deadline, rest) = deadline(behind);
+    let cost = cost_alone(rest)?;
+    Some(Form::Task(TaskForm {
+        name,
+        clock,
+        prio,
+        deadline,
+        cost,
+    }))
+}
+
+#[tactic(auto, unfolding(crate::specs::Forms::task_at))]
+fn task<'t>(tokens: &'t [Token]) -> Option<Form<'t>>
+    ensures { option_map shape_of result ≡ task_at tokens.now }
+{
+    match tokens {
+        [Token::Name(name), behind @ ..] => {
+            let Some((clock, rest)) = clock(behind) else {
+                return None;
+            };
+            options(*name, clock, rest)
+        }
+        _ => None,
+    }
+}
+
+#[tactic(auto, unfolding(crate::specs::Forms::state_at))]
+fn state<'t>(tokens: &'t [Token]) -> Option<Form<'t>>
+    ensures { option_map shape_of result ≡ state_at tokens.now }
+{
+    let Some((name, rest)) = assigned(tokens) else {
+        return None;
+    };
+    let first = number_alone(rest)?;
+    Some(Form::State(name, first))
+}
+
+#[tactic(auto, unfolding(crate::specs::Forms::sense_at))]
+fn sense<'t>(tokens: &'t [Token]) -> Option<Form<'t>>
+    ensures { option_map shape_of result ≡ sense_at tokens.now }
+{
+    let Some((name, rest)) = assigned(tokens) else {
+        return None;
+    };
+    let input = name_alone(rest)?;
+    Some(Form::Sense(name, input))
+}
+
+// What is left of a `read` line behind `pre`.
+#[tactic(auto, unfolding(crate::specs::Forms::port_read_at))]
+fn port_read<'t>(name: Name, delay: u32, tokens: &'t [Token]) -> Option<Form<'t>>
+    ensures { option_map shape_of result ≡ port_read_at name (pos delay) tokens.now }
+{
+    let Some((task, port, rest)) = port(tokens) else {
+        return None;
+    };
+    let at = tick_alone(rest)?;
+    Some(Form::Read(ReadForm {
+        name,
+        delay,
+        task,
+        port,
+        at,
+    }))
+}
+
+#[tactic(auto, unfolding(crate::specs::Forms::read_at))]
+fn read<'t>(tokens: &'t [Token]) -> Option<Form<'t>>
+    ensures { option_map shape_of result ≡ read_at tokens.now }
+{
+    let Some((name, behind)) = assigned(tokens) else {
+        return None;
+    };
+    let (delay, rest) = delay(behind);
+    port_read(name, delay, rest)
+}
+
+#[tactic(auto, unfolding(crate::specs::Forms::let_at))]
+fn let_form<'t>(tokens: &'t [Token]) -> Option<Form<'t>>
+    ensures { option_map shape_of result ≡ let_at tokens.now }
+{
+    let Some((name, rest)) = assigned(tokens) else {
+        return None;
+    };
+    Some(Form::Let(name, rest))
+}
+
+#[tactic(auto, unfolding(crate::specs::Forms::next_at))]
+fn next_form<'t>(tokens: &'t [Token]) -> Option<Form<'t>>
+    ensures { option_map shape_of result ≡ next_at tokens.now }
+{
+    let Some((name, rest)) = assigned(tokens) else {
+        return None;
+    };
+    Some(Form::Next(name, rest))
+}
+
+#[tactic(auto, unfolding(crate::specs::Forms::out_at))]
+fn out<'t>(tokens: &'t [Token]) -> Option<Form<'t>>
+    ensures { option_map shape_of result ≡ out_at tokens.now }
+{
+    let Some((name, behind)) = assigned(tokens) else {
+        return None;
+    };
+    let Some((first, rest)) = first_value(behind) else {
+        return None;
+    };
+    Some(Form::Out(name, first, rest))
+}
+
+// The form of a line that is the word alone.
+fn ending<'t>(word: Word, tokens: &'t [Token]) -> Option<Form<'t>>
+    ensures { option_map shape_of result ≡ ending_at word tokens.now }
+{
+    match tokens {
+        [] => match word {
+            Word::Trace => Some(Form::Trace),
+            Word::Script => Some(Form::Script),
+            Word::Done => Some(Form::Done),
+            _ => None,
+        },
+        _ => None,
+    }
+}
+
+// The form of a line that begins with the word, where lines before the tasks do.
+#[tactic(auto, unfolding(crate::specs::Forms::declared_at))]
+fn declared<'t>(word: Word, tokens: &'t [Token]) -> Option<Form<'t>>
+    ensures { option_map shape_of result ≡ declared_at word tokens.now }
+{
+    match word {
+        Word::Dbp => header(tokens),
+        Word::Policy => policy(tokens),
+        Word::Until => until(tokens),
+        Word::Input => input(tokens),
+        Word::Event => event(tokens),
+        _ => None,
+    }
+}
+
+// The form of a line that begins with the word.
+#[tactic(auto, unfolding(crate::specs::Forms::line_at))]
+fn line<'t>(word: Word, tokens: &'t [Token]) -> Option<Form<'t>>
+    ensures { option_map shape_of result ≡ line_at word tokens.now }
+{
+    match word {
+        Word::Task => task(tokens),
+        Word::State => state(tokens),
+        Word::Sense => sense(tokens),
+        Word::Read => read(tokens),
+        Word::Let => let_form(tokens),
+        Word::Next => next_form(tokens),
+        Word::Out => out(tokens),
+        Word::Trace | Word::Script | Word::Done => ending(word, tokens),
+        _ => declared(word, tokens),
+    }
+}
+
+/// The form of a line.
+#[tactic(auto, unfolding(crate::specs::Forms::shape_at))]
+pub(crate) fn form<'t>(tokens: &'t [Token]) -> Option<Form<'t>>
+    ensures { option_map shape_of result ≡ shape_at tokens.now }
+{
+    match tokens {
+        [] => Some(Form::Nothing),
+        [Token::Word(word), rest @ ..] => line(*word, rest),
+        _ => None,
+    }
+}

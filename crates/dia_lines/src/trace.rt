@@ -1,0 +1,87 @@
+// A line of the trace section.
+
+ghost use Rattle.std.specs.Prelude.{◌≡◌, ◌≤◌, false, length, IfOk, IfErr};
+ghost use Rattle.std.specs.List.{list_all, prefix_len, suffix_len};
+ghost use Rattle.dia_lines.specs.declared.fault.ReadCode.TheVariants.{BadByte};
+ghost use Rattle.dia_lines.specs.Sections.{is_space, is_trace_byte};
+ghost use Rattle.dia_lines.specs.Trimmed.{behind_spaces, before_spaces, trimmed};
+ghost use Rattle.dia_lines.specs.Lines.{Said, SaysInTrace};
+ghost use Rattle.dia_lines.specs.Held.{IsHeld};
+
+use crate::{Line, ReadCode};
+
+fn is_space_byte(byte: u8) -> bool
+    ensures { result ≡ is_space byte }
+{
+    matches!(byte, b' ' | b'\t')
+}
+
+fn is_allowed_byte(byte: u8) -> bool
+    ensures { result ≡ is_trace_byte byte }
+{
+    byte.is_ascii_alphanumeric() || matches!(byte, b'_' | b'-' | b',') || is_space_byte(byte)
+}
+
+fn all_allowed(line: &[u8]) -> bool
+    ensures { result ≡ list_all is_trace_byte line.now }
+{
+    line.iter().all(|byte| is_allowed_byte(*byte))
+}
+
+fn spaces_before(line: &[u8]) -> usize
+    ensures value { result ≡ prefix_len is_space line.now }
+    ensures within { result ≤ length line.now }
+{
+    line.iter().take_while(|byte| is_space_byte(**byte)).count()
+}
+
+fn spaces_behind(line: &[u8]) -> usize
+    ensures value { result ≡ suffix_len is_space line.now }
+    ensures within { result ≤ length line.now }
+{
+    line.iter()
+        .rev()
+        .take_while(|byte| is_space_byte(**byte))
+        .count()
+}
+
+fn trim_start(line: &[u8]) -> &[u8]
+    ensures { result.now ≡ behind_spaces line.now }
+{
+    let len = spaces_before(line);
+    &line[len..]
+}
+
+fn trim_end(text: &[u8]) -> &[u8]
+    ensures { result.now ≡ before_spaces text.now }
+{
+    let len = text.len() - spaces_behind(text);
+    &text[..len]
+}
+
+#[tactic(auto, unfolding(crate::specs::Trimmed::trimmed))]
+fn trim(line: &[u8]) -> &[u8]
+    ensures { result.now ≡ trimmed line.now }
+{
+    trim_end(trim_start(line))
+}
+
+/// What a line of the trace section says, or its fault.
+pub(crate) fn trace_line(line: &[u8]) -> Result<Line, ReadCode>
+    ensures found { IfOk result (λ l. (said : Said) × SaysInTrace line.now said × IsHeld said l) }
+    ensures fault { IfErr result (λ e. (e ≡ BadByte) × (list_all is_trace_byte line.now ≡ false)) }
+{
+    if !all_allowed(line) {
+        return Err(ReadCode::BadByte);
+    }
+    let text = trim(line);
+    if text.is_empty() {
+        Ok(Line::Nothing)
+    } else if text == b"done".as_slice() {
+        Ok(Line::Done)
+    } else if text == b"script".as_slice() {
+        Ok(Line::Script)
+    } else {
+        Ok(Line::Row)
+    }
+}
