@@ -1,0 +1,100 @@
+-- What is kept of a line that was read.
+use Rattle.std.proofs.Common.{◌≡◌, ◌≢◌, ℕ, ◌+◌, ◌*◌, ◌<◌, ◌≤◌, true, List, [], ◌∷◌, ◌++◌, length, filter, reverse, refl, ap, subst, arith}
+use Rattle.dia_tokens.specs.Pieces.{Piece}
+use Rattle.dia_tokens.specs.Spelling.{HasTokens, joined}
+use Rattle.dia_tokens.proofs.SpellingLaws.{joined-shorter}
+use Rattle.dia_tokens.specs.declared.token.Token.{Token}
+use Rattle.dia_tokens.specs.Lexes.{Lexes}
+use Rattle.dia_tokens.specs.Values.{HaveValues, none}
+use Rattle.dia_tokens.proofs.LexLaws.{Lexes-one}
+use Rattle.dia_lines.specs.declared.item.Part.{Part}
+use Rattle.dia_lines.specs.declared.item.Line.{Line}
+use Rattle.dia_lines.specs.declared.item.Line.TheVariants as line
+use Rattle.dia_lines.specs.declared.place.Place.TheVariants.{Body}
+use Rattle.dia_lines.specs.Held.{IsPart, IsKept, IsHeld}
+use Rattle.dia_lines.specs.Statements.{Statement, nothing}
+use Rattle.dia_lines.specs.Lines.{Said, says, row, step, place_behind, statements, Reads, of_the_diagram, of_the_trace, of_the_script, an_empty_row, trace_ends, script_begins, a_row, no_step, script_ends, a_step}
+use Rattle.dia_lines.specs.Limits.{is_task}
+use Rattle.dia_lines.proofs.PlaceLaws.{part-stands}
+use Rattle.dia_lines.proofs.TraceLaws.{row_is_line}
+use Rattle.dia_read.specs.Documents.{Run, no_line, a_line, kept_text}
+use Rattle.dia_read.specs.Drafts.{IsKeptText}
+use Rattle.dia_read.proofs.Bounds.{KeptFits}
+use Rattle.dia_read.proofs.Once.{Once, tasks_before}
+
+-- ---- runs
+
+pub run-more : (before after : List Said) (lines : List (List ℕ)) (line : List ℕ) (said : Said) → Run before lines after → Reads after line said → Run before (lines ++ line ∷ []) (said ∷ after)
+run-more before after lines line said (no_line b) r = a_line b (said ∷ b) line [] said r (no_line (said ∷ b))
+run-more before after lines line said (a_line b a l ls s q run) r = a_line b (said ∷ a) l (ls ++ line ∷ []) s q (run-more (s ∷ b) a ls line said run r)
+
+-- ---- what is kept of a line
+
+pub no-row : (s : Statement) → IsKept s line.Row → ⊥
+no-row nothing h = h
+no-row s h = h
+
+pub no-step : (s : Statement) → IsKept s line.Step → ⊥
+no-step nothing h = h
+no-step s h = h
+
+pub kept-is : (before : List Said) (bytes : List ℕ) (said : Said) (l : Line) → Reads before bytes said → IsHeld said l → IsKeptText bytes l (kept_text said)
+kept-is before bytes (row t) line.Row (of_the_trace b s here i) h = row_is_line bytes t i
+kept-is before bytes (row t) line.Row (of_the_script b s here i) h = elim i [ ]
+kept-is before bytes (step t) line.Step (of_the_script b s here (a_step c u ts e n o k)) h = k
+kept-is before bytes (step t) line.Step (of_the_trace b s here i) h = elim i [ ]
+kept-is before bytes (says s) line.Row r h = absurd (no-row s h)
+kept-is before bytes (says s) line.Step r h = absurd (no-step s h)
+kept-is before bytes (row t) line.Step r h = absurd h
+kept-is before bytes (step t) line.Row r h = absurd h
+kept-is before bytes x l r h = tt
+
+-- a line whose tokens are kept has some
+pub step-tokens : (before : List Said) (bytes : List ℕ) (said : Said) (l : Line) → Reads before bytes said → IsHeld said l → l ≡ line.Step → HasTokens bytes
+step-tokens before bytes said l r h e = go said r (subst (IsHeld said) e h)
+  where
+    go : (said : Said) → Reads before bytes said → IsHeld said line.Step → HasTokens bytes
+    go (says s) r h = absurd (no-step s h)
+    go (row t) r h = absurd h
+    go (step t) (of_the_script b s here (a_step c u ts e n o k)) h = record { texts = k.0; lexes = k.1 }
+    go (step t) (of_the_trace b s here i) h = elim i [ ]
+
+-- so much is kept of a line of so many bytes, where more bytes than these or none at all were read
+some-joined : (bytes : List ℕ) (ps : List Piece) (ts : List Token) (used : ℕ) → Lexes true bytes ps → HaveValues ps ts → ts ≢ [] → length bytes ≤ used → length (joined ps) + 1 ≤ 2 * used
+some-joined bytes [] ts used d v n w = absurd (n (no-values ts v))
+  where
+    no-values : (ts : List Token) → HaveValues [] ts → ts ≡ []
+    no-values [] none = refl
+    no-values (t ∷ us) v = elim v [ ]
+some-joined bytes (p ∷ ps) ts used d v n w = omega (arith, joined-shorter bytes p ps d)
+
+pub kept-fits : (before : List Said) (bytes : List ℕ) (said : Said) (l : Line) (used : ℕ) → Reads before bytes said → IsHeld said l → length bytes ≤ used → 0 < used → KeptFits l (kept_text said) (2 * used)
+kept-fits before bytes (row t) line.Row used (of_the_trace b s here i) h w p = omega (arith, ap length (row_is_line bytes t i))
+kept-fits before bytes (row t) line.Row used (of_the_script b s here i) h w p = elim i [ ]
+kept-fits before bytes (step t) line.Step used (of_the_script b s here (a_step c u ts e n o k)) h w p =
+    let same : e.texts ≡ k.0 = Lexes-one true bytes e.texts k.0 e.lexes k.1 in
+    rw k.2 (some-joined bytes k.0 ts used k.1 (subst (λ qs. HaveValues qs ts) same e.values) n w)
+kept-fits before bytes (step t) line.Step used (of_the_trace b s here i) h w p = elim i [ ]
+kept-fits before bytes (says s) line.Row used r h w p = absurd (no-row s h)
+kept-fits before bytes (says s) line.Step used r h w p = absurd (no-step s h)
+kept-fits before bytes (row t) line.Step used r h w p = absurd h
+kept-fits before bytes (step t) line.Row used r h w p = absurd h
+kept-fits before bytes x l used r h w p = tt
+
+pub kept-part : (s : Statement) (p : Part) → IsKept s (line.Part p) → IsPart s p
+kept-part nothing p h = h
+kept-part s p h = h
+
+-- a line of a body stands behind a task
+pub in-body : (before : List Said) (bytes : List ℕ) (said : Said) (p : Part) → Once (reverse before) (place_behind before) → Reads before bytes said → IsHeld said (line.Part p)
+    → 1 ≤ length (filter is_task (statements (reverse before)))
+in-body before bytes (says s) p o (of_the_diagram b t e i) h =
+    let here : place_behind before ≡ Body = part-stands (place_behind before) i.stands.next s p i.stands.stands (kept-part s p h) in
+    subst (λ q. tasks_before q ≤ length (filter is_task (statements (reverse before)))) here o.task_line
+in-body before bytes x p o (of_the_trace b t e (an_empty_row c i)) h = absurd h
+in-body before bytes x p o (of_the_trace b t e (trace_ends c i)) h = absurd h
+in-body before bytes x p o (of_the_trace b t e (script_begins c i)) h = absurd h
+in-body before bytes x p o (of_the_trace b t e (a_row c i j)) h = absurd h
+in-body before bytes x p o (of_the_script b t e (no_step c i)) h = absurd h
+in-body before bytes x p o (of_the_script b t e (script_ends c i)) h = absurd h
+in-body before bytes x p o (of_the_script b t e (a_step c u ts i n m k)) h = absurd h

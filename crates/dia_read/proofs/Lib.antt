@@ -1,0 +1,14 @@
+pub mod OneMore
+pub mod Once
+pub mod Fitting
+pub mod Holding
+pub mod Bounds
+pub mod Paired
+pub mod KeptLines
+pub mod Printing
+pub mod Reaching
+pub mod RunLaws
+pub mod Ending
+pub mod DocumentLaws
+pub mod FaultLaws
+pub mod Outcomes

@@ -1,0 +1,513 @@
+-- A draft holds what can be printed.
+use Rattle.std.proofs.Common.{◌≡◌, ℕ, ℤ, pos, ◌+◌, ◌≤◌, Bool, true, false, cond, All, List, [], ◌∷◌, ◌++◌, length, filter, Option, Some, None, refl, sym, ap, ◌∙◌, subst, append_assoc, arith, length-append}
+use Rattle.std.specs.Prelude.{nat_le, int_le, ◌&&◌, count_by, sum_by}
+use Rattle.std.specs.Option.{IfSome, option_to_list, option_map}
+use Rattle.std.proofs.lemmas.Bool.Decides.{nat_tests}
+use Rattle.std.proofs.lemmas.Int.{ints}
+use Rattle.std.proofs.lemmas.List.Elements.{All-push, All-append}
+use Rattle.std.proofs.lemmas.List.Sums.{sum_by-append}
+use Rattle.dbp_plan.specs.declared.limits.TheConstants.{MAX_TASKS, MAX_INPUTS, MAX_EVENTS, MAX_READS, MAX_READ_LINES, MAX_OUTS, MAX_BODY, MAX_TIME, MAX_PRIO}
+use Rattle.dbp_plan.specs.declared.expr.Expr.{Expr}
+use Rattle.dbp_plan.specs.Limits.{max_delay, max_delay-is}
+use Rattle.dbp_plan.specs.Expr.{IsExprOf}
+use Rattle.dbp_plan.specs.Tree.{Tree}
+use Rattle.dia_tokens.specs.declared.token.Token.{Token}
+use Rattle.dia_tokens.proofs.SpellingLaws.{free-names, spells-again, spelled-again}
+use Rattle.dia_lines.specs.declared.fault.ReadCode.TheVariants.{LimitHit}
+use Rattle.dia_lines.specs.declared.fault.Limit.{Limit}
+use Rattle.dia_lines.specs.declared.fault.Limit.TheVariants as limit
+use Rattle.dia_lines.specs.declared.item.Decl.{Decl}
+use Rattle.dia_lines.specs.declared.item.Decl.TheVariants.{Input, Event}
+use Rattle.dia_lines.specs.declared.item.Line.{Line}
+use Rattle.dia_lines.specs.declared.item.Line.TheVariants as line
+use Rattle.dia_lines.specs.declared.item.Part.{Part}
+use Rattle.dia_lines.specs.declared.item.Part.TheVariants as part
+use Rattle.dia_lines.specs.declared.item.RawClock.{RawClock}
+use Rattle.dia_lines.specs.declared.item.RawClock.TheVariants.{Every, On}
+use Rattle.dia_lines.specs.declared.item.TaskLine.{TaskLine}
+use Rattle.dia_lines.specs.Statements.{Statement, Clock, every, on, nothing, header, policy, until, input, event, task, state, sense, read, a_let, a_next, out, trace, script, done, direct, delayed, IsStatement, a_blank_line, a_read}
+use Rattle.dia_lines.specs.Places.{is_body}
+use Rattle.dia_lines.specs.Limits.{lies_within, option_lies_within, clock_fits, numbers_fit, is_input, is_event, is_task, is_read, is_out, of_this_task, passed_count}
+use Rattle.dia_lines.specs.Lines.{Said, says, row, step, statements, limit_fault, SaysInTrace, an_empty_row, trace_ends, script_begins, a_row, SaysInScript, no_step, script_ends, a_step, Reads, of_the_diagram, of_the_trace, of_the_script}
+use Rattle.dia_lines.specs.Held.{IsDecl, IsClock, IsTaskLine, IsPart, IsKept, IsHeld}
+use Rattle.dia_exprs.specs.FreeNames.{IsFreeTree}
+use Rattle.dia_exprs.proofs.FreeNames.{free-nodes}
+use Rattle.dia_lines.proofs.FreeNames.{IsFreeClock, IsFreeStatement, free-statement}
+use Rattle.dia_read.specs.declared.document.RawTask.{RawTask}
+use Rattle.dia_read.specs.declared.draft.Draft.{Draft}
+use Rattle.dia_read.specs.declared.draft.Section.{Section}
+use Rattle.dia_read.specs.Documents.{kept_text}
+use Rattle.dia_read.specs.Drafts.{empty_draft, task_of, with_part, drafted, section_text, finished}
+use Rattle.dia_read.specs.Printable.{HasFreeNames, IsPrintableDecl, IsPrintableClock, IsPrintablePart, is_input_decl, is_event_decl, is_read_part, is_out_part, IsPrintableTask, ended_lines, KeepsItself, IsPrintable}
+use Rattle.dia_read.proofs.Holding.{all_tasks}
+use Rattle.dia_read.proofs.KeptLines.{kept-part, no-row, no-step}
+
+free-expr : (x : Tree (List ℕ)) (e : Expr (List ℕ)) → IsFreeTree x → IsExprOf e x → HasFreeNames e
+free-expr x e f is = rw is (free-nodes 0 x f)
+
+-- ---- counts
+
+count-more : {A : Type 0} (p : A → Bool) (xs : List A) (x : A) → count_by p (xs ++ x ∷ []) ≡ count_by p xs + count_by p (x ∷ [])
+count-more p xs x = sum_by-append (λ y. cond (p y) 1 0) xs (x ∷ [])
+
+-- a count that isn't full has room for one more
+below : (count most : ℕ) → nat_le most count ≡ false → count + 1 ≤ most
+below count most e = grind (arith, nat_tests)
+
+-- ---- what a line promises
+
+-- the delay of a read
+abbrev pub HasShortDelay : Statement → Type 0
+HasShortDelay (read n d w p a) = lies_within d 0 max_delay ≡ true
+HasShortDelay _ = Unit {0}
+
+-- the numbers and the counts of a statement behind those before it, and its names
+pub record IsSound (before : List Statement) (s : Statement) : Type 0 where
+  pub free : IsFreeStatement s
+  pub numbers : numbers_fit s ≡ true
+  pub counts : passed_count before s ≡ None
+  pub delay : HasShortDelay s
+
+both : (a b : Bool) → (a && b) ≡ true → (a ≡ true) × (b ≡ true)
+both true b e = (refl, e)
+both false b e = absurd cc
+
+within : (n least greatest : ℕ) (z : ℤ) → z ≡ pos n → lies_within z least greatest ≡ true → (least ≤ n) × (n ≤ greatest)
+within n least greatest z e h =
+    let at : lies_within (pos n) least greatest ≡ true = subst (λ v. lies_within v least greatest ≡ true) e h in
+    let each = both (int_le (pos least) (pos n)) (int_le (pos n) (pos greatest)) at in
+    (let k = each.0 in grind (arith, ints, nat_tests), let k = each.1 in grind (arith, ints, nat_tests))
+
+decl-prints : (s : Statement) (d : Decl) → IsDecl s d → IsFreeStatement s → IsPrintableDecl d
+decl-prints (input n v) (Input m w) (a, b) f = rw (← a) f
+decl-prints (event n) (Event m) a f = rw (← a) f
+decl-prints (input n v) (Event m) a f = absurd a
+decl-prints (event n) (Input m w) a f = absurd a
+decl-prints s d a f = absurd a
+
+part-prints : (s : Statement) (p : Part) → IsPart s p → IsFreeStatement s → numbers_fit s ≡ true → HasShortDelay s → IsPrintablePart p
+part-prints (state n v) (part.State m w) (a, b) f h l = rw (← a) f
+part-prints (sense n v) (part.Sense m w) (a, b) f h l = rw (← a, ← b) f
+part-prints (read n d w p at) (part.Read m k t q i) (a, b, c, e, g) f h l = (rw (← a) f.0, (within k 0 max_delay d b l).1, rw (← c) f.1, rw (← e) f.2, (within i 0 MAX_TIME at g h).1)
+part-prints (a_let n x) (part.Let m e) (a, b) f h l = (rw (← a) f.0, free-expr x e f.1 b)
+part-prints (a_next n x) (part.Next m e) (a, b) f h l = (rw (← a) f.0, free-expr x e f.1 b)
+part-prints (out n v x) (part.Out m w e) (a, b, c) f h l = (rw (← a) f.0, free-expr x e f.1 c)
+part-prints (state n v) p a f h l = absurd a
+part-prints (sense n v) p a f h l = absurd a
+part-prints (read n d w p at) q a f h l = absurd a
+part-prints (a_let n x) p a f h l = absurd a
+part-prints (a_next n x) p a f h l = absurd a
+part-prints (out n v x) p a f h l = absurd a
+part-prints s p a f h l = absurd a
+
+option-within : (o : Option ℕ) (z : Option ℤ) (least greatest : ℕ) → z ≡ option_map pos o → option_lies_within z least greatest ≡ true → IfSome o (λ n. (least ≤ n) × (n ≤ greatest))
+option-within None z least greatest e h = tt
+option-within (Some n) z least greatest e h = within n least greatest (pos n) refl (subst (λ o. option_lies_within o least greatest ≡ true) e h)
+
+clock-prints : (k : Clock) (c : RawClock) → IsClock k c → IsFreeClock k → clock_fits k ≡ true → IsPrintableClock c
+clock-prints (every p o) (Every r s) (a, b) f h =
+    let each = both (lies_within p 1 MAX_TIME) (lies_within o 0 MAX_TIME) h in
+    let period = within r 1 MAX_TIME p a each.0 in
+    (period.0, period.1, (within s 0 MAX_TIME o b each.1).1)
+clock-prints (on e) (On m) a f h = rw (← a) f
+clock-prints (every p o) (On m) a f h = absurd a
+clock-prints (on e) (Every r s) a f h = absurd a
+
+task-prints : (s : Statement) (t : TaskLine) → IsTaskLine s t → IsFreeStatement s → numbers_fit s ≡ true → IsPrintableTask (task_of t)
+task-prints (task n k q d w) t (a, b, c, e, g) f h =
+    let one = both (clock_fits k && option_lies_within q 0 MAX_PRIO && option_lies_within d 1 MAX_TIME) (lies_within w 1 MAX_TIME) h in
+    let two = both (clock_fits k && option_lies_within q 0 MAX_PRIO) (option_lies_within d 1 MAX_TIME) one.0 in
+    let three = both (clock_fits k) (option_lies_within q 0 MAX_PRIO) two.0 in
+    record {
+      named = rw (← a) f.0;
+      clock = clock-prints k t.clock b f.1 three.0;
+      prio = upper t.prio MAX_PRIO (option-within t.prio q 0 MAX_PRIO c three.1);
+      deadline = option-within t.deadline d 1 MAX_TIME e two.1;
+      cost = within t.cost 1 MAX_TIME w g one.1;
+      parts = λ j x l. absurd (omega arith);
+      body = omega arith;
+      reads = omega arith;
+      outs = omega arith;
+    }
+  where
+    upper : (o : Option ℕ) (most : ℕ) → IfSome o (λ v. (0 ≤ v) × (v ≤ most)) → IfSome o (λ v. v ≤ most)
+    upper None most h = tt
+    upper (Some v) most h = h.1
+task-prints s t a f h = absurd a
+
+-- ---- a draft
+
+abbrev pub reads_of : RawTask → ℕ
+reads_of t = count_by is_read_part t.parts
+
+-- the latest task can be printed, and its lines are those of the statements behind the line that begins it
+pub record IsLatest (ss : List Statement) (t : RawTask) : Type 0 where
+  pub prints : IsPrintableTask t
+  pub body : length t.parts ≡ length (filter is_body (of_this_task ss))
+  pub reads : reads_of t ≡ length (filter is_read (of_this_task ss))
+  pub outs : count_by is_out_part t.parts ≡ length (filter is_out (of_this_task ss))
+
+-- behind the statements, of which the latest is the first, the draft can be printed
+pub record Prints (ss : List Statement) (d : Draft) : Type 0 where
+  pub until : d.until ≤ MAX_TIME
+  pub decls : All IsPrintableDecl d.decls
+  pub inputs : count_by is_input_decl d.decls ≡ length (filter is_input ss)
+  pub events : count_by is_event_decl d.decls ≡ length (filter is_event ss)
+  pub few_inputs : length (filter is_input ss) ≤ MAX_INPUTS
+  pub few_events : length (filter is_event ss) ≤ MAX_EVENTS
+  pub earlier : All IsPrintableTask d.tasks.earlier
+  pub latest : IfSome d.tasks.latest (IsLatest ss)
+  pub tasks : length (all_tasks d.tasks) ≡ length (filter is_task ss)
+  pub few_tasks : length (filter is_task ss) ≤ MAX_TASKS
+  pub links : sum_by reads_of (all_tasks d.tasks) ≡ length (filter is_read ss)
+  pub few_links : length (filter is_read ss) ≤ MAX_READ_LINES
+
+-- the counts that a statement may not pass
+record HasCounts (before : List Statement) (s : Statement) : Type 0 where
+  inputs : is_input s ≡ true → length (filter is_input before) + 1 ≤ MAX_INPUTS
+  events : is_event s ≡ true → length (filter is_event before) + 1 ≤ MAX_EVENTS
+  tasks : is_task s ≡ true → length (filter is_task before) + 1 ≤ MAX_TASKS
+  body : is_body s ≡ true → length (filter is_body (of_this_task before)) + 1 ≤ MAX_BODY
+  reads : is_read s ≡ true → length (filter is_read (of_this_task before)) + 1 ≤ MAX_READS
+  links : is_read s ≡ true → length (filter is_read before) + 1 ≤ MAX_READ_LINES
+  outs : is_out s ≡ true → length (filter is_out (of_this_task before)) + 1 ≤ MAX_OUTS
+
+-- a chain of tests that gives none has none that holds
+first-free : (a : Bool) (l : Limit) (rest : Option Limit) → cond a (Some l) rest ≡ None → (a ≡ false) × (rest ≡ None)
+first-free true l rest e = absurd cc
+first-free false l rest e = (refl, e)
+
+room : (a : Bool) (count most : ℕ) → (a && nat_le most count) ≡ false → a ≡ true → count + 1 ≤ most
+room a count most e h = below count most (rw h at e)
+
+counts-of : (before : List Statement) (s : Statement) → passed_count before s ≡ None → HasCounts before s
+counts-of before s e =
+    let one = first-free _ limit.Inputs _ e in
+    let two = first-free _ limit.Events _ one.1 in
+    let three = first-free _ limit.Tasks _ two.1 in
+    let four = first-free _ limit.Body _ three.1 in
+    let five = first-free _ limit.Reads _ four.1 in
+    let six = first-free _ limit.Links _ five.1 in
+    let seven = first-free _ limit.Outs _ six.1 in
+    record {
+      inputs = room (is_input s) _ MAX_INPUTS one.0;
+      events = room (is_event s) _ MAX_EVENTS two.0;
+      tasks = room (is_task s) _ MAX_TASKS three.0;
+      body = room (is_body s) _ MAX_BODY four.0;
+      reads = room (is_read s) _ MAX_READS five.0;
+      links = room (is_read s) _ MAX_READ_LINES six.0;
+      outs = room (is_out s) _ MAX_OUTS seven.0;
+    }
+
+kept-decl : (s : Statement) (x : Decl) → IsKept s (line.Decl x) → IsDecl s x
+kept-decl nothing x k = k
+kept-decl s x k = k
+
+kept-task : (s : Statement) (t : TaskLine) → IsKept s (line.Task t) → IsTaskLine s t
+kept-task nothing t k = k
+kept-task s t k = k
+
+-- ---- one more statement
+
+latest-kept : (o : Option RawTask) (ss ts : List Statement) → filter is_body (of_this_task ts) ≡ filter is_body (of_this_task ss) → filter is_read (of_this_task ts) ≡ filter is_read (of_this_task ss)
+    → filter is_out (of_this_task ts) ≡ filter is_out (of_this_task ss) → IfSome o (IsLatest ss) → IfSome o (IsLatest ts)
+latest-kept None ss ts b r u h = tt
+latest-kept (Some t) ss ts b r u h = record { prints = h.prints; body = rw b h.body; reads = rw r h.reads; outs = rw u h.outs }
+
+-- a statement that is counted nowhere
+prints-kept : (ss ts : List Statement) (d e : Draft) → filter is_input ts ≡ filter is_input ss → filter is_event ts ≡ filter is_event ss → filter is_task ts ≡ filter is_task ss → filter is_read ts ≡ filter is_read ss
+    → filter is_body (of_this_task ts) ≡ filter is_body (of_this_task ss) → filter is_read (of_this_task ts) ≡ filter is_read (of_this_task ss) → filter is_out (of_this_task ts) ≡ filter is_out (of_this_task ss)
+    → e.until ≤ MAX_TIME → e.decls ≡ d.decls → e.tasks ≡ d.tasks → Prints ss d → Prints ts e
+prints-kept ss ts d e i v t r b c u end decls tasks p = record {
+  until = end;
+  decls = rw decls p.decls;
+  inputs = rw (decls, i) p.inputs;
+  events = rw (decls, v) p.events;
+  few_inputs = rw i p.few_inputs;
+  few_events = rw v p.few_events;
+  earlier = rw tasks p.earlier;
+  latest = rw tasks (latest-kept d.tasks.latest ss ts b c u p.latest);
+  tasks = rw (tasks, t) p.tasks;
+  few_tasks = rw t p.few_tasks;
+  links = rw (tasks, r) p.links;
+  few_links = rw r p.few_links;
+}
+
+decl-more : (ss : List Statement) (s : Statement) (x : Decl) (d : Draft) (n : ℕ) → Prints ss d → IsDecl s x → IsFreeStatement s → HasCounts ss s → Prints (s ∷ ss) (drafted d n [] (line.Decl x))
+decl-more ss (input m v) (Input k w) d n p i f c = record {
+  until = p.until;
+  decls = All-push IsPrintableDecl d.decls (Input k w) p.decls (decl-prints (input m v) (Input k w) i f);
+  inputs = omega (arith, count-more is_input_decl d.decls (Input k w), p.inputs);
+  events = omega (arith, count-more is_event_decl d.decls (Input k w), p.events);
+  few_inputs = omega (arith, c.inputs refl);
+  few_events = p.few_events;
+  earlier = p.earlier;
+  latest = latest-kept d.tasks.latest ss (input m v ∷ ss) refl refl refl p.latest;
+  tasks = p.tasks;
+  few_tasks = p.few_tasks;
+  links = p.links;
+  few_links = p.few_links;
+}
+decl-more ss (event m) (Event k) d n p i f c = record {
+  until = p.until;
+  decls = All-push IsPrintableDecl d.decls (Event k) p.decls (decl-prints (event m) (Event k) i f);
+  inputs = omega (arith, count-more is_input_decl d.decls (Event k), p.inputs);
+  events = omega (arith, count-more is_event_decl d.decls (Event k), p.events);
+  few_inputs = p.few_inputs;
+  few_events = omega (arith, c.events refl);
+  earlier = p.earlier;
+  latest = latest-kept d.tasks.latest ss (event m ∷ ss) refl refl refl p.latest;
+  tasks = p.tasks;
+  few_tasks = p.few_tasks;
+  links = p.links;
+  few_links = p.few_links;
+}
+decl-more ss (input m v) (Event k) d n p i f c = absurd i
+decl-more ss (event m) (Input k w) d n p i f c = absurd i
+decl-more ss s x d n p i f c = absurd i
+
+all-latest : (o : Option RawTask) (ss : List Statement) → IfSome o (IsLatest ss) → All IsPrintableTask (option_to_list o)
+all-latest None ss h = λ k x l. absurd (omega arith)
+all-latest (Some t) ss h = All-push IsPrintableTask [] t (λ k x l. absurd (omega arith)) h.prints
+
+task-line-more : (ss : List Statement) (s : Statement) (t : TaskLine) (d : Draft) (n : ℕ) → Prints ss d → IsTaskLine s t → IsFreeStatement s → numbers_fit s ≡ true → HasCounts ss s → Prints (s ∷ ss) (drafted d n [] (line.Task t))
+task-line-more ss (task m k q x w) t d n p i f h c = record {
+  until = p.until;
+  decls = p.decls;
+  inputs = p.inputs;
+  events = p.events;
+  few_inputs = p.few_inputs;
+  few_events = p.few_events;
+  earlier = All-append IsPrintableTask d.tasks.earlier (option_to_list d.tasks.latest) p.earlier (all-latest d.tasks.latest ss p.latest);
+  latest = record { prints = task-prints (task m k q x w) t i f h; body = refl; reads = refl; outs = refl };
+  tasks = omega (arith, length-append (all_tasks d.tasks) (task_of t ∷ []), p.tasks);
+  few_tasks = omega (arith, c.tasks refl);
+  links = sum_by-append reads_of (all_tasks d.tasks) (task_of t ∷ []) ∙ omega (arith, p.links);
+  few_links = p.few_links;
+}
+task-line-more ss s t d n p i f h c = absurd i
+
+-- ---- one more line of a body
+
+record IsPartKind (s : Statement) (p : Part) : Type 0 where
+  body : is_body s ≡ true
+  no_task : is_task s ≡ false
+  no_input : is_input s ≡ false
+  no_event : is_event s ≡ false
+  reads : is_read_part p ≡ is_read s
+  outs : is_out_part p ≡ is_out s
+
+part-kind : (s : Statement) (p : Part) → IsPart s p → IsPartKind s p
+part-kind (state n v) (part.State m w) i = record { body = refl; no_task = refl; no_input = refl; no_event = refl; reads = refl; outs = refl }
+part-kind (sense n v) (part.Sense m w) i = record { body = refl; no_task = refl; no_input = refl; no_event = refl; reads = refl; outs = refl }
+part-kind (read n d w o a) (part.Read m k t q b) i = record { body = refl; no_task = refl; no_input = refl; no_event = refl; reads = refl; outs = refl }
+part-kind (a_let n x) (part.Let m e) i = record { body = refl; no_task = refl; no_input = refl; no_event = refl; reads = refl; outs = refl }
+part-kind (a_next n x) (part.Next m e) i = record { body = refl; no_task = refl; no_input = refl; no_event = refl; reads = refl; outs = refl }
+part-kind (out n v x) (part.Out m w e) i = record { body = refl; no_task = refl; no_input = refl; no_event = refl; reads = refl; outs = refl }
+part-kind s p i = absurd i
+
+counted : (kind : Statement → Bool) (s : Statement) (ss : List Statement) → length (filter kind (s ∷ ss)) ≡ length (filter kind ss) + cond (kind s) 1 0
+counted kind s ss = go (kind s)
+  where
+    go : (b : Bool) → length (cond b (s ∷ filter kind ss) (filter kind ss)) ≡ length (filter kind ss) + cond b 1 0
+    go true = omega arith
+    go false = omega arith
+
+still-few : (b : Bool) (count most : ℕ) → count ≤ most → (b ≡ true → count + 1 ≤ most) → count + cond b 1 0 ≤ most
+still-few true count most h k = k refl
+still-few false count most h k = omega arith
+
+this-task : (s : Statement) (ss : List Statement) → is_task s ≡ false → of_this_task (s ∷ ss) ≡ s ∷ of_this_task ss
+this-task s ss e = rw e refl
+
+part-line-more : (ss : List Statement) (s : Statement) (x : Part) (d : Draft) (n : ℕ) (t : RawTask) → d.tasks.latest ≡ Some t → Prints ss d → IsPart s x → IsFreeStatement s → numbers_fit s ≡ true → HasShortDelay s → HasCounts ss s
+    → Prints (s ∷ ss) (drafted d n [] (line.Part x))
+part-line-more ss s x d n t found p i f h l c =
+    let k = part-kind s x i in
+    let latest : IsLatest ss t = subst (λ (o : Option RawTask). IfSome o (IsLatest ss)) found p.latest in
+    let here = of_this_task ss in
+    let reads : reads_of (with_part x t) ≡ reads_of t + cond (is_read s) 1 0 = count-more is_read_part t.parts x ∙ rw k.reads (omega arith) in
+    let outs : count_by is_out_part (with_part x t).parts ≡ count_by is_out_part t.parts + cond (is_out s) 1 0 = count-more is_out_part t.parts x ∙ rw k.outs (omega arith) in
+    let one : cond {A = ℕ} (is_body s) 1 0 ≡ 1 = rw k.body refl in
+    let size : length (with_part x t).parts ≡ length t.parts + 1 = length-append t.parts (x ∷ []) in
+    let all : sum_by reads_of (d.tasks.earlier ++ with_part x t ∷ []) ≡ sum_by reads_of (d.tasks.earlier ++ t ∷ []) + cond (is_read s) 1 0 = omega (arith, sum_by-append reads_of d.tasks.earlier (with_part x t ∷ []), sum_by-append reads_of d.tasks.earlier (t ∷ []), reads) in
+    let before : sum_by reads_of (d.tasks.earlier ++ t ∷ []) ≡ length (filter is_read ss) = subst (λ (o : Option RawTask). sum_by reads_of (d.tasks.earlier ++ option_to_list o) ≡ length (filter is_read ss)) found p.links in
+    let many : length (d.tasks.earlier ++ t ∷ []) ≡ length (filter is_task ss) = subst (λ (o : Option RawTask). length (d.tasks.earlier ++ option_to_list o) ≡ length (filter is_task ss)) found p.tasks in
+    let latest_reads : reads_of t ≤ MAX_READS = latest.prints.reads in
+    let latest_outs : count_by is_out_part t.parts ≤ MAX_OUTS = latest.prints.outs in
+    record {
+      until = p.until;
+      decls = p.decls;
+      inputs = rw k.no_input p.inputs;
+      events = rw k.no_event p.events;
+      few_inputs = rw k.no_input p.few_inputs;
+      few_events = rw k.no_event p.few_events;
+      earlier = p.earlier;
+      latest = rw found (record {
+        prints = record {
+          named = latest.prints.named;
+          clock = latest.prints.clock;
+          prio = latest.prints.prio;
+          deadline = latest.prints.deadline;
+          cost = latest.prints.cost;
+          parts = All-push IsPrintablePart t.parts x latest.prints.parts (part-prints s x i f h l);
+          body = omega (arith, size, c.body k.body, latest.body);
+          reads = rw reads (still-few (is_read s) (reads_of t) MAX_READS latest_reads (λ e. omega (arith, c.reads e, latest.reads)));
+          outs = rw outs (still-few (is_out s) (count_by is_out_part t.parts) MAX_OUTS latest_outs (λ e. omega (arith, c.outs e, latest.outs)));
+        };
+        body = rw (this-task s ss k.no_task) (size ∙ omega (arith, counted is_body s here, latest.body, one));
+        reads = rw (this-task s ss k.no_task) (reads ∙ omega (arith, counted is_read s here, latest.reads));
+        outs = rw (this-task s ss k.no_task) (outs ∙ omega (arith, counted is_out s here, latest.outs));
+      });
+      tasks = rw (found, k.no_task) (omega (arith, many, length-append d.tasks.earlier (with_part x t ∷ []), length-append d.tasks.earlier (t ∷ [])));
+      few_tasks = rw k.no_task p.few_tasks;
+      links = rw found (all ∙ omega (arith, before, counted is_read s ss));
+      few_links = rw (counted is_read s ss) (still-few (is_read s) (length (filter is_read ss)) MAX_READ_LINES p.few_links c.links);
+    }
+
+-- ---- one more line
+
+ended-more : (lines : List (List ℕ)) (bytes : List ℕ) → ended_lines (lines ++ bytes ∷ []) ≡ ended_lines lines ++ bytes ++ 10 ∷ []
+ended-more [] bytes = refl
+ended-more (line ∷ lines) bytes = ap (λ bs. line ++ 10 ∷ bs) (ended-more lines bytes) ∙ simp append_assoc
+
+keeps-more : (Says : List ℕ → Said → Type 0) (kept : List ℕ → Said) (text bytes : List ℕ) → KeepsItself Says kept text → Says bytes (kept bytes) → KeepsItself Says kept (text ++ bytes ++ 10 ∷ [])
+keeps-more Says kept text bytes (lines, is, each) says_so =
+    (lines ++ bytes ∷ [], rw is (sym (ended-more lines bytes)), All-push (λ line. Says line (kept line)) lines bytes each says_so)
+
+-- what a line promises of what is kept of it
+abbrev pub IsSoundLine : List Statement → Said → Type 0
+IsSoundLine before (says s) = IsSound before s
+IsSoundLine before (row text) = SaysInTrace text (row text)
+IsSoundLine before (step text) = SaysInScript text (step text)
+
+-- a line of a body needs a task
+abbrev pub HasLatest : Draft → Line → Type 0
+HasLatest d (line.Part p) = (t : RawTask) × (d.tasks.latest ≡ Some t)
+HasLatest d _ = Unit {0}
+
+pub record PrintsAll (ss : List Statement) (d : Draft) : Type 0 where
+  pub items : Prints ss d
+  pub trace : KeepsItself SaysInTrace row d.trace.text
+  pub script : KeepsItself SaysInScript step d.script.text
+
+same-statement : (ss : List Statement) (s : Statement) (d e : Draft) → Prints ss d
+    → filter is_input (s ∷ ss) ≡ filter is_input ss → filter is_event (s ∷ ss) ≡ filter is_event ss → filter is_task (s ∷ ss) ≡ filter is_task ss → filter is_read (s ∷ ss) ≡ filter is_read ss
+    → filter is_body (of_this_task (s ∷ ss)) ≡ filter is_body (of_this_task ss) → filter is_read (of_this_task (s ∷ ss)) ≡ filter is_read (of_this_task ss) → filter is_out (of_this_task (s ∷ ss)) ≡ filter is_out (of_this_task ss)
+    → e.until ≤ MAX_TIME → e.decls ≡ d.decls → e.tasks ≡ d.tasks → Prints (s ∷ ss) e
+same-statement ss s d e p i v t r b c u end decls tasks = prints-kept ss (s ∷ ss) d e i v t r b c u end decls tasks p
+
+prints-stated : (ss : List Statement) (s : Statement) (l : Line) (d : Draft) (n : ℕ) → Prints ss d → IsSound ss s → IsKept s l → HasLatest d l → Prints (s ∷ ss) (drafted d n [] l)
+prints-stated ss nothing line.Nothing d n p i k h = same-statement ss nothing d d p refl refl refl refl refl refl refl p.until refl refl
+prints-stated ss header line.Header d n p i k h = same-statement ss header d d p refl refl refl refl refl refl refl p.until refl refl
+prints-stated ss (policy x) (line.Policy y) d n p i k h = same-statement ss (policy x) d (drafted d n [] (line.Policy y)) p refl refl refl refl refl refl refl p.until refl refl
+prints-stated ss (until x) (line.Until y) d n p i k h = same-statement ss (until x) d (drafted d n [] (line.Until y)) p refl refl refl refl refl refl refl (within y 0 MAX_TIME x k i.numbers).1 refl refl
+prints-stated ss trace line.Trace d n p i k h = same-statement ss trace d (drafted d n [] line.Trace) p refl refl refl refl refl refl refl p.until refl refl
+prints-stated ss script line.Script d n p i k h = same-statement ss script d (drafted d n [] line.Script) p refl refl refl refl refl refl refl p.until refl refl
+prints-stated ss done line.Done d n p i k h = same-statement ss done d (drafted d n [] line.Done) p refl refl refl refl refl refl refl p.until refl refl
+prints-stated ss s (line.Decl x) d n p i k h = decl-more ss s x d n p (kept-decl s x k) i.free (counts-of ss s i.counts)
+prints-stated ss s (line.Task t) d n p i k h = task-line-more ss s t d n p (kept-task s t k) i.free i.numbers (counts-of ss s i.counts)
+prints-stated ss s (line.Part x) d n p i k h = part-line-more ss s x d n h.0 h.1 p (kept-part s x k) i.free i.numbers i.delay (counts-of ss s i.counts)
+prints-stated ss s l d n p i k h = absurd k
+
+-- a section's line leaves the items
+prints-same : {ss : List Statement} {d e : Draft} → Prints ss d → e.until ≡ d.until → e.decls ≡ d.decls → e.tasks ≡ d.tasks → Prints ss e
+prints-same {ss} {d} {e} p end decls tasks =
+    prints-kept ss ss d e refl refl refl refl refl refl refl (rw end p.until) decls tasks p
+
+-- a statement keeps nothing in a section
+sections-stay : (s : Statement) (l : Line) (d : Draft) (n : ℕ) → IsKept s l → ((drafted d n [] l).trace.text ≡ d.trace.text) × ((drafted d n [] l).script.text ≡ d.script.text)
+sections-stay s line.Nothing d n k = (refl, refl)
+sections-stay s line.Header d n k = (refl, refl)
+sections-stay s (line.Policy x) d n k = (refl, refl)
+sections-stay s (line.Until x) d n k = (refl, refl)
+sections-stay s (line.Decl x) d n k = (refl, refl)
+sections-stay s (line.Task x) d n k = (refl, refl)
+sections-stay s (line.Part x) d n k = (refl, refl)
+sections-stay s line.Trace d n k = (refl, refl)
+sections-stay s line.Script d n k = (refl, refl)
+sections-stay s line.Done d n k = (refl, refl)
+sections-stay s line.Row d n k = absurd (no-row s k)
+sections-stay s line.Step d n k = absurd (no-step s k)
+
+pub prints-more : (before : List Said) (x : Said) (l : Line) (d : Draft) (n : ℕ) → PrintsAll (statements before) d → IsSoundLine (statements before) x → IsHeld x l → HasLatest d l
+    → PrintsAll (statements (x ∷ before)) (drafted d n (kept_text x) l)
+prints-more before (says s) l d n p i k h = record { items = prints-stated (statements before) s l d n p.items i k h; trace = rw (sections-stay s l d n k).0 p.trace; script = rw (sections-stay s l d n k).1 p.script }
+prints-more before (row t) line.Row d n p i k h =
+    record { items = prints-same p.items refl refl refl; trace = keeps-more SaysInTrace row d.trace.text t p.trace i; script = p.script }
+prints-more before (step t) line.Step d n p i k h =
+    record { items = prints-same p.items refl refl refl; trace = p.trace; script = keeps-more SaysInScript step d.script.text t p.script i }
+prints-more before x l d n p i k h = absurd k
+
+section-prints : (Says : List ℕ → Said → Type 0) (kept : List ℕ → Said) (s : Section) → KeepsItself Says kept s.text → IfSome (section_text s) (KeepsItself Says kept)
+section-prints Says kept s h = go s.begun
+  where
+    go : (b : Bool) → IfSome (cond b (Some s.text) None) (KeepsItself Says kept)
+    go true = h
+    go false = tt
+
+pub prints-end : (ss : List Statement) (d : Draft) → PrintsAll ss d → IsPrintable (finished d).body
+prints-end ss d p =
+    let few_inputs = p.items.few_inputs in
+    let few_events = p.items.few_events in
+    let few_tasks = p.items.few_tasks in
+    let few_links = p.items.few_links in
+    record {
+      until = p.items.until;
+      decls = p.items.decls;
+      inputs = rw p.items.inputs few_inputs;
+      events = rw p.items.events few_events;
+      tasks = All-append IsPrintableTask d.tasks.earlier (option_to_list d.tasks.latest) p.items.earlier (all-latest d.tasks.latest ss p.items.latest);
+      few = rw p.items.tasks few_tasks;
+      links = rw p.items.links few_links;
+      trace = section-prints SaysInTrace row d.trace p.trace;
+      script = section-prints SaysInScript step d.script p.script;
+    }
+
+pub prints-start : PrintsAll [] empty_draft
+prints-start = record {
+  items = record {
+    until = omega arith;
+    decls = λ k x l. absurd (omega arith);
+    inputs = refl;
+    events = refl;
+    few_inputs = omega arith;
+    few_events = omega arith;
+    earlier = λ k x l. absurd (omega arith);
+    latest = tt;
+    tasks = refl;
+    few_tasks = omega arith;
+    links = refl;
+    few_links = omega arith;
+  };
+  trace = ([], refl, λ k x l. absurd (omega arith));
+  script = ([], refl, λ k x l. absurd (omega arith));
+}
+
+-- ---- what lines that were read promise
+
+fault-free : (ss : List Statement) (s : Statement) → limit_fault ss s ≡ None → (numbers_fit s ≡ true) × (passed_count ss s ≡ None)
+fault-free ss s e = go (numbers_fit s) (passed_count ss s) refl refl e
+  where
+    go : (b : Bool) (o : Option Limit) → numbers_fit s ≡ b → passed_count ss s ≡ o → cond b (option_map LimitHit o) (Some (LimitHit limit.Number)) ≡ None → (numbers_fit s ≡ true) × (passed_count ss s ≡ None)
+    go true None n c e = (n, c)
+    go true (Some l) n c e = absurd cc
+    go false o n c e = absurd cc
+
+short-delay : (ts : List Token) (s : Statement) → IsStatement ts s → HasShortDelay s
+short-delay ts s (a_read n w p pre ats d at direct t) = rw max_delay-is refl
+short-delay ts s (a_read n w p pre ats d at delayed t) = rw max_delay-is refl
+short-delay ts s a_blank_line = tt
+short-delay ts s i = tt
+
+pub sound-line : (before : List Said) (bytes : List ℕ) (x : Said) → Reads before bytes x → IsSoundLine (statements before) x
+sound-line before bytes x (of_the_diagram b s e i) =
+    let free = fault-free (statements before) s i.within in
+    record { free = free-statement i.tokens s i.stands.form (free-names b i.tokens i.spelled); numbers = free.0; counts = free.1; delay = short-delay i.tokens s i.stands.form }
+sound-line before bytes x (of_the_trace b s e (an_empty_row c i)) = record { free = tt; numbers = refl; counts = refl; delay = tt }
+sound-line before bytes x (of_the_trace b s e (trace_ends c i)) = record { free = tt; numbers = refl; counts = refl; delay = tt }
+sound-line before bytes x (of_the_trace b s e (script_begins c i)) = record { free = tt; numbers = refl; counts = refl; delay = tt }
+sound-line before bytes x (of_the_trace b s e (a_row c i j)) = a_row c i j
+sound-line before bytes x (of_the_script b s e (no_step c i)) = record { free = tt; numbers = refl; counts = refl; delay = tt }
+sound-line before bytes x (of_the_script b s e (script_ends c i)) = record { free = tt; numbers = refl; counts = refl; delay = tt }
+sound-line before bytes x (of_the_script b s e (a_step c u ts i n m k)) = a_step u u ts (spells-again c u ts i k) n m (spelled-again c u k)

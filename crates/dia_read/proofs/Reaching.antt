@@ -1,0 +1,142 @@
+-- How far a text was read.
+use Rattle.std.proofs.Common.{◌≡◌, ℕ, ◌+◌, ◌-◌, ◌*◌, ◌^◌, ◌<◌, ◌≤◌, true, List, [], ◌∷◌, ◌++◌, length, reverse, slice_get, Some, refl, sym, ap, subst, ◌∙◌, append_assoc, arith, length-append}
+use Rattle.std.proofs.lemmas.List.{take_at, length-reverse}
+use Rattle.dbp_plan.specs.Places.{behind_place}
+use Rattle.dia_tokens.proofs.SpellingLaws.{no-feed}
+use Rattle.dia_lines.specs.declared.fault.ReadCode.{ReadCode}
+use Rattle.dia_lines.specs.declared.item.Line.{Line}
+use Rattle.dia_lines.specs.declared.item.Line.TheVariants as line
+use Rattle.dia_lines.specs.declared.place.Place.TheVariants.{Trace, Script}
+use Rattle.dia_lines.specs.declared.position.Position.{Position}
+use Rattle.dia_lines.specs.Held.{IsHeld}
+use Rattle.dia_lines.specs.Lines.{Said, says, row, step, place_behind, statements, Reads, of_the_trace, of_the_script, a_row, a_step, HasFault}
+use Rattle.dia_lines.specs.Positions.{IsBehind}
+use Rattle.dia_lines.specs.Text.{lines_of}
+use Rattle.dia_read.specs.declared.draft.Draft.{Draft}
+use Rattle.dia_read.specs.Documents.{Run, no_line, kept_text, IsFirstLine}
+use Rattle.dia_read.specs.Drafts.{empty_draft, drafted, HasRoom}
+use Rattle.dia_read.proofs.OneMore.{reverse-more}
+use Rattle.dia_read.proofs.Once.{Once, once-more, once-start}
+use Rattle.dia_read.proofs.Holding.{Holds, HasItsTask, holds-more, holds-start}
+use Rattle.dia_read.proofs.KeptLines.{run-more, in-body, no-row, no-step, kept-fits}
+use Rattle.dia_read.proofs.Paired.{Paired, PairsWith, paired-start, paired-more, row-has-no-feed, trace-begun, script-begun}
+use Rattle.dia_read.proofs.Printing.{PrintsAll, HasLatest, prints-start, prints-more, sound-line}
+use Rattle.dia_read.proofs.Bounds.{Bounded, KeptFits, bounded-more, bounded-start, has-room}
+
+-- ---- how far
+
+pub record Reached (bytes rest : List ℕ) (number : ℕ) (position : Position) (draft : Draft) : Type 0 where
+  pub before : List Said
+  pub seen : List (List ℕ)
+  pub used : ℕ
+  pub split : lines_of bytes ≡ seen ++ lines_of rest
+  pub run : Run [] seen before
+  pub count : length before ≡ number
+  pub lines : length seen ≡ number
+  pub behind : IsBehind before position
+  pub once : Once (reverse before) (place_behind before)
+  pub holds : Holds (reverse before) draft
+  pub bounded : Bounded draft number (2 * used)
+  pub paired : Paired draft
+  pub printing : PrintsAll (statements before) draft
+  pub few : number ≤ used
+  pub within : used + length rest ≤ length bytes
+
+pub reached-start : (bytes : List ℕ) (position : Position) → IsBehind [] position → Reached bytes bytes 0 position empty_draft
+reached-start bytes position b = record {
+  before = [];
+  seen = [];
+  used = 0;
+  split = refl;
+  run = no_line [];
+  count = refl;
+  lines = refl;
+  behind = b;
+  once = once-start;
+  holds = holds-start;
+  bounded = bounded-start;
+  paired = paired-start;
+  printing = prints-start;
+  few = omega arith;
+  within = omega arith;
+}
+
+module _ (bytes rest : List ℕ) (number : ℕ) (position : Position) (draft : Draft) (reached : Reached bytes rest number position draft) (text after : List ℕ)
+    (first : lines_of rest ≡ text ∷ lines_of after) (shorter : length after < length rest) (fits : length text + length after ≤ length rest) where
+  -- the line says this, and it is held
+  abbrev pub Next : Line → Position → Type 0
+  Next l next = (said : Said) × Reads reached.before text said × IsHeld said l × IsBehind (said ∷ reached.before) next
+
+  abbrev pub text_in : (l : Line) (next : Position) → Next l next → List ℕ
+  text_in l next n = kept_text n.0
+
+  has-task : (before : List Said) (said : Said) (l : Line) → Once (reverse before) (place_behind before) → Reads before text said → IsHeld said l → HasItsTask (reverse before) l
+  has-task before said (line.Part p) o r h = in-body before text said p o r h
+  has-task before said l o r h = tt
+
+  latest : (l : Line) (said : Said) → Reads reached.before text said → IsHeld said l → HasLatest draft l
+  latest (line.Part p) said r h = reached.holds.items.latest (in-body reached.before text said p reached.once r h)
+  latest l said r h = tt
+
+  begun-trace : place_behind reached.before ≡ Trace → draft.trace.begun ≡ true
+  begun-trace here = sym reached.holds.sections.trace_begun ∙ trace-begun [] reached.before reached.seen reached.run tt here
+
+  begun-script : place_behind reached.before ≡ Script → draft.script.begun ≡ true
+  begun-script here = sym reached.holds.sections.script_begun ∙ script-begun [] reached.before reached.seen reached.run tt here
+
+  pairs : (l : Line) (said : Said) → Reads reached.before text said → IsHeld said l → PairsWith draft (kept_text said) l
+  pairs (line.Part p) said r h = latest (line.Part p) said r h
+  pairs line.Row (row t) (of_the_trace b s here (a_row c i k)) h = (row-has-no-feed t i, begun-trace here)
+  pairs line.Row (row t) (of_the_script b s here i) h = elim i [ ]
+  pairs line.Step (step t) (of_the_script b s here (a_step c u ts e n o k)) h = (no-feed c t ts e k, begun-script here)
+  pairs line.Step (step t) (of_the_trace b s here i) h = elim i [ ]
+  pairs line.Row (says s) r h = absurd (no-row s h)
+  pairs line.Step (says s) r h = absurd (no-step s h)
+  pairs line.Step (row t) r h = absurd h
+  pairs line.Row (step t) r h = absurd h
+  pairs l said r h = tt
+
+  pub reached-more : (l : Line) (next : Position) (n : Next l next) → Reached bytes after (number + 1) next (drafted draft (number + 1) (text_in l next n) l)
+  reached-more l next (said, reads, held, behind) =
+      let size : length (reverse reached.before) + 1 ≡ number + 1 = omega (arith, reached.count, length-reverse reached.before) in
+      let add : ℕ = length rest - length after in
+      record {
+        before = said ∷ reached.before;
+        seen = reached.seen ++ text ∷ [];
+        used = reached.used + add;
+        split = reached.split ∙ ap (λ ls. reached.seen ++ ls) first ∙ sym (append_assoc reached.seen (text ∷ []) (lines_of after));
+        run = run-more [] reached.before reached.seen text said reached.run reads;
+        count = omega (arith, reached.count);
+        lines = omega (arith, length-append reached.seen (text ∷ []), reached.lines);
+        behind = behind;
+        once = once-more reached.before text said reached.once reads;
+        holds =
+            let more = holds-more (reverse reached.before) draft reached.holds said l held (has-task reached.before said l reached.once reads held) in
+            rw reverse-more (subst (λ (k : ℕ). Holds (reverse reached.before ++ said ∷ []) (drafted draft k (kept_text said) l)) size more);
+        bounded =
+            let kept : KeptFits l (kept_text said) (2 * add) = kept-fits reached.before text said l add reads held (omega arith) (omega arith) in
+            subst (λ (k : ℕ). Bounded (drafted draft (number + 1) (kept_text said) l) (number + 1) k) (omega arith) (bounded-more draft (number + 1) number (2 * reached.used) (2 * add) (kept_text said) l reached.bounded kept);
+        paired = paired-more draft (number + 1) (kept_text said) l reached.paired (pairs l said reads held);
+        printing = prints-more reached.before said l draft (number + 1) reached.printing (sound-line reached.before text said reads) held (latest l said reads held);
+        few = omega (arith, reached.few);
+        within = omega (arith, reached.within);
+      }
+
+  pub room-here : length bytes ≤ 2000000000 → HasRoom draft (number + 1) (length text)
+  room-here size = has-room draft number (number + 1) reached.used (length text) reached.bounded (omega arith) (omega (arith, reached.within))
+
+  pub few-here : length bytes ≤ 2000000000 → number + 1 < 2 ^ 31
+  few-here size = omega (arith, reached.few, reached.within)
+
+  -- the line has a fault
+  pub first-line : (code : ReadCode) → HasFault reached.before text code → IsFirstLine (lines_of bytes) number code
+  first-line code fault = record {
+    line = text;
+    stands =
+        let here : slice_get (reached.seen ++ lines_of rest) (length reached.seen + 0) ≡ slice_get (lines_of rest) 0 = behind_place reached.seen (lines_of rest) 0 in
+        let at : length reached.seen + 0 ≡ number = omega (arith, reached.lines) in
+        rw reached.split (subst (λ (k : ℕ). slice_get (reached.seen ++ lines_of rest) k ≡ Some text) at (here ∙ ap (λ (ls : List (List ℕ)). slice_get ls 0) first));
+    before = reached.before;
+    run = rw reached.split (subst (λ (ls : List (List ℕ)). Run [] ls reached.before) (sym (take_at reached.seen (lines_of rest) number reached.lines)) reached.run);
+    fault = fault;
+  }

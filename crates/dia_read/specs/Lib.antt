@@ -1,0 +1,5 @@
+pub mod Documents
+pub mod Drafts
+pub mod Refusals
+pub mod Answers
+pub mod Printable

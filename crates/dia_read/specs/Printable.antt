@@ -1,0 +1,104 @@
+-- Which bodies can be printed, and documents with a line of each item.
+use Rattle.std.specs.Prelude.{◌≡◌, ℕ, ◌≤◌, ◌==◌, Bool, true, false, All, List, [], ◌∷◌, ◌++◌, length, count_by, sum_by, Option, Some, None}
+use Rattle.std.specs.Option.{IfSome}
+use Rattle.dbp_plan.specs.declared.limits.TheConstants.{MAX_TASKS, MAX_INPUTS, MAX_EVENTS, MAX_READS, MAX_READ_LINES, MAX_OUTS, MAX_BODY, MAX_TIME, MAX_PRIO}
+use Rattle.dbp_plan.specs.declared.expr.Expr.{Expr}
+use Rattle.dbp_plan.specs.Limits.{max_delay}
+use Rattle.dia_exprs.specs.FreeNames.{HasFreeName}
+use Rattle.dia_tokens.specs.Pieces.{name}
+use Rattle.dia_tokens.specs.Words.{word_of}
+use Rattle.dia_lines.specs.declared.item.Decl.{Decl}
+use Rattle.dia_lines.specs.declared.item.Decl.TheVariants.{Input, Event}
+use Rattle.dia_lines.specs.declared.item.Part.{Part}
+use Rattle.dia_lines.specs.declared.item.Part.TheVariants as part
+use Rattle.dia_lines.specs.declared.item.RawClock.{RawClock}
+use Rattle.dia_lines.specs.declared.item.RawClock.TheVariants.{Every, On}
+use Rattle.dia_lines.specs.Lines.{Said, row, step, SaysInTrace, SaysInScript}
+use Rattle.dia_read.specs.declared.document.Body.{Body}
+use Rattle.dia_read.specs.declared.document.Doc.{Doc}
+use Rattle.dia_read.specs.declared.document.RawTask.{RawTask}
+
+-- the name is no reserved word
+abbrev pub IsFree : List ℕ → Type 0
+IsFree text = word_of text ≡ name text
+
+-- no name in the expression is a reserved word
+abbrev pub HasFreeNames : Expr (List ℕ) → Type 0
+HasFreeNames e = All HasFreeName e.nodes
+
+abbrev pub IsPrintableDecl : Decl → Type 0
+IsPrintableDecl (Input n v) = IsFree n
+IsPrintableDecl (Event n) = IsFree n
+
+abbrev pub IsPrintableClock : RawClock → Type 0
+IsPrintableClock (Every period offset) = (1 ≤ period) × (period ≤ MAX_TIME) × (offset ≤ MAX_TIME)
+IsPrintableClock (On n) = IsFree n
+
+abbrev pub IsPrintablePart : Part → Type 0
+IsPrintablePart (part.State n v) = IsFree n
+IsPrintablePart (part.Sense n i) = IsFree n × IsFree i
+IsPrintablePart (part.Read n d w p a) = IsFree n × (d ≤ max_delay) × IsFree w × IsFree p × (a ≤ MAX_TIME)
+IsPrintablePart (part.Let n e) = IsFree n × HasFreeNames e
+IsPrintablePart (part.Next n e) = IsFree n × HasFreeNames e
+IsPrintablePart (part.Out n v e) = IsFree n × HasFreeNames e
+
+abbrev pub is_input_decl : Decl → Bool
+is_input_decl (Input n v) = true
+is_input_decl _ = false
+
+abbrev pub is_event_decl : Decl → Bool
+is_event_decl (Event n) = true
+is_event_decl _ = false
+
+abbrev pub is_read_part : Part → Bool
+is_read_part (part.Read n d w p a) = true
+is_read_part _ = false
+
+abbrev pub is_out_part : Part → Bool
+is_out_part (part.Out n v e) = true
+is_out_part _ = false
+
+pub record IsPrintableTask (t : RawTask) : Type 0 where
+  pub named : IsFree t.name
+  pub clock : IsPrintableClock t.clock
+  pub prio : IfSome t.prio (λ p. p ≤ MAX_PRIO)
+  pub deadline : IfSome t.deadline (λ d. (1 ≤ d) × (d ≤ MAX_TIME))
+  pub cost : (1 ≤ t.cost) × (t.cost ≤ MAX_TIME)
+  pub parts : All IsPrintablePart t.parts
+  pub body : length t.parts ≤ MAX_BODY
+  pub reads : count_by is_read_part t.parts ≤ MAX_READS
+  pub outs : count_by is_out_part t.parts ≤ MAX_OUTS
+
+-- the text is these lines, each ended by a line feed
+abbrev pub ended_lines : List (List ℕ) → List ℕ
+ended_lines [] = []
+ended_lines (line ∷ lines) = line ++ 10 ∷ ended_lines lines
+
+-- each line says itself, as one that is kept in its section
+abbrev pub KeepsItself : (List ℕ → Said → Type 0) → (List ℕ → Said) → List ℕ → Type 0
+KeepsItself Says kept text = (lines : List (List ℕ)) × (text ≡ ended_lines lines) × All (λ line. Says line (kept line)) lines
+
+-- The body keeps the limits of a document, no name in it is a reserved word, and its sections have lines that are kept.
+pub record IsPrintable (body : Body) : Type 0 where
+  pub until : body.until ≤ MAX_TIME
+  pub decls : All IsPrintableDecl body.decls
+  pub inputs : count_by is_input_decl body.decls ≤ MAX_INPUTS
+  pub events : count_by is_event_decl body.decls ≤ MAX_EVENTS
+  pub tasks : All IsPrintableTask body.tasks
+  pub few : length body.tasks ≤ MAX_TASKS
+  pub links : sum_by (λ t. count_by is_read_part t.parts) body.tasks ≤ MAX_READ_LINES
+  pub trace : IfSome body.trace (KeepsItself SaysInTrace row)
+  pub script : IfSome body.script (KeepsItself SaysInScript step)
+
+-- how many lines a section keeps
+abbrev pub line_count : Option (List ℕ) → ℕ
+line_count None = 0
+line_count (Some text) = count_by (λ b. b == 10) text
+
+-- there is a line of each item
+pub record HasItemLines (doc : Doc) : Type 0 where
+  pub decls : length doc.lines.decls ≡ length doc.body.decls
+  pub tasks : length doc.lines.tasks ≡ length doc.body.tasks
+  pub parts : length doc.lines.parts ≡ sum_by (λ t. length t.parts) doc.body.tasks
+  pub trace : length doc.lines.trace ≡ line_count doc.body.trace
+  pub script : length doc.lines.script ≡ line_count doc.body.script

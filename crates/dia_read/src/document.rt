@@ -1,0 +1,52 @@
+use dbp_plan::{List, Name, Policy};
+use dia_lines::{Decl, Part, RawClock};
+
+/// A task, with names as they were read.
+#[derive(Drop)]
+pub struct RawTask {
+    pub name: Name,
+    pub clock: RawClock,
+    pub prio: Option<u32>,
+    /// In ticks from the release on.
+    pub deadline: Option<u64>,
+    /// In ticks.
+    pub cost: u64,
+    pub parts: List<Part>,
+}
+
+/// All that a document says.
+#[derive(Drop)]
+pub struct Body {
+    pub policy: Policy,
+    /// The tick before which tasks occur.
+    pub until: u64,
+    pub decls: List<Decl>,
+    pub tasks: List<RawTask>,
+    /// The kept lines of the trace section: those that aren't blank, each ended by a line feed.
+    pub trace: Option<List<u8>>,
+    /// The kept lines of the script section: the tokens of those that have some, joined by one space, each ended by
+    /// a line feed.
+    pub script: Option<List<u8>>,
+}
+
+/// The line of each item of a document, counted from 1.
+#[derive(Drop)]
+pub struct DocLines {
+    pub until_at: u32,
+    pub done_at: u32,
+    /// 0 where there is no trace section.
+    pub trace_at: u32,
+    pub decls: List<u32>,
+    pub tasks: List<u32>,
+    /// Through all tasks.
+    pub parts: List<u32>,
+    pub trace: List<u32>,
+    pub script: List<u32>,
+}
+
+/// A document: what it says, and where.
+#[derive(Drop)]
+pub struct Doc {
+    pub body: Body,
+    pub lines: DocLines,
+}

@@ -1,0 +1,195 @@
+// One more line in a draft.
+
+ghost use Rattle.std.specs.Prelude.{◌≡◌, ℕ, ◌+◌, ◌*◌, ◌<◌, ◌^◌, ◌++◌, List as Items, length, IfOk, OnOk};
+ghost use Rattle.std.specs.Option.{option_to_list, IfSome as ForSome};
+ghost use Rattle.dia_lines.specs.declared.item.Line.TheVariants.{Step};
+ghost use Rattle.dia_tokens.specs.Spelling.{HasTokens, IsSpelling};
+ghost use Rattle.dia_read.specs.Drafts.{begun, added, kept_line, drafted, IsKeptText, HasRoom, empty_section, empty_draft, section_text, finished};
+
+use crate::draft::{Draft, Section, Tasks};
+use crate::{Body, Doc, DocLines, RawTask};
+use dbp_plan::{List, NoMemory, Policy};
+use dia_lines::{Line, Part, TaskLine};
+use dia_tokens::push_spelling;
+use std::alloc::Global;
+
+impl Tasks {
+    /// Begins a task behind the others.
+    fn begin(&mut self, alloc: Global, line: TaskLine) -> Result<(), NoMemory>
+        requires { length self.old.earlier + 1 < 2 ^ 32 }
+        ensures { OnOk result (self.new ≡ begun self.old line) }
+    {
+        if let Some(task) = self.latest.take() {
+            self.earlier.push(task)?;
+        }
+        self.latest = Some(RawTask {
+            name: line.name,
+            clock: line.clock,
+            prio: line.prio,
+            deadline: line.deadline,
+            cost: line.cost,
+            parts: List::new(alloc),
+        });
+        Ok(())
+    }
+
+    /// Adds a line to the body of the latest task.
+    fn add(&mut self, part: Part) -> Result<(), NoMemory>
+        requires { ForSome self.old.latest (λ task. length task.parts + 1 < 2 ^ 32) }
+        ensures { OnOk result (self.new ≡ added self.old part) }
+    {
+        match &mut self.latest {
+            Some(task) => task.parts.push(part),
+            None => Ok(()),
+        }
+    }
+
+    /// All tasks.
+    fn all(self) -> Result<List<RawTask>, NoMemory>
+        requires { length self.earlier + 1 < 2 ^ 32 }
+        ensures { IfOk result (λ tasks. tasks ≡ self.earlier ++ option_to_list self.latest) }
+    {
+        let Tasks {
+            mut earlier,
+            latest,
+        } = self;
+        if let Some(task) = latest {
+            earlier.push(task)?;
+        }
+        Ok(earlier)
+    }
+}
+
+impl Section {
+    fn new(alloc: Global) -> Section
+        ensures { result ≡ empty_section }
+    {
+        Section {
+            begun: false,
+            text: List::new(alloc),
+        }
+    }
+
+    /// The section's text, where it is there.
+    fn into_text(self) -> Option<List<u8>>
+        ensures { result ≡ section_text self }
+    {
+        if self.begun { Some(self.text) } else { None }
+    }
+
+    /// Keeps a line as it is.
+    fn keep(&mut self, line: &[u8]) -> Result<(), NoMemory>
+        requires { length self.old.text + length line.now + 1 < 2 ^ 32 }
+        ensures { OnOk result (self.new ≡ kept_line self.old line.now) }
+    {
+        self.text.extend_from_slice(line)?;
+        self.text.push(b'\n')
+    }
+
+    /// Keeps the tokens of a line as they are spelled.
+    fn keep_spelling(&mut self, line: &[u8]) -> Result<(), NoMemory>
+        requires tokens { HasTokens line.now }
+        requires room { length self.old.text + 2 * length line.now + 1 < 2 ^ 32 }
+        ensures { (text : Items ℕ) → IsSpelling line.now text → OnOk result (self.new ≡ kept_line self.old text) }
+    {
+        push_spelling(&mut self.text, line)?;
+        self.text.push(b'\n')
+    }
+}
+
+impl Draft {
+    /// Before the first line.
+    pub(crate) fn new(alloc: Global) -> Draft
+        ensures { result ≡ empty_draft }
+    {
+        Draft {
+            policy: Policy::Fp,
+            until: 0,
+            decls: List::new(alloc),
+            tasks: Tasks {
+                earlier: List::new(alloc),
+                latest: None,
+            },
+            trace: Section::new(alloc),
+            script: Section::new(alloc),
+            lines: DocLines {
+                until_at: 0,
+                done_at: 0,
+                trace_at: 0,
+                decls: List::new(alloc),
+                tasks: List::new(alloc),
+                parts: List::new(alloc),
+                trace: List::new(alloc),
+                script: List::new(alloc),
+            },
+        }
+    }
+
+    /// The document that the draft has come to.
+    pub(crate) fn finish(self) -> Result<Doc, NoMemory>
+        requires { length self.tasks.earlier + 1 < 2 ^ 32 }
+        ensures { IfOk result (λ doc. doc ≡ finished self) }
+    {
+        Ok(Doc {
+            body: Body {
+                policy: self.policy,
+                until: self.until,
+                decls: self.decls,
+                tasks: self.tasks.all()?,
+                trace: self.trace.into_text(),
+                script: self.script.into_text(),
+            },
+            lines: self.lines,
+        })
+    }
+
+    /// Adds what is held of a line, which has the number and these bytes.
+    pub(crate) fn add(
+        &mut self,
+        alloc: Global,
+        number: u32,
+        bytes: &[u8],
+        line: Line,
+    ) -> Result<(), NoMemory>
+        requires tokens { line ≡ Step → HasTokens bytes.now }
+        requires few { number < 2 ^ 31 }
+        requires room { HasRoom self.old number (length bytes.now) }
+        ensures { (text : Items ℕ) → IsKeptText bytes.now line text → OnOk result (self.new ≡ drafted self.old number text line) }
+    {
+        match line {
+            Line::Nothing | Line::Header => {}
+            Line::Policy(policy) => self.policy = policy,
+            Line::Until(end) => {
+                self.until = end;
+                self.lines.until_at = number;
+            }
+            Line::Decl(decl) => {
+                self.decls.push(decl)?;
+                self.lines.decls.push(number)?;
+            }
+            Line::Task(task) => {
+                self.tasks.begin(alloc, task)?;
+                self.lines.tasks.push(number)?;
+            }
+            Line::Part(part) => {
+                self.tasks.add(part)?;
+                self.lines.parts.push(number)?;
+            }
+            Line::Trace => {
+                self.trace.begun = true;
+                self.lines.trace_at = number;
+            }
+            Line::Script => self.script.begun = true,
+            Line::Done => self.lines.done_at = number,
+            Line::Row => {
+                self.trace.keep(bytes)?;
+                self.lines.trace.push(number)?;
+            }
+            Line::Step => {
+                self.script.keep_spelling(bytes)?;
+                self.lines.script.push(number)?;
+            }
+        }
+        Ok(())
+    }
+}

@@ -1,0 +1,65 @@
+// Reading a text, line by line.
+
+ghost use Rattle.std.specs.Prelude.{ℕ, ◌≤◌, length, IfOk, IfErr};
+ghost use Rattle.dia_lines.specs.declared.fault.ReadCode.{ReadCode as Code};
+ghost use Rattle.dia_read.specs.declared.document.Doc.{Doc as Document};
+ghost use Rattle.dia_read.specs.declared.fault.ReadFail.TheVariants.{Refused};
+ghost use Rattle.dia_read.specs.Answers.{Refuses, Gives, IsRefused};
+ghost use Rattle.dia_read.specs.Documents.{Spells, IsFirstFault};
+ghost use Rattle.dia_read.specs.Printable.{IsPrintable, HasItemLines};
+
+use crate::draft::Draft;
+use crate::refusal::{refused_at, refused_behind};
+use crate::{Doc, ReadFail};
+use dia_lines::{Position, next_line, read_line};
+use std::alloc::Global;
+
+/// The document that the text spells, or its first fault.
+fn read_text(alloc: Global, bytes: &[u8]) -> Result<Doc, ReadFail>
+    requires { length bytes.now ≤ 2000000000 }
+    ensures found { IfOk result (λ doc. Spells bytes.now doc) }
+    ensures printable { IfOk result (λ doc. IsPrintable doc.body) }
+    ensures lines { IfOk result (λ doc. HasItemLines doc) }
+    ensures fault { IfErr result (λ e. Refuses bytes.now e) }
+{
+    let mut draft = Draft::new(alloc);
+    let mut position = Position::start();
+    let mut number = 0;
+    let mut rest = bytes;
+    while !rest.is_empty() {
+        let (line, after) = next_line(rest);
+        number += 1;
+        match read_line(alloc, position, line) {
+            Ok((item, next)) => {
+                draft.add(alloc, number, line, item)?;
+                position = next;
+            }
+            Err(error) => return Err(refused_at(bytes, number, error)),
+        }
+        rest = after;
+    }
+    if position.is_ended() {
+        Ok(draft.finish()?)
+    } else {
+        Err(refused_behind(bytes, number))
+    }
+}
+
+/// The document that a text spells, or the text's first fault. docs/LANGUAGE.md says which texts spell documents, and
+/// in which order faults are tried.
+pub fn read_doc(alloc: Global, bytes: &[u8]) -> Result<Doc, ReadFail>
+    requires { length bytes.now ≤ 2000000000 }
+    // The text spells the document.
+    ensures found { IfOk result (λ doc. Spells bytes.now doc) }
+    // A document that the text spells is given, unless memory runs out.
+    ensures only { (doc : Document) → Spells bytes.now doc → Gives doc result }
+    // The document can be printed, and has a line of each item.
+    ensures printable { IfOk result (λ doc. IsPrintable doc.body) }
+    ensures lines { IfOk result (λ doc. HasItemLines doc) }
+    // A refusal says the text's first fault, unless memory ran out.
+    ensures fault { IfErr result (λ e. Refuses bytes.now e) }
+    // A text with a first fault is refused with it, unless memory runs out.
+    ensures refused { (line : ℕ) (code : Code) → IsFirstFault bytes.now line code → IsRefused (Refused line code) result }
+{
+    read_text(alloc, bytes)
+}
