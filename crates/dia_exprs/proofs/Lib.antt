@@ -4,4 +4,4 @@ pub mod AllTokens
 pub mod Depths
 pub mod Sizes
 pub mod Steps
-pub mod FreeNames
+pub mod PrintableTrees

@@ -3,4 +3,4 @@ pub mod Counts
 pub mod Reading
 pub mod Parsing
 pub mod Answers
-pub mod FreeNames
+pub mod Printable

@@ -1,7 +1,10 @@
 pub mod LexLaws
 pub mod BlankLaws
 pub mod ByteLaws
+pub mod WordLaws
 pub mod ValueLaws
 pub mod OneLine
 pub mod ReadLaws
 pub mod SpellingLaws
+pub mod LineSpells
+pub mod TokenTexts

@@ -1,6 +1,6 @@
 -- What the texts of tokens are, and that they make the same tokens again.
-use Rattle.std.proofs.Common.{◌≡◌, ℕ, ◌+◌, ◌*◌, ◌<◌, ◌≤◌, Bool, true, false, cond, All, List, [], ◌∷◌, ◌++◌, length, Option, Some, None, IfSome, refl, sym, ap, subst, ◌∙◌, Bor, append_assoc, arith, inl, inr}
-use Rattle.std.specs.Prelude.{◌==◌}
+use Rattle.std.proofs.Common.{◌≡◌, ℕ, pos, neg_ℤ, zero, suc, ◌+◌, ◌*◌, ◌^◌, ◌<◌, ◌≤◌, drop, Bool, true, false, cond, All, List, [], ◌∷◌, ◌++◌, length, Option, Some, None, IfSome, refl, sym, ap, subst, ◌∙◌, Bor, append_assoc, arith, inl, inr}
+use Rattle.std.specs.Prelude.{◌==◌, nat_le, nat_lt}
 use Rattle.std.specs.List.{AllByRecursion, list_all, count_by}
 use Rattle.std.specs.Str.{bytes_eq}
 use Rattle.std.proofs.lemmas.Bool.{cases_Bool, and_parts, and_from, eqb-true}
@@ -26,10 +26,13 @@ use Rattle.dia_tokens.specs.Line.{Spells}
 use Rattle.dia_tokens.specs.Pieces.{Piece, word, name, number, symbol}
 use Rattle.dia_tokens.specs.Reading.{found, token_at}
 use Rattle.dia_tokens.specs.Spelling.{symbol_text, text_of, spaced, joined, IsSpelling, HasTokens}
-use Rattle.dia_tokens.specs.Values.{HasValue, of_word, of_name, of_number, of_symbol, HaveValues, none, another, IsFreeName}
+use Rattle.dia_tokens.specs.Printable.{IsPrintableNumber, IsPrintableToken}
+use Rattle.dia_tokens.specs.Shapes.{IsNameText, letters}
+use Rattle.dia_tokens.specs.Values.{digits_value, is_negative, number_of, is_in_range, HasValue, of_word, of_name, of_number, of_symbol, HaveValues, none, another}
 use Rattle.dia_tokens.specs.Words.{word_text, all_words, word_among, or_else, word_of}
 use Rattle.dia_tokens.proofs.ByteLaws.{dash-is}
 use Rattle.dia_tokens.proofs.LexLaws.{Inverts, Inverts-at, Lexes-one}
+use Rattle.dia_tokens.proofs.ValueLaws.{name-from-text}
 
 -- ---- the texts of words
 
@@ -294,25 +297,25 @@ not-feeds (b ∷ bs) h = let both = and_parts (is_allowed b) (list_all is_allowe
 pub no-feed : (line text : List ℕ) (ts : List Token) → Spells line ts → IsSpelling line text → count_by (λ b. b == 10) text ≡ 0
 no-feed line text ts s t = eqb-true _ 0 (sum_by-zero (λ b. cond (b == 10) 1 0) text ∙ not-feeds text (spells-again line text ts s t).allowed)
 
--- ---- names are no reserved words
+-- ---- the tokens of a line can be printed
 
 abbrev IsFree : Piece → Type 0
-IsFree (name text) = word_of text ≡ name text
+IsFree (name text) = IsNameText text × (word_of text ≡ name text)
 IsFree _ = Unit {0}
 
-free-text : (text : List ℕ) → IsFree (word_of text)
+free-text : (text : List ℕ) → IsNameText text → IsFree (word_of text)
 unfolding word_of
-free-text text = free (word_among all_words text) refl
+free-text text shape = free (word_among all_words text) refl
   where
     free : (o : Option Word) → word_among all_words text ≡ o → IsFree (or_else o (name text))
     free (Some w) e = tt
-    free None e = ap (λ (o : Option Word). or_else o (name text)) e
+    free None e = (shape, ap (λ (o : Option Word). or_else o (name text)) e)
 
 free-texts : (s : Bool) (line : List ℕ) (ps : List Piece) → Lexes s line ps → AllByRecursion IsFree ps
 free-texts s line ps (ends t) = tt
 free-texts s line ps (a_comment t b bs e) = tt
 free-texts s line ps (a_blank t b bs us e d) = free-texts t bs us d
-free-texts s line ps (a_name t b text rest us e p q d) = (free-text (b ∷ text), free-texts _ rest us d)
+free-texts s line ps (a_name t b text rest us e p q d) = (free-text (b ∷ text) (letters b text e p), free-texts _ rest us d)
 free-texts s line ps (a_number t b text rest us e p q d) = (tt, free-texts _ rest us d)
 free-texts s line ps (a_signed_number dash b text rest us e f p q d) = (tt, free-texts _ rest us d)
 free-texts s line ps (a_minus t dash rest us e n d) = (tt, free-texts _ rest us d)
@@ -321,18 +324,30 @@ free-texts s line ps (a_short t b short long rest us e n d) = (tt, free-texts _ 
 free-texts s line ps (a_long t b c short long rest us e f d) = (tt, free-texts _ rest us d)
 free-texts s line ps (a_plain t b x rest us e d) = (tt, free-texts _ rest us d)
 
-free-token : (p : Piece) (t : Token) → HasValue p t → IsFree p → IsFreeName t
-free-token p t (of_word w) f = tt
-free-token p t (of_name text e) f = f
-free-token p t (of_number text e) f = tt
-free-token p t (of_symbol s) f = tt
+negated : (n : ℕ) → n ≤ 2 ^ 63 → IsPrintableNumber (neg_ℤ (pos n))
+negated zero h = omega arith
+negated (suc n) h = omega arith
 
-free-tokens : (ps : List Piece) (ts : List Token) → HaveValues ps ts → AllByRecursion IsFree ps → AllByRecursion IsFreeName ts
-free-tokens ps ts none f = tt
-free-tokens ps ts (another p t qs us h d) f = (free-token p t h f.0, free-tokens qs us d f.1)
+printable-number : (text : List ℕ) → is_in_range text ≡ true → IsPrintableNumber (number_of text)
+printable-number text h = either (is_negative text) refl h
+  where
+    either : (b : Bool) → is_negative text ≡ b → cond b (nat_le (digits_value (drop 1 text)) (2 ^ 63)) (nat_lt (digits_value text) (2 ^ 63)) ≡ true
+        → IsPrintableNumber (cond b (neg_ℤ (pos (digits_value (drop 1 text)))) (pos (digits_value text)))
+    either true e k = negated (digits_value (drop 1 text)) (grind (arith, nat_tests))
+    either false e k = grind (arith, nat_tests)
 
-pub free-names : (line : List ℕ) (ts : List Token) → Spells line ts → All IsFreeName ts
-free-names line ts s = All-from_recursion IsFreeName ts (free-tokens s.texts ts s.values (free-texts true line s.texts s.lexes))
+printable-token : (p : Piece) (t : Token) → HasValue p t → IsFree p → IsPrintableToken t
+printable-token p t (of_word w) f = tt
+printable-token p t (of_name text e) f = (name-from-text text f.0 e, f.1)
+printable-token p t (of_number text e) f = printable-number text e
+printable-token p t (of_symbol s) f = tt
+
+each-printable : (ps : List Piece) (ts : List Token) → HaveValues ps ts → AllByRecursion IsFree ps → AllByRecursion IsPrintableToken ts
+each-printable ps ts none f = tt
+each-printable ps ts (another p t qs us h d) f = (printable-token p t h f.0, each-printable qs us d f.1)
+
+pub printable-tokens : (line : List ℕ) (ts : List Token) → Spells line ts → All IsPrintableToken ts
+printable-tokens line ts s = All-from_recursion IsPrintableToken ts (each-printable s.texts ts s.values (free-texts true line s.texts s.lexes))
 
 -- ---- the loop over a line
 

@@ -33,7 +33,7 @@ passes-each [] p k d h = absurd (omega arith)
 passes-each (b ∷ bs) p zero d h = name-byte b p.0
 passes-each (b ∷ bs) p (suc k) d h = passes-each bs p.1 k d (omega arith)
 
-name-from-text : (text : List ℕ) → IsNameText text → nat_le (length text) 24 ≡ true → IsName text
+pub name-from-text : (text : List ℕ) → IsNameText text → nat_le (length text) 24 ≡ true → IsName text
 name-from-text text (letters b bs e p) h = record { begins = letter-begins b e; each = passes-each (b ∷ bs) (ap is_name_kind e, p); fits = grind (arith, nat_tests) }
 
 pub name-too-long : (text : List ℕ) → IsNameText text → (IsName text → ⊥) → nat_le (length text) 24 ≡ false
@@ -47,7 +47,7 @@ name-fits text n = let f = n.fits in grind (arith, nat_tests)
 tells : IsDigitsTest (Passes is_digit)
 tells = record { empty = tt; parts = λ c cs p. (digit-bounds c p.0, p.1); more = λ c cs k p. (digit-at c k, p) }
 
-own : IsNumeralModel (Passes is_digit) digits_value
+pub own : IsNumeralModel (Passes is_digit) digits_value
 own = numerals_by_fold (Passes is_digit) tells digits_behind (search rules)
 
 digits-ascii : (bs : List ℕ) → Passes is_digit bs → IsAscii bs

@@ -1,11 +1,14 @@
 pub mod Blanks
 pub mod Fronts
+pub mod KeepsSigns
 pub mod Kinds
 pub mod Lexes
 pub mod Line
 pub mod Pieces
+pub mod Printable
 pub mod Reading
 pub mod Spelling
 pub mod Shapes
+pub mod TokenText
 pub mod Values
 pub mod Words

@@ -5,7 +5,6 @@ use Rattle.dia_tokens.specs.declared.token.Word.{Word}
 use Rattle.dia_tokens.specs.declared.token.Token.{Token}
 use Rattle.dia_tokens.specs.declared.token.Token.TheVariants as value
 use Rattle.dia_tokens.specs.Pieces.{Piece, word, name, number, symbol}
-use Rattle.dia_tokens.specs.Words.{word_of}
 
 -- the number that decimal digits make, behind the number so far
 abbrev pub digits_behind : ℕ → List ℕ → ℕ
@@ -49,8 +48,3 @@ pub data HasValue : Piece → Token → Type 0 where
 pub data HaveValues : List Piece → List Token → Type 0 where
   none : HaveValues [] []
   another : (p : Piece) (t : Token) (ps : List Piece) (ts : List Token) → HasValue p t → HaveValues ps ts → HaveValues (p ∷ ps) (t ∷ ts)
-
--- the token isn't a reserved word that is taken for a name
-abbrev pub IsFreeName : Token → Type 0
-IsFreeName (value.Name text) = word_of text ≡ name text
-IsFreeName _ = Unit {0}

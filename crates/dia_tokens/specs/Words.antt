@@ -1,6 +1,6 @@
 -- The reserved words.
-use Rattle.std.specs.Prelude.{ℕ, List, [], ◌∷◌, codes, Option, Some, None}
-use Rattle.std.specs.List.{find}
+use Rattle.std.specs.Prelude.{ℕ, List, [], ◌∷◌, length, ◌==◌, codes, Option, Some, None}
+use Rattle.std.specs.List.{find, filter}
 use Rattle.std.specs.Str.{bytes_eq}
 use Rattle.dia_tokens.specs.declared.token.Word.{Word}
 use Rattle.dia_tokens.specs.declared.token.Word.TheVariants.{Dbp, Policy, Fp, Edf, Until, Input, Event, Task, Every, From, On, Prio, Deadline, Cost, State, Sense, Let, Next, Read, Pre, At, Out, Then, If, Else, And, Or, Not, Min, Max, Trace, Script, Done, When, Cpu}
@@ -49,6 +49,10 @@ all_words = Dbp ∷ Policy ∷ Fp ∷ Edf ∷ Until ∷ Input ∷ Event ∷ Task
 -- the first of the words that the text is
 abbrev pub word_among : List Word → List ℕ → Option Word
 word_among words text = find (λ w. bytes_eq (word_text w) text) words
+
+-- the words of this length
+unfoldable pub words_of_len : ℕ → List Word
+words_of_len len = filter (λ w. length (word_text w) == len) all_words
 
 -- the word, if there is one
 abbrev pub or_else : Option Word → Piece → Piece

@@ -1,13 +1,16 @@
 // Laws of the definitions.
 
-ghost use Rattle.std.specs.Prelude.{◌≡◌, ℕ, true, List as Items};
+ghost use Rattle.std.specs.Prelude.{◌≡◌, ℕ, true, All, List as Items};
 ghost use Rattle.dia_tokens.specs.declared.line.LineFail.{LineFail as Fault};
 ghost use Rattle.dia_tokens.specs.declared.token.Token.{Token as Spelled};
 ghost use Rattle.dia_tokens.specs.declared.token.Word.{Word as Reserved};
+ghost use Rattle.dia_tokens.specs.KeepsSigns.{KeepsSigns};
 ghost use Rattle.dia_tokens.specs.Lexes.{Lexes};
 ghost use Rattle.dia_tokens.specs.Line.{Spells, HasFault};
 ghost use Rattle.dia_tokens.specs.Pieces.{Piece as Text, word};
+ghost use Rattle.dia_tokens.specs.Printable.{IsPrintableToken};
 ghost use Rattle.dia_tokens.specs.Spelling.{joined, IsSpelling};
+ghost use Rattle.dia_tokens.specs.TokenText.{line_text};
 ghost use Rattle.dia_tokens.specs.Words.{word_text, word_of};
 
 /// A line has one list of tokens at most.
@@ -35,4 +38,10 @@ pub fn spelled_again()
 /// A reserved word is read from its text.
 pub fn read_word()
     ensures { (w : Reserved) → word_of (word_text w) ≡ word w }
+{}
+
+/// The line of tokens spells these tokens, where each can be printed and negative numbers stand where a `-` belongs to
+/// the number behind it.
+pub fn line_spells()
+    ensures { (ts : Items Spelled) → All IsPrintableToken ts → KeepsSigns true ts → Spells (line_text ts) ts }
 {}

@@ -1,6 +1,7 @@
 //! The tokens of a line of a diagram.
 #![tactic(auto)]
 
+mod edge;
 mod kind;
 mod laws;
 mod lexing;
@@ -11,7 +12,8 @@ mod spelling;
 mod token;
 mod values;
 
-pub use laws::{one_fault, one_list, one_spelling, read_word, spelled_again};
+pub use edge::Edge;
+pub use laws::{line_spells, one_fault, one_list, one_spelling, read_word, spelled_again};
 pub use line::{LineFail, tokens};
 pub use spelling::push_spelling;
 pub use token::{Symbol, Token, Word};

@@ -2,48 +2,56 @@
 
 ghost use Rattle.std.specs.Prelude.{◌≡◌};
 ghost use Rattle.dia_tokens.specs.Pieces.{seen};
-ghost use Rattle.dia_tokens.specs.Words.{word_among, word_of};
+ghost use Rattle.dia_tokens.specs.Words.{word_among, word_of, words_of_len};
 
 use crate::Word;
 use crate::piece::Piece;
 
-static WORDS: [Word; 35] = [
-    Word::Dbp,
-    Word::Policy,
-    Word::Fp,
-    Word::Edf,
-    Word::Until,
-    Word::Input,
-    Word::Event,
-    Word::Task,
-    Word::Every,
-    Word::From,
-    Word::On,
-    Word::Prio,
-    Word::Deadline,
-    Word::Cost,
-    Word::State,
-    Word::Sense,
-    Word::Let,
-    Word::Next,
-    Word::Read,
-    Word::Pre,
-    Word::At,
-    Word::Out,
-    Word::Then,
-    Word::If,
-    Word::Else,
-    Word::And,
-    Word::Or,
-    Word::Not,
-    Word::Min,
-    Word::Max,
-    Word::Trace,
-    Word::Script,
-    Word::Done,
-    Word::When,
-    Word::Cpu,
-];
+/// The words of this length.
+#[tactic(auto, unfolding(crate::specs::Words::words_of_len))]
+fn words_of_len(len: usize) -> &'static [Word]
+    ensures { result.now ≡ words_of_len len }
+{
+    match len {
+        2 => &[Word::Fp, Word::On, Word::At, Word::If, Word::Or],
+        3 => &[
+            Word::Dbp,
+            Word::Edf,
+            Word::Let,
+            Word::Pre,
+            Word::Out,
+            Word::And,
+            Word::Not,
+            Word::Min,
+            Word::Max,
+            Word::Cpu,
+        ],
+        4 => &[
+            Word::Task,
+            Word::From,
+            Word::Prio,
+            Word::Cost,
+            Word::Next,
+            Word::Read,
+            Word::Then,
+            Word::Else,
+            Word::Done,
+            Word::When,
+        ],
+        5 => &[
+            Word::Until,
+            Word::Input,
+            Word::Event,
+            Word::Every,
+            Word::State,
+            Word::Sense,
+            Word::Trace,
+        ],
+        6 => &[Word::Policy, Word::Script],
+        8 => &[Word::Deadline],
+        _ => &[],
+    }
+}
 
 /// The first of the words that the text is.
 fn word_among(words: &[Word], text: &[u8]) -> Option<Word>
@@ -53,11 +61,11 @@ fn word_among(words: &[Word], text: &[u8]) -> Option<Word>
 }
 
 /// A reserved word, or else a name.
-#[tactic(auto, unfolding(crate::specs::Words::word_of))]
+#[tactic(auto, using(crate::proofs::WordLaws::among_of_len), unfolding(crate::specs::Words::word_of))]
 pub(crate) fn word_or_name<'a>(text: &'a [u8]) -> Piece<'a>
     ensures { seen result ≡ word_of text.now }
 {
-    match word_among(&WORDS, text) {
+    match word_among(words_of_len(text.len()), text) {
         Some(word) => Piece::Word(word),
         None => Piece::Name(text),
     }
