@@ -7,4 +7,4 @@ pub mod CountLaws
 pub mod LineLaws
 pub mod PlaceLaws
 pub mod Reading
-pub mod FreeNames
+pub mod PrintableStatements

@@ -1,11 +1,13 @@
 -- The first line of a text, and the lines behind it.
-use Rattle.std.proofs.Common.{◌≡◌, ◌≢◌, ℕ, zero, suc, ◌<◌, ◌≤◌, false, not, List, [], ◌∷◌, length, refl, sym, ap, ◌∙◌, arith, length-drop, inl, inr, eqb, eq-eqb}
-use Rattle.std.specs.List.{slice_split, onto_first, position_or_len, before_first, after_first}
+use Rattle.std.proofs.Common.{◌≡◌, ◌≢◌, ℕ, zero, suc, ◌-◌, ◌<◌, ◌≤◌, true, false, not, List, [], ◌∷◌, ◌++◌, length, refl, sym, ap, ◌∙◌, arith, length-drop, inl, inr, eqb, eq-eqb}
+use Rattle.std.specs.Prelude.{slice_index_or}
+use Rattle.std.proofs.lemmas.Bool.Decides.{nat_tests}
+use Rattle.std.specs.List.{list_all, slice_split, onto_first, position_or_len, before_first, after_first}
 use Rattle.std.proofs.lemmas.List.Splits.{slice_split_first, slice_split_none, slice_split-cons_yes, slice_split-cons_no}
 use Rattle.std.proofs.lemmas.List.Sums.{prefix_len-le-length, fails_before_first}
 use Rattle.std.proofs.lemmas.List.Elements.{All-from_get_or}
-use Rattle.std.proofs.lemmas.Bool.{cases_Bool, both_ways, eqb-true}
-use Rattle.dia_lines.specs.Text.{is_end, without_return, lines_of_parts, lines_of}
+use Rattle.std.proofs.lemmas.Bool.{cases_Bool, both_ways, and_parts, eqb-true}
+use Rattle.dia_lines.specs.Text.{is_end, is_inside, without_return, lines_of_parts, lines_of}
 use Rattle.dia_lines.specs.FirstLine.{cut_line}
 
 -- where no byte ends a line, there is one part
@@ -73,3 +75,28 @@ fewer (suc n) (b ∷ bs) h =
 -- there are no more lines than bytes
 pub length-lines_of : (bytes : List ℕ) → length (lines_of bytes) ≤ length bytes
 length-lines_of bytes = fewer (length bytes) bytes (omega arith)
+
+-- ---- a line behind which a line feed stands
+
+split-inside : (text after : List ℕ) → list_all is_inside text ≡ true → slice_split is_end (text ++ 10 ∷ after) ≡ text ∷ slice_split is_end after
+split-inside [] after h = slice_split-cons_yes is_end 10 after refl
+split-inside (b ∷ bs) after h =
+    let both = and_parts (is_inside b) (list_all is_inside bs) h in
+    let first = both.0 in
+    let inside : is_end b ≡ false = grind (arith, nat_tests) in
+    slice_split-cons_no is_end b (bs ++ 10 ∷ after) inside ∙ ap (onto_first b) (split-inside bs after both.1)
+
+no-return : (text : List ℕ) (i : ℕ) → list_all is_inside text ≡ true → eqb (slice_index_or text i 0) 13 ≡ false
+no-return [] i h = refl
+no-return (b ∷ bs) zero h = let first = (and_parts (is_inside b) (list_all is_inside bs) h).0 in grind (arith, nat_tests)
+no-return (b ∷ bs) (suc i) h = no-return bs i (and_parts (is_inside b) (list_all is_inside bs) h).1
+
+pub lines_of-line : (text after : List ℕ) → list_all is_inside text ≡ true → lines_of (text ++ 10 ∷ after) ≡ text ∷ lines_of after
+unfolding lines_of
+lines_of-line text after h =
+    let r = some_part after in
+    let whole : without_return text ≡ text = rw (no-return text (length text - 1) h) refl in
+    ap lines_of_parts (split-inside text after h ∙ ap (λ (ps : List (List ℕ)). text ∷ ps) r.2)
+    ∙ more_parts text r.0 r.1
+    ∙ ap (λ (line : List ℕ). line ∷ lines_of_parts (r.0 ∷ r.1)) whole
+    ∙ ap (λ (ps : List (List ℕ)). text ∷ lines_of_parts ps) (sym r.2)

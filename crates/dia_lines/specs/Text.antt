@@ -1,10 +1,14 @@
 -- The lines of a text.
-use Rattle.std.specs.Prelude.{ℕ, ◌-◌, Bool, ◌==◌, List, [], ◌∷◌, length, take, slice_index_or, if◌then◌else◌}
+use Rattle.std.specs.Prelude.{ℕ, ◌-◌, Bool, not, ◌||◌, ◌==◌, List, [], ◌∷◌, length, take, slice_index_or, if◌then◌else◌}
 use Rattle.std.specs.List.{slice_split}
 
 -- a line feed ends a line
 abbrev pub is_end : ℕ → Bool
 is_end b = b == 10
+
+-- a byte that a line has inside
+abbrev pub is_inside : ℕ → Bool
+is_inside b = not (b == 10 || b == 13)
 
 -- a carriage return directly before the line feed belongs to the end
 abbrev pub without_return : List ℕ → List ℕ

@@ -1,0 +1,62 @@
+-- A statement can be printed where its tokens can.
+use Rattle.std.proofs.Common.{All, List, [], ◌∷◌, ◌++◌}
+use Rattle.std.specs.List.{AllByRecursion}
+use Rattle.std.proofs.lemmas.List.Elements.{recursion_from_All}
+use Rattle.dia_tokens.specs.declared.token.Token.{Token}
+use Rattle.dia_tokens.specs.declared.token.Token.TheVariants.{Name, Number, Symbol, Word}
+use Rattle.dia_tokens.specs.declared.token.Word.TheVariants as word
+use Rattle.dia_tokens.specs.declared.token.Symbol.TheVariants.{Point}
+use Rattle.dia_tokens.specs.Printable.{IsPrintableName, IsPrintableNumber, IsPrintableToken}
+use Rattle.dia_exprs.specs.declared.level.Level.TheVariants.{Whole}
+use Rattle.dia_exprs.specs.Printable.{IsPrintableTree}
+use Rattle.dia_exprs.proofs.PrintableTrees.{all-parts, printable-tree}
+use Rattle.dia_lines.specs.Statements.{Clock, Statement, SpellsClock, IsStatement}
+use Rattle.dia_lines.specs.Statements as st
+
+abbrev pub IsPrintableClock : Clock → Type 0
+IsPrintableClock (st.every period offset) = Unit {0}
+IsPrintableClock (st.on n) = IsPrintableName n
+
+-- each name and each value of the statement can be printed; its other numbers have limits
+abbrev pub IsPrintableStatement : Statement → Type 0
+IsPrintableStatement (st.input n first) = IsPrintableName n × IsPrintableNumber first
+IsPrintableStatement (st.event n) = IsPrintableName n
+IsPrintableStatement (st.task n clock prio deadline cost) = IsPrintableName n × IsPrintableClock clock
+IsPrintableStatement (st.state n first) = IsPrintableName n × IsPrintableNumber first
+IsPrintableStatement (st.sense n from) = IsPrintableName n × IsPrintableName from
+IsPrintableStatement (st.read n delay writer port at) = IsPrintableName n × IsPrintableName writer × IsPrintableName port
+IsPrintableStatement (st.a_let n x) = IsPrintableName n × IsPrintableTree x
+IsPrintableStatement (st.a_next n x) = IsPrintableName n × IsPrintableTree x
+IsPrintableStatement (st.out n first x) = IsPrintableName n × IsPrintableNumber first × IsPrintableTree x
+IsPrintableStatement _ = Unit {0}
+
+printable-clock : (cs : List Token) (clock : Clock) → SpellsClock cs clock → AllByRecursion IsPrintableToken cs → IsPrintableClock clock
+printable-clock cs clock (st.from_zero period) f = tt
+printable-clock cs clock (st.from_offset period offset) f = tt
+printable-clock cs clock (st.with_event n) f = f.1.0
+
+printable-form : (ts : List Token) (s : Statement) → IsStatement ts s → AllByRecursion IsPrintableToken ts → IsPrintableStatement s
+printable-form ts s st.a_blank_line f = tt
+printable-form ts s st.a_header f = tt
+printable-form ts s st.fixed_priorities f = tt
+printable-form ts s st.earliest_deadline f = tt
+printable-form ts s (st.an_until end) f = tt
+printable-form ts s (st.an_input n first) f = (f.1.0, f.1.1.1.0)
+printable-form ts s (st.an_event n) f = f.1.0
+printable-form ts s (st.a_task n cs ps ds clock prio deadline cost c p d) f =
+    let options = all-parts IsPrintableToken (cs ++ ps ++ ds) (Word word.Cost ∷ Number cost ∷ []) f.1.1 in
+    (f.1.0, printable-clock cs clock c (all-parts IsPrintableToken cs ps (all-parts IsPrintableToken (cs ++ ps) ds options.0).0).0)
+printable-form ts s (st.a_state n first) f = (f.1.0, f.1.1.1.0)
+printable-form ts s (st.a_sense n from) f = (f.1.0, f.1.1.1.0)
+printable-form ts s (st.a_read n writer port pre ats delay at d a) f =
+    let behind = all-parts IsPrintableToken pre (Name writer ∷ Symbol Point ∷ Name port ∷ ats) f.1.1.1 in
+    (f.1.0, behind.1.0, behind.1.1.1.0)
+printable-form ts s (st.a_let_line n us x d) f = (f.1.0, printable-tree Whole us x d f.1.1.1)
+printable-form ts s (st.a_next_line n us x d) f = (f.1.0, printable-tree Whole us x d f.1.1.1)
+printable-form ts s (st.an_out n first us x d) f = (f.1.0, f.1.1.1.0, printable-tree Whole us x d f.1.1.1.1.1)
+printable-form ts s st.a_trace f = tt
+printable-form ts s st.a_script f = tt
+printable-form ts s st.an_end f = tt
+
+pub printable-statement : (ts : List Token) (s : Statement) → IsStatement ts s → All IsPrintableToken ts → IsPrintableStatement s
+printable-statement ts s d f = printable-form ts s d (recursion_from_All IsPrintableToken ts f)

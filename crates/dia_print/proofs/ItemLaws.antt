@@ -1,0 +1,345 @@
+-- The canonical lines of a document's items say the items.
+use Rattle.std.proofs.Common.{◌≡◌, ℕ, pos, zero, suc, ◌+◌, ◌<◌, ◌≤◌, ◌^◌, Bool, true, false, cond, All, List, [], ◌∷◌, ◌++◌, length, Option, Some, None, refl, sym, ap, subst, ◌∙◌, arith, append_assoc}
+use Rattle.std.specs.Prelude.{nat_lt, ◌==◌}
+use Rattle.std.specs.List.{AllByRecursion}
+use Rattle.std.specs.Option.{option_map, IfSome}
+use Rattle.std.proofs.lemmas.Bool.Decides.{nat_tests}
+use Rattle.std.proofs.lemmas.List.{append-nil}
+use Rattle.std.proofs.lemmas.List.Elements.{All-from_recursion, recursion_from_All}
+use Rattle.dbp_plan.specs.declared.diagram.Policy.{Policy}
+use Rattle.dbp_plan.specs.declared.diagram.Policy.TheVariants.{Fp, Edf}
+use Rattle.dbp_plan.specs.declared.expr.Expr.{Expr}
+use Rattle.dbp_plan.specs.declared.limits.TheConstants.{MAX_NODES, MAX_TIME, MAX_PRIO}
+use Rattle.dbp_plan.specs.Expr.{tree_of}
+use Rattle.dbp_plan.specs.Limits.{max_delay, max_delay-is}
+use Rattle.dbp_plan.specs.Tree.{Tree, number, variable, unary, binary, choice, size_of, root_of, nodes_of}
+use Rattle.dbp_plan.specs.TreeLaws.{length-nodes_of}
+use Rattle.dia_tokens.specs.declared.token.Token.{Token}
+use Rattle.dia_tokens.specs.declared.token.Token.TheVariants.{Word, Name, Number, Symbol}
+use Rattle.dia_tokens.specs.declared.token.Word as words
+use Rattle.dia_tokens.specs.declared.token.Word.TheVariants as word
+use Rattle.dia_tokens.specs.declared.token.Symbol.TheVariants.{Assign, Point}
+use Rattle.dia_tokens.specs.KeepsSigns.{KeepsSigns}
+use Rattle.dia_tokens.specs.Printable.{IsPrintableName, IsPrintableToken}
+use Rattle.dia_exprs.specs.declared.counts.TheConstants.{MAX_DEPTH}
+use Rattle.dia_exprs.specs.declared.level.Level.TheVariants.{Whole}
+use Rattle.dia_exprs.specs.Counts.{node_count, opened, deepest, depth_of}
+use Rattle.dia_exprs.specs.Grammar.{Expression}
+use Rattle.dia_exprs.proofs.PrintableTrees.{all-parts}
+use Rattle.dia_exprs.proofs.Sizes.{one-node-a-token}
+use Rattle.dia_exprs.specs.Printable.{IsPrintableTree, IsPrintableNode}
+use Rattle.dia_lines.specs.declared.item.Decl.{Decl}
+use Rattle.dia_lines.specs.declared.item.Decl.TheVariants.{Input, Event}
+use Rattle.dia_lines.specs.declared.item.Part.{Part}
+use Rattle.dia_lines.specs.declared.item.Part.TheVariants as part
+use Rattle.dia_lines.specs.declared.item.RawClock.{RawClock}
+use Rattle.dia_lines.specs.declared.item.RawClock.TheVariants.{Every, On}
+use Rattle.dia_lines.specs.declared.item.TaskLine.{TaskLine}
+use Rattle.dia_lines.specs.declared.place.Place.{Place}
+use Rattle.dia_lines.specs.declared.place.Place.TheVariants.{Header}
+use Rattle.dia_lines.specs.Lines.{token_fault, lacks_header, expression_of}
+use Rattle.dia_lines.specs.Statements.{Statement, header, policy, until, trace, script, done, state, sense, fixed_priorities, earliest_deadline, an_until, a_trace, a_script, an_end, a_header, SpellsClock, from_offset, with_event, SpellsOption, left_out, given, SpellsDelay, direct, delayed, at_tick, IsStatement, an_input, an_event, a_task, a_state, a_sense, a_read, a_let_line, a_next_line, an_out}
+use Rattle.dia_print.specs.ExpressionTokens.{tokens_of}
+use Rattle.dia_print.specs.ItemTokens.{assigned, decl_tokens, clock_tokens, option_tokens, task_tokens, delay_tokens, source_tokens, part_tokens, policy_tokens, until_tokens, header_tokens}
+use Rattle.dia_print.proofs.ItemStatements.{decl_statement, clock_of, task_statement, part_statement}
+use Rattle.dia_print.specs.Printable.{IsPrintableExpr, IsPrintableDecl, IsPrintableClock, IsPrintablePart, IsPrintableTaskLine}
+use Rattle.dia_print.proofs.ExpressionLaws.{spells-tokens, keeps-tokens, both-parts, each-printable, shallow}
+
+-- ---- what the items say
+
+pub decl-says : (d : Decl) → IsStatement (decl_tokens d) (decl_statement d)
+decl-says (Input n v) = an_input n v
+decl-says (Event n) = an_event n
+
+clock-says : (c : RawClock) → SpellsClock (clock_tokens c) (clock_of c)
+clock-says (Every p o) = from_offset (pos p) (pos o)
+clock-says (On n) = with_event n
+
+option-says : (w : words.Word) (o : Option ℕ) → SpellsOption w (option_tokens w o) (option_map pos o)
+option-says w None = left_out
+option-says w (Some n) = given (pos n)
+
+pub task-says : (t : TaskLine) → IsStatement (task_tokens t) (task_statement t)
+task-says t =
+    a_task t.name (clock_tokens t.clock) (option_tokens word.Prio t.prio) (option_tokens word.Deadline t.deadline) (clock_of t.clock) (option_map pos t.prio) (option_map pos t.deadline) (pos t.cost)
+    (clock-says t.clock) (option-says word.Prio t.prio) (option-says word.Deadline t.deadline)
+
+delay-says : (d : ℕ) → d ≤ max_delay → SpellsDelay (delay_tokens d) (pos d)
+delay-says zero h = direct
+delay-says (suc zero) h = delayed
+delay-says (suc (suc d)) h = absurd (omega (arith, h, max_delay-is))
+
+pub part-says : (p : Part) → IsPrintablePart p → IsStatement (part_tokens p) (part_statement p)
+part-says (part.State n v) h = a_state n v
+part-says (part.Sense n i) h = a_sense n i
+part-says (part.Read n d w p a) h =
+    let read = a_read n w p (delay_tokens d) (Word word.At ∷ Number (pos a) ∷ []) (pos d) (pos a) (delay-says d h.1) (at_tick (pos a)) in
+    subst (λ ts. IsStatement (Word word.Read ∷ Name n ∷ Symbol Assign ∷ ts) (part_statement (part.Read n d w p a))) (sym (append_assoc (delay_tokens d) (Name w ∷ Symbol Point ∷ Name p ∷ []) (Word word.At ∷ Number (pos a) ∷ []))) read
+part-says (part.Let n e) h = a_let_line n (tokens_of (tree_of e)) (tree_of e) (spells-tokens (tree_of e))
+part-says (part.Next n e) h = a_next_line n (tokens_of (tree_of e)) (tree_of e) (spells-tokens (tree_of e))
+part-says (part.Out n v e) h = an_out n v (tokens_of (tree_of e)) (tree_of e) (spells-tokens (tree_of e))
+
+-- ---- no fault of the tokens
+
+faultless : (place : Place) (ts : List Token) → lacks_header place ts ≡ false → node_count (expression_of ts) ≤ MAX_NODES → depth_of ts ≤ MAX_DEPTH → token_fault place ts ≡ None
+faultless place ts h n d =
+    let nodes : nat_lt MAX_NODES (node_count (expression_of ts)) ≡ false = grind (arith, nat_tests) in
+    let depth : nat_lt MAX_DEPTH (depth_of ts) ≡ false = grind (arith, nat_tests) in
+    rw (h, nodes, depth) refl
+
+-- a token that is no parenthesis, and belongs to no expression
+abbrev IsPlain : Token → Type 0
+IsPlain t = (k : ℕ) → opened k t ≡ k
+
+plain-depth : (k : ℕ) (ts : List Token) → AllByRecursion IsPlain ts → deepest k ts ≤ k
+plain-depth k [] h = omega arith
+plain-depth k (t ∷ ts) h = let rest = plain-depth k ts h.1 in rw (h.0 k) (omega (arith, rest))
+
+clock-plain : (c : RawClock) → AllByRecursion IsPlain (clock_tokens c)
+clock-plain (Every p o) = (λ k. refl, (λ k. refl, (λ k. refl, (λ k. refl, tt))))
+clock-plain (On n) = (λ k. refl, (λ k. refl, tt))
+
+prio-plain : (o : Option ℕ) → AllByRecursion IsPlain (option_tokens word.Prio o)
+prio-plain None = tt
+prio-plain (Some n) = (λ k. refl, (λ k. refl, tt))
+
+deadline-plain : (o : Option ℕ) → AllByRecursion IsPlain (option_tokens word.Deadline o)
+deadline-plain None = tt
+deadline-plain (Some n) = (λ k. refl, (λ k. refl, tt))
+
+task-plain : (t : TaskLine) → AllByRecursion IsPlain (task_tokens t)
+task-plain t = (
+  λ k. refl,
+  (
+    λ k. refl,
+    both-parts IsPlain (clock_tokens t.clock ++ option_tokens word.Prio t.prio ++ option_tokens word.Deadline t.deadline) (Word word.Cost ∷ Number (pos t.cost) ∷ [])
+        (both-parts IsPlain (clock_tokens t.clock ++ option_tokens word.Prio t.prio) (option_tokens word.Deadline t.deadline) (both-parts IsPlain (clock_tokens t.clock) (option_tokens word.Prio t.prio) (clock-plain t.clock) (prio-plain t.prio)) (deadline-plain t.deadline))
+        (λ k. refl, (λ k. refl, tt)),
+  ),
+)
+
+no-or-pre : (P : Token → Type 0) (b : Bool) → P (Word word.Pre) → AllByRecursion P (cond b [] (Word word.Pre ∷ []))
+no-or-pre P true h = tt
+no-or-pre P false h = (h, tt)
+
+delay-plain : (d : ℕ) → AllByRecursion IsPlain (delay_tokens d)
+delay-plain d = no-or-pre IsPlain (d == 0) (λ k. refl)
+
+read-plain : (n w p : List ℕ) (d a : ℕ) → AllByRecursion IsPlain (assigned word.Read n ++ (source_tokens d w p ++ Word word.At ∷ Number (pos a) ∷ []))
+read-plain n w p d a = (
+  λ k. refl,
+  (
+    λ k. refl,
+    (
+      λ k. refl,
+      both-parts IsPlain (source_tokens d w p) (Word word.At ∷ Number (pos a) ∷ []) (both-parts IsPlain (delay_tokens d) (Name w ∷ Symbol Point ∷ Name p ∷ []) (delay-plain d) (λ k. refl, (λ k. refl, (λ k. refl, tt)))) (λ k. refl, (λ k. refl, tt)),
+    ),
+  ),
+)
+
+-- tokens without an expression
+plain-faultless : (place : Place) (ts : List Token) → lacks_header place ts ≡ false → expression_of ts ≡ [] → AllByRecursion IsPlain ts → token_fault place ts ≡ None
+plain-faultless place ts h e p = let d = plain-depth 0 ts p in faultless place ts h (rw e (omega arith)) (omega (arith, d))
+
+-- so many nodes has an expression at most
+size-fits : (e : Expr (List ℕ)) → size_of (tree_of e) ≤ MAX_NODES
+size-fits e = omega (arith, e.few, ap length e.tree.1, length-nodes_of 0 (tree_of e))
+
+expression-nodes : (e : Expr (List ℕ)) → node_count (tokens_of (tree_of e)) ≤ MAX_NODES
+expression-nodes e = let one = one-node-a-token Whole (tokens_of (tree_of e)) (tree_of e) (spells-tokens (tree_of e)) in omega (arith, one, size-fits e)
+
+expression-depth : (e : Expr (List ℕ)) → deepest 0 (tokens_of (tree_of e)) ≤ MAX_DEPTH
+expression-depth e =
+    let deep : deepest 0 (tokens_of (tree_of e) ++ []) ≤ MAX_DEPTH = shallow (tree_of e) 0 MAX_DEPTH [] (omega (arith, size-fits e)) (omega arith) in
+    subst (λ ts. deepest 0 ts ≤ MAX_DEPTH) (append-nil (tokens_of (tree_of e))) deep
+
+-- ---- lines
+
+-- the tokens are the statement, can be printed, keep the signs of numbers, and have no fault at the place
+pub record IsLine (place : Place) (ts : List Token) (s : Statement) : Type 0 where
+  pub form : IsStatement ts s
+  pub printable : All IsPrintableToken ts
+  pub signs : KeepsSigns true ts
+  pub faultless : token_fault place ts ≡ None
+
+-- a place behind the first line
+abbrev pub IsBehindHeader : Place → Type 0
+IsBehindHeader place = (ts : List Token) → lacks_header place ts ≡ false
+
+-- the tokens behind are no number
+abbrev Follows : List Token → Type 0
+Follows rest = (s : Bool) → KeepsSigns s rest
+
+clock-keeps : (c : RawClock) (rest : List Token) → Follows rest → Follows (clock_tokens c ++ rest)
+clock-keeps (Every p o) rest f s = (λ e. tt, (λ e. tt, (λ e. tt, (λ e. tt, f false))))
+clock-keeps (On n) rest f s = (λ e. tt, (λ e. tt, f false))
+
+option-keeps : (w : words.Word) (o : Option ℕ) (rest : List Token) → Follows rest → Follows (option_tokens w o ++ rest)
+option-keeps w None rest f s = f s
+option-keeps w (Some n) rest f s = (λ e. tt, (λ e. tt, f false))
+
+task-keeps : (t : TaskLine) → KeepsSigns true (task_tokens t)
+task-keeps t =
+    let cs = clock_tokens t.clock in
+    let ps = option_tokens word.Prio t.prio in
+    let ds = option_tokens word.Deadline t.deadline in
+    let costs : List Token = Word word.Cost ∷ Number (pos t.cost) ∷ [] in
+    let last : Follows costs = λ s. (λ e. tt, (λ e. tt, tt)) in
+    let all : KeepsSigns false (cs ++ (ps ++ (ds ++ costs))) = clock-keeps t.clock (ps ++ (ds ++ costs)) (option-keeps word.Prio t.prio (ds ++ costs) (option-keeps word.Deadline t.deadline costs last)) false in
+    let same : cs ++ (ps ++ (ds ++ costs)) ≡ cs ++ ps ++ ds ++ costs = sym (append_assoc cs ps (ds ++ costs)) ∙ sym (append_assoc (cs ++ ps) ds costs) in
+    (λ e. tt, (λ e. tt, subst (KeepsSigns false) same all))
+
+no-or-pre-keeps : (b : Bool) (rest : List Token) → Follows rest → Follows (cond b [] (Word word.Pre ∷ []) ++ rest)
+no-or-pre-keeps true rest f s = f s
+no-or-pre-keeps false rest f s = (λ e. tt, f true)
+
+read-keeps : (n w p : List ℕ) (d a : ℕ) → KeepsSigns true (assigned word.Read n ++ (source_tokens d w p ++ Word word.At ∷ Number (pos a) ∷ []))
+read-keeps n w p d a =
+    let port : List Token = Name w ∷ Symbol Point ∷ Name p ∷ [] in
+    let time : List Token = Word word.At ∷ Number (pos a) ∷ [] in
+    let last : Follows (port ++ time) = λ s. (λ e. tt, (λ e. tt, (λ e. tt, (λ e. tt, (λ e. tt, tt))))) in
+    (λ e. tt, (λ e. tt, (λ e. tt, subst (KeepsSigns true) (sym (append_assoc (delay_tokens d) port time)) (no-or-pre-keeps (d == 0) (port ++ time) last true))))
+
+expression-keeps : (x : Expression) → KeepsSigns true (tokens_of x)
+expression-keeps x = subst (KeepsSigns true) (append-nil (tokens_of x)) (keeps-tokens x [] (λ s. tt))
+
+-- a small number
+small : (n : ℕ) → n ≤ MAX_TIME → n < 2 ^ 63
+small n h = omega (arith, h)
+
+clock-tokens : (c : RawClock) → IsPrintableClock c → AllByRecursion IsPrintableToken (clock_tokens c)
+clock-tokens (Every p o) h = (tt, (small p h.1, (tt, (small o h.2, tt))))
+clock-tokens (On n) h = (tt, (h, tt))
+
+option-tokens : (w : words.Word) (o : Option ℕ) → IfSome o (λ n. n < 2 ^ 63) → AllByRecursion IsPrintableToken (option_tokens w o)
+option-tokens w None h = tt
+option-tokens w (Some n) h = (tt, (h, tt))
+
+small-prio : (o : Option ℕ) → IfSome o (λ p. p ≤ MAX_PRIO) → IfSome o (λ n. n < 2 ^ 63)
+small-prio None h = tt
+small-prio (Some n) h = omega (arith, h)
+
+small-deadline : (o : Option ℕ) → IfSome o (λ d. (1 ≤ d) × (d ≤ MAX_TIME)) → IfSome o (λ n. n < 2 ^ 63)
+small-deadline None h = tt
+small-deadline (Some n) h = small n h.1
+
+task-printable : (t : TaskLine) → IsPrintableTaskLine t → AllByRecursion IsPrintableToken (task_tokens t)
+task-printable t h =
+    let cs = clock_tokens t.clock in
+    let ps = option_tokens word.Prio t.prio in
+    let ds = option_tokens word.Deadline t.deadline in (
+      tt,
+      (
+        h.named,
+        both-parts IsPrintableToken (cs ++ ps ++ ds) (Word word.Cost ∷ Number (pos t.cost) ∷ [])
+            (both-parts IsPrintableToken (cs ++ ps) ds (both-parts IsPrintableToken cs ps (clock-tokens t.clock h.clock) (option-tokens word.Prio t.prio (small-prio t.prio h.prio))) (option-tokens word.Deadline t.deadline (small-deadline t.deadline h.deadline)))
+            (tt, (small t.cost h.cost.1, tt)),
+      ),
+    )
+
+read-printable : (n w p : List ℕ) (d a : ℕ) → IsPrintableName n → IsPrintableName w → IsPrintableName p → a ≤ MAX_TIME
+    → AllByRecursion IsPrintableToken (assigned word.Read n ++ (source_tokens d w p ++ Word word.At ∷ Number (pos a) ∷ []))
+read-printable n w p d a f g h less = (
+  tt,
+  (
+    f,
+    (
+      tt,
+      both-parts IsPrintableToken (source_tokens d w p) (Word word.At ∷ Number (pos a) ∷ []) (both-parts IsPrintableToken (delay_tokens d) (Name w ∷ Symbol Point ∷ Name p ∷ []) (no-or-pre IsPrintableToken (d == 0) tt) (g, (tt, (h, tt)))) (tt, (small a less, tt)),
+    ),
+  ),
+)
+
+-- the tree of nodes that can be printed
+printable-nodes : (at : ℕ) (t : Tree (List ℕ)) → AllByRecursion IsPrintableNode (nodes_of at t) → IsPrintableTree t
+printable-nodes at (number z) h = h.0
+printable-nodes at (variable n) h = h.0
+printable-nodes at (unary o t) h = printable-nodes at t (all-parts IsPrintableNode (nodes_of at t) (root_of at (unary o t) ∷ []) h).0
+printable-nodes at (binary o l r) h =
+    let ls = nodes_of at l in
+    let rs = nodes_of (at + size_of l) r in
+    let both = all-parts IsPrintableNode ls rs (all-parts IsPrintableNode (ls ++ rs) (root_of at (binary o l r) ∷ []) h).0 in
+    (printable-nodes at l both.0, printable-nodes (at + size_of l) r both.1)
+printable-nodes at (choice c x y) h =
+    let cs = nodes_of at c in
+    let xs = nodes_of (at + size_of c) x in
+    let ys = nodes_of (at + size_of c + size_of x) y in
+    let all = all-parts IsPrintableNode (cs ++ xs) ys (all-parts IsPrintableNode (cs ++ xs ++ ys) (root_of at (choice c x y) ∷ []) h).0 in
+    let both = all-parts IsPrintableNode cs xs all.0 in
+    (printable-nodes at c both.0, printable-nodes (at + size_of c) x both.1, printable-nodes (at + size_of c + size_of x) y all.1)
+
+expression-printable : (e : Expr (List ℕ)) → IsPrintableExpr e → AllByRecursion IsPrintableToken (tokens_of (tree_of e))
+expression-printable e h = each-printable (tree_of e) (printable-nodes 0 (tree_of e) (recursion_from_All IsPrintableNode (nodes_of 0 (tree_of e)) (subst (All IsPrintableNode) e.tree.1 h)))
+
+module _ (place : Place) (behind : IsBehindHeader place) where
+  plain-line : (ts : List Token) (s : Statement) → expression_of ts ≡ [] → AllByRecursion IsPlain ts → IsStatement ts s → AllByRecursion IsPrintableToken ts → KeepsSigns true ts → IsLine place ts s
+  plain-line ts s e p form printable signs =
+      record { form = form; printable = All-from_recursion IsPrintableToken ts printable; signs = signs; faultless = plain-faultless place ts (behind ts) e p }
+
+  pub policy-line : (p : Policy) → IsLine place (policy_tokens p) (policy p)
+  policy-line Fp = plain-line (policy_tokens Fp) (policy Fp) refl (λ k. refl, (λ k. refl, tt)) fixed_priorities (tt, (tt, tt)) (λ e. tt, (λ e. tt, tt))
+  policy-line Edf = plain-line (policy_tokens Edf) (policy Edf) refl (λ k. refl, (λ k. refl, tt)) earliest_deadline (tt, (tt, tt)) (λ e. tt, (λ e. tt, tt))
+
+  pub until-line : (n : ℕ) → n ≤ MAX_TIME → IsLine place (until_tokens n) (until (pos n))
+  until-line n h = plain-line (until_tokens n) (until (pos n)) refl (λ k. refl, (λ k. refl, tt)) (an_until (pos n)) (tt, (small n h, tt)) (λ e. tt, (λ e. tt, tt))
+
+  pub decl-line : (d : Decl) → IsPrintableDecl d → IsLine place (decl_tokens d) (decl_statement d)
+  decl-line (Input n v) h =
+      plain-line (decl_tokens (Input n v)) (decl_statement (Input n v)) refl (λ k. refl, (λ k. refl, (λ k. refl, (λ k. refl, tt)))) (decl-says (Input n v))
+      (tt, (h.0, (tt, (h.1, tt)))) (λ e. tt, (λ e. tt, (λ e. tt, (λ e. absurd cc, tt))))
+  decl-line (Event n) h = plain-line (decl_tokens (Event n)) (decl_statement (Event n)) refl (λ k. refl, (λ k. refl, tt)) (decl-says (Event n)) (tt, (h, tt)) (λ e. tt, (λ e. tt, tt))
+
+  pub task-line : (t : TaskLine) → IsPrintableTaskLine t → IsLine place (task_tokens t) (task_statement t)
+  task-line t h = plain-line (task_tokens t) (task_statement t) refl (task-plain t) (task-says t) (task-printable t h) (task-keeps t)
+
+  pub part-line : (p : Part) → IsPrintablePart p → IsLine place (part_tokens p) (part_statement p)
+  part-line (part.State n v) h =
+      plain-line (part_tokens (part.State n v)) (state n v) refl (λ k. refl, (λ k. refl, (λ k. refl, (λ k. refl, tt)))) (a_state n v)
+      (tt, (h.0, (tt, (h.1, tt)))) (λ e. tt, (λ e. tt, (λ e. tt, (λ e. absurd cc, tt))))
+  part-line (part.Sense n i) h =
+      plain-line (part_tokens (part.Sense n i)) (sense n i) refl (λ k. refl, (λ k. refl, (λ k. refl, (λ k. refl, tt)))) (a_sense n i)
+      (tt, (h.0, (tt, (h.1, tt)))) (λ e. tt, (λ e. tt, (λ e. tt, (λ e. tt, tt))))
+  part-line (part.Read n d w p a) h =
+      plain-line (part_tokens (part.Read n d w p a)) (part_statement (part.Read n d w p a)) refl (read-plain n w p d a) (part-says (part.Read n d w p a) h) (read-printable n w p d a h.0 h.2 h.3 h.4) (read-keeps n w p d a)
+  part-line (part.Let n e) h =
+      let ts = part_tokens (part.Let n e) in
+      record {
+        form = part-says (part.Let n e) h;
+        printable = All-from_recursion IsPrintableToken ts (tt, (h.0, (tt, expression-printable e h.1)));
+        signs = (λ s. tt, (λ s. tt, (λ s. tt, expression-keeps (tree_of e))));
+        faultless = faultless place ts (behind ts) (expression-nodes e) (omega (arith, expression-depth e));
+      }
+  part-line (part.Next n e) h =
+      let ts = part_tokens (part.Next n e) in
+      record {
+        form = part-says (part.Next n e) h;
+        printable = All-from_recursion IsPrintableToken ts (tt, (h.0, (tt, expression-printable e h.1)));
+        signs = (λ s. tt, (λ s. tt, (λ s. tt, expression-keeps (tree_of e))));
+        faultless = faultless place ts (behind ts) (expression-nodes e) (omega (arith, expression-depth e));
+      }
+  part-line (part.Out n v e) h =
+      let ts = part_tokens (part.Out n v e) in
+      record {
+        form = part-says (part.Out n v e) h;
+        printable = All-from_recursion IsPrintableToken ts (tt, (h.0, (tt, (h.1, (tt, expression-printable e h.2)))));
+        signs = (λ s. tt, (λ s. tt, (λ s. tt, (λ s. absurd cc, (λ s. tt, expression-keeps (tree_of e))))));
+        faultless = faultless place ts (behind ts) (expression-nodes e) (omega (arith, expression-depth e));
+      }
+
+  -- a line of one word
+  pub trace-line : IsLine place (Word word.Trace ∷ []) trace
+  trace-line = plain-line (Word word.Trace ∷ []) trace refl (λ k. refl, tt) a_trace (tt, tt) (λ e. tt, tt)
+
+  pub script-line : IsLine place (Word word.Script ∷ []) script
+  script-line = plain-line (Word word.Script ∷ []) script refl (λ k. refl, tt) a_script (tt, tt) (λ e. tt, tt)
+
+  pub done-line : IsLine place (Word word.Done ∷ []) done
+  done-line = plain-line (Word word.Done ∷ []) done refl (λ k. refl, tt) an_end (tt, tt) (λ e. tt, tt)
+
+pub header-line : IsLine Header header_tokens header
+header-line = record {
+  form = a_header;
+  printable = All-from_recursion IsPrintableToken header_tokens (tt, (omega arith, tt));
+  signs = (λ e. tt, (λ e. tt, tt));
+  faultless = plain-faultless Header header_tokens refl refl (λ k. refl, (λ k. refl, tt));
+}

@@ -1,0 +1,31 @@
+-- What the canonical lines of a document say.
+use Rattle.std.specs.Prelude.{pos}
+use Rattle.std.specs.Option.{option_map}
+use Rattle.dbp_plan.specs.Expr.{tree_of}
+use Rattle.dia_lines.specs.declared.item.Decl.{Decl}
+use Rattle.dia_lines.specs.declared.item.Decl.TheVariants.{Input, Event}
+use Rattle.dia_lines.specs.declared.item.Part.{Part}
+use Rattle.dia_lines.specs.declared.item.Part.TheVariants as part
+use Rattle.dia_lines.specs.declared.item.RawClock.{RawClock}
+use Rattle.dia_lines.specs.declared.item.RawClock.TheVariants.{Every, On}
+use Rattle.dia_lines.specs.declared.item.TaskLine.{TaskLine}
+use Rattle.dia_lines.specs.Statements.{Statement, Clock, every, on, input, event, task, state, sense, read, a_let, a_next, out}
+
+abbrev pub decl_statement : Decl → Statement
+decl_statement (Input n first) = input n first
+decl_statement (Event n) = event n
+
+abbrev pub clock_of : RawClock → Clock
+clock_of (Every period offset) = every (pos period) (pos offset)
+clock_of (On n) = on n
+
+abbrev pub task_statement : TaskLine → Statement
+task_statement t = task t.name (clock_of t.clock) (option_map pos t.prio) (option_map pos t.deadline) (pos t.cost)
+
+abbrev pub part_statement : Part → Statement
+part_statement (part.State n first) = state n first
+part_statement (part.Sense n from) = sense n from
+part_statement (part.Read n delay writer port at) = read n (pos delay) writer port (pos at)
+part_statement (part.Let n e) = a_let n (tree_of e)
+part_statement (part.Next n e) = a_next n (tree_of e)
+part_statement (part.Out n first e) = out n first (tree_of e)

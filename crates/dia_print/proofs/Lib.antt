@@ -1,0 +1,5 @@
+pub mod ExpressionLaws
+pub mod ItemLaws
+pub mod ItemStatements
+pub mod PrintedTokens
+mod TreePlaces

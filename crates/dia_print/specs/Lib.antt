@@ -1,0 +1,5 @@
+pub mod ExpressionTokens
+pub mod ItemTokens
+pub mod Printable
+pub mod Printed
+pub mod Stands

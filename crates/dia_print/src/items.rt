@@ -1,0 +1,170 @@
+// The lines of a document in canonical form.
+
+ghost use Rattle.std.specs.Prelude.{◌≡◌, OnOk};
+ghost use Rattle.std.specs.Option.{option_map};
+ghost use Rattle.dia_print.specs.ItemTokens.{policy_tokens, until_tokens, decl_tokens, clock_tokens, option_tokens, task_tokens, delay_tokens, part_tokens, header_tokens, assigned, source_tokens};
+ghost use Rattle.dia_print.specs.Printed.{with_tokens};
+
+use crate::Printer;
+use crate::expression::push_expression;
+use dbp_plan::{Name, NoMemory, Policy};
+use dia_lines::{Decl, Part, RawClock, TaskLine};
+use dia_tokens::{Symbol, Token, Word};
+
+/// The word and a number, where it is there.
+fn push_option(printer: &mut Printer, word: Word, count: Option<u64>) -> Result<(), NoMemory>
+    ensures { OnOk result (printer.new ≡ with_tokens printer.old (option_tokens word count)) }
+{
+    if let Some(count) = count {
+        printer.push(Token::Word(word))?;
+        printer.push_count(count)?;
+    }
+    Ok(())
+}
+
+fn push_clock(printer: &mut Printer, clock: RawClock) -> Result<(), NoMemory>
+    ensures { OnOk result (printer.new ≡ with_tokens printer.old (clock_tokens clock)) }
+{
+    match clock {
+        RawClock::Every { period, offset } => {
+            printer.push(Token::Word(Word::Every))?;
+            printer.push_count(period)?;
+            printer.push(Token::Word(Word::From))?;
+            printer.push_count(offset)
+        }
+        RawClock::On(event) => {
+            printer.push(Token::Word(Word::On))?;
+            printer.push(Token::Name(event))
+        }
+    }
+}
+
+/// The word that begins a line, the name that it declares and `=`.
+fn push_assigned(printer: &mut Printer, word: Word, name: Name) -> Result<(), NoMemory>
+    ensures { OnOk result (printer.new ≡ with_tokens printer.old (assigned word name)) }
+{
+    printer.push(Token::Word(word))?;
+    printer.push(Token::Name(name))?;
+    printer.push(Token::Symbol(Symbol::Assign))
+}
+
+fn push_delay(printer: &mut Printer, delay: u32) -> Result<(), NoMemory>
+    ensures { OnOk result (printer.new ≡ with_tokens printer.old (delay_tokens delay)) }
+{
+    if delay != 0 {
+        printer.push(Token::Word(Word::Pre))?;
+    }
+    Ok(())
+}
+
+/// What a read reads: an out of a task, directly or with a delay.
+fn push_source(printer: &mut Printer, delay: u32, task: Name, port: Name) -> Result<(), NoMemory>
+    ensures { OnOk result (printer.new ≡ with_tokens printer.old (source_tokens delay task port)) }
+{
+    push_delay(printer, delay)?;
+    printer.push(Token::Name(task))?;
+    printer.push(Token::Symbol(Symbol::Point))?;
+    printer.push(Token::Name(port))
+}
+
+impl Printer {
+    ghost use Rattle.std.specs.Prelude.{◌≡◌, OnOk};
+    ghost use Rattle.dia_print.specs.ItemTokens.{policy_tokens, until_tokens, decl_tokens, task_tokens, part_tokens, header_tokens};
+    ghost use Rattle.dia_print.specs.Printed.{with_tokens};
+
+    /// Adds the line that begins a document.
+    pub fn push_header(&mut self) -> Result<(), NoMemory>
+        ensures { OnOk result (self.new ≡ with_tokens self.old header_tokens) }
+    {
+        self.push(Token::Word(Word::Dbp))?;
+        self.push_count(1)
+    }
+
+    pub fn push_policy(&mut self, policy: Policy) -> Result<(), NoMemory>
+        ensures { OnOk result (self.new ≡ with_tokens self.old (policy_tokens policy)) }
+    {
+        self.push(Token::Word(Word::Policy))?;
+        self.push(Token::Word(match policy {
+            Policy::Fp => Word::Fp,
+            Policy::Edf => Word::Edf,
+        }))
+    }
+
+    pub fn push_until(&mut self, end: u64) -> Result<(), NoMemory>
+        ensures { OnOk result (self.new ≡ with_tokens self.old (until_tokens end)) }
+    {
+        self.push(Token::Word(Word::Until))?;
+        self.push_count(end)
+    }
+
+    /// Adds the line of a declaration.
+    pub fn push_decl(&mut self, decl: Decl) -> Result<(), NoMemory>
+        ensures { OnOk result (self.new ≡ with_tokens self.old (decl_tokens decl)) }
+    {
+        match decl {
+            Decl::Input(name, first) => {
+                push_assigned(self, Word::Input, name)?;
+                self.push(Token::Number(first))
+            }
+            Decl::Event(name) => {
+                self.push(Token::Word(Word::Event))?;
+                self.push(Token::Name(name))
+            }
+        }
+    }
+
+    /// Adds the line that begins a task.
+    pub fn push_task(&mut self, task: TaskLine) -> Result<(), NoMemory>
+        ensures { OnOk result (self.new ≡ with_tokens self.old (task_tokens task)) }
+    {
+        self.push(Token::Word(Word::Task))?;
+        self.push(Token::Name(task.name))?;
+        push_clock(self, task.clock)?;
+        push_option(self, Word::Prio, task.prio.map(u64::from))?;
+        push_option(self, Word::Deadline, task.deadline)?;
+        self.push(Token::Word(Word::Cost))?;
+        self.push_count(task.cost)
+    }
+
+    /// Adds a line of a task's body, without the spaces before it.
+    pub fn push_part(&mut self, part: &Part) -> Result<(), NoMemory>
+        ensures { OnOk result (self.new ≡ with_tokens self.old (part_tokens part.now)) }
+    {
+        match part {
+            Part::State(name, first) => {
+                push_assigned(self, Word::State, *name)?;
+                self.push(Token::Number(*first))
+            }
+            Part::Sense(name, input) => {
+                push_assigned(self, Word::Sense, *name)?;
+                self.push(Token::Name(*input))
+            }
+            Part::Read {
+                name,
+                delay,
+                task,
+                port,
+                at,
+            } => {
+                push_assigned(self, Word::Read, *name)?;
+                push_source(self, *delay, *task, *port)?;
+                self.push(Token::Word(Word::At))?;
+                self.push_count(*at)
+            }
+            Part::Let(name, expr) => {
+                push_assigned(self, Word::Let, *name)?;
+                push_expression(self, expr)
+            }
+            Part::Next(name, expr) => {
+                push_assigned(self, Word::Next, *name)?;
+                push_expression(self, expr)
+            }
+            Part::Out(name, first, expr) => {
+                push_assigned(self, Word::Out, *name)?;
+                self.push(Token::Number(*first))?;
+                self.push(Token::Word(Word::Then))?;
+                push_expression(self, expr)
+            }
+        }
+    }
+}
