@@ -12,3 +12,6 @@ pub mod Ending
 pub mod DocumentLaws
 pub mod FaultLaws
 pub mod Outcomes
+mod Following
+mod Rooms
+mod RoundTrip

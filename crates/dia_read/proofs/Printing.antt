@@ -12,7 +12,7 @@ use Rattle.dbp_plan.specs.Limits.{max_delay, max_delay-is}
 use Rattle.dbp_plan.specs.Expr.{IsExprOf}
 use Rattle.dbp_plan.specs.Tree.{Tree}
 use Rattle.dia_tokens.specs.declared.token.Token.{Token}
-use Rattle.dia_tokens.proofs.SpellingLaws.{free-names, spells-again, spelled-again}
+use Rattle.dia_tokens.proofs.SpellingLaws.{printable-tokens, spells-again, spelled-again}
 use Rattle.dia_lines.specs.declared.fault.ReadCode.TheVariants.{LimitHit}
 use Rattle.dia_lines.specs.declared.fault.Limit.{Limit}
 use Rattle.dia_lines.specs.declared.fault.Limit.TheVariants as limit
@@ -30,24 +30,25 @@ use Rattle.dia_lines.specs.Places.{is_body}
 use Rattle.dia_lines.specs.Limits.{lies_within, option_lies_within, clock_fits, numbers_fit, is_input, is_event, is_task, is_read, is_out, of_this_task, passed_count}
 use Rattle.dia_lines.specs.Lines.{Said, says, row, step, statements, limit_fault, SaysInTrace, an_empty_row, trace_ends, script_begins, a_row, SaysInScript, no_step, script_ends, a_step, Reads, of_the_diagram, of_the_trace, of_the_script}
 use Rattle.dia_lines.specs.Held.{IsDecl, IsClock, IsTaskLine, IsPart, IsKept, IsHeld}
-use Rattle.dia_exprs.specs.FreeNames.{IsFreeTree}
-use Rattle.dia_exprs.proofs.FreeNames.{free-nodes}
-use Rattle.dia_lines.proofs.FreeNames.{IsFreeClock, IsFreeStatement, free-statement}
+use Rattle.dia_exprs.specs.Printable.{IsPrintableTree}
+use Rattle.dia_exprs.proofs.PrintableTrees.{printable-nodes}
+use Rattle.dia_lines.proofs.PrintableStatements as lines
+use Rattle.dia_lines.proofs.PrintableStatements.{IsPrintableStatement, printable-statement}
 use Rattle.dia_read.specs.declared.document.RawTask.{RawTask}
 use Rattle.dia_read.specs.declared.draft.Draft.{Draft}
 use Rattle.dia_read.specs.declared.draft.Section.{Section}
 use Rattle.dia_read.specs.Documents.{kept_text}
 use Rattle.dia_read.specs.Drafts.{empty_draft, task_of, with_part, drafted, section_text, finished}
-use Rattle.dia_read.specs.Printable.{HasFreeNames, IsPrintableDecl, IsPrintableClock, IsPrintablePart, is_input_decl, is_event_decl, is_read_part, is_out_part, IsPrintableTask, ended_lines, KeepsItself, IsPrintable}
+use Rattle.dia_read.specs.Printable.{IsPrintableExpr, IsPrintableDecl, IsPrintableClock, IsPrintablePart, is_input_decl, is_event_decl, is_read_part, is_out_part, IsPrintableTask, ended_lines, KeepsItself, IsPrintable}
 use Rattle.dia_read.proofs.Holding.{all_tasks}
 use Rattle.dia_read.proofs.KeptLines.{kept-part, no-row, no-step}
 
-free-expr : (x : Tree (List ℕ)) (e : Expr (List ℕ)) → IsFreeTree x → IsExprOf e x → HasFreeNames e
-free-expr x e f is = rw is (free-nodes 0 x f)
+printable-expr : (x : Tree (List ℕ)) (e : Expr (List ℕ)) → IsPrintableTree x → IsExprOf e x → IsPrintableExpr e
+printable-expr x e f is = rw is (printable-nodes 0 x f)
 
 -- ---- counts
 
-count-more : {A : Type 0} (p : A → Bool) (xs : List A) (x : A) → count_by p (xs ++ x ∷ []) ≡ count_by p xs + count_by p (x ∷ [])
+pub count-more : {A : Type 0} (p : A → Bool) (xs : List A) (x : A) → count_by p (xs ++ x ∷ []) ≡ count_by p xs + count_by p (x ∷ [])
 count-more p xs x = sum_by-append (λ y. cond (p y) 1 0) xs (x ∷ [])
 
 -- a count that isn't full has room for one more
@@ -63,7 +64,7 @@ HasShortDelay _ = Unit {0}
 
 -- the numbers and the counts of a statement behind those before it, and its names
 pub record IsSound (before : List Statement) (s : Statement) : Type 0 where
-  pub free : IsFreeStatement s
+  pub free : IsPrintableStatement s
   pub numbers : numbers_fit s ≡ true
   pub counts : passed_count before s ≡ None
   pub delay : HasShortDelay s
@@ -78,20 +79,20 @@ within n least greatest z e h =
     let each = both (int_le (pos least) (pos n)) (int_le (pos n) (pos greatest)) at in
     (let k = each.0 in grind (arith, ints, nat_tests), let k = each.1 in grind (arith, ints, nat_tests))
 
-decl-prints : (s : Statement) (d : Decl) → IsDecl s d → IsFreeStatement s → IsPrintableDecl d
-decl-prints (input n v) (Input m w) (a, b) f = rw (← a) f
+decl-prints : (s : Statement) (d : Decl) → IsDecl s d → IsPrintableStatement s → IsPrintableDecl d
+decl-prints (input n v) (Input m w) (a, b) f = (rw (← a) f.0, rw (← b) f.1)
 decl-prints (event n) (Event m) a f = rw (← a) f
 decl-prints (input n v) (Event m) a f = absurd a
 decl-prints (event n) (Input m w) a f = absurd a
 decl-prints s d a f = absurd a
 
-part-prints : (s : Statement) (p : Part) → IsPart s p → IsFreeStatement s → numbers_fit s ≡ true → HasShortDelay s → IsPrintablePart p
-part-prints (state n v) (part.State m w) (a, b) f h l = rw (← a) f
+part-prints : (s : Statement) (p : Part) → IsPart s p → IsPrintableStatement s → numbers_fit s ≡ true → HasShortDelay s → IsPrintablePart p
+part-prints (state n v) (part.State m w) (a, b) f h l = (rw (← a) f.0, rw (← b) f.1)
 part-prints (sense n v) (part.Sense m w) (a, b) f h l = rw (← a, ← b) f
 part-prints (read n d w p at) (part.Read m k t q i) (a, b, c, e, g) f h l = (rw (← a) f.0, (within k 0 max_delay d b l).1, rw (← c) f.1, rw (← e) f.2, (within i 0 MAX_TIME at g h).1)
-part-prints (a_let n x) (part.Let m e) (a, b) f h l = (rw (← a) f.0, free-expr x e f.1 b)
-part-prints (a_next n x) (part.Next m e) (a, b) f h l = (rw (← a) f.0, free-expr x e f.1 b)
-part-prints (out n v x) (part.Out m w e) (a, b, c) f h l = (rw (← a) f.0, free-expr x e f.1 c)
+part-prints (a_let n x) (part.Let m e) (a, b) f h l = (rw (← a) f.0, printable-expr x e f.1 b)
+part-prints (a_next n x) (part.Next m e) (a, b) f h l = (rw (← a) f.0, printable-expr x e f.1 b)
+part-prints (out n v x) (part.Out m w e) (a, b, c) f h l = (rw (← a) f.0, rw (← b) f.1, printable-expr x e f.2 c)
 part-prints (state n v) p a f h l = absurd a
 part-prints (sense n v) p a f h l = absurd a
 part-prints (read n d w p at) q a f h l = absurd a
@@ -104,7 +105,7 @@ option-within : (o : Option ℕ) (z : Option ℤ) (least greatest : ℕ) → z �
 option-within None z least greatest e h = tt
 option-within (Some n) z least greatest e h = within n least greatest (pos n) refl (subst (λ o. option_lies_within o least greatest ≡ true) e h)
 
-clock-prints : (k : Clock) (c : RawClock) → IsClock k c → IsFreeClock k → clock_fits k ≡ true → IsPrintableClock c
+clock-prints : (k : Clock) (c : RawClock) → IsClock k c → lines.IsPrintableClock k → clock_fits k ≡ true → IsPrintableClock c
 clock-prints (every p o) (Every r s) (a, b) f h =
     let each = both (lies_within p 1 MAX_TIME) (lies_within o 0 MAX_TIME) h in
     let period = within r 1 MAX_TIME p a each.0 in
@@ -113,17 +114,19 @@ clock-prints (on e) (On m) a f h = rw (← a) f
 clock-prints (every p o) (On m) a f h = absurd a
 clock-prints (on e) (Every r s) a f h = absurd a
 
-task-prints : (s : Statement) (t : TaskLine) → IsTaskLine s t → IsFreeStatement s → numbers_fit s ≡ true → IsPrintableTask (task_of t)
+task-prints : (s : Statement) (t : TaskLine) → IsTaskLine s t → IsPrintableStatement s → numbers_fit s ≡ true → IsPrintableTask (task_of t)
 task-prints (task n k q d w) t (a, b, c, e, g) f h =
     let one = both (clock_fits k && option_lies_within q 0 MAX_PRIO && option_lies_within d 1 MAX_TIME) (lies_within w 1 MAX_TIME) h in
     let two = both (clock_fits k && option_lies_within q 0 MAX_PRIO) (option_lies_within d 1 MAX_TIME) one.0 in
     let three = both (clock_fits k) (option_lies_within q 0 MAX_PRIO) two.0 in
     record {
-      named = rw (← a) f.0;
-      clock = clock-prints k t.clock b f.1 three.0;
-      prio = upper t.prio MAX_PRIO (option-within t.prio q 0 MAX_PRIO c three.1);
-      deadline = option-within t.deadline d 1 MAX_TIME e two.1;
-      cost = within t.cost 1 MAX_TIME w g one.1;
+      line = record {
+        named = rw (← a) f.0;
+        clock = clock-prints k t.clock b f.1 three.0;
+        prio = upper t.prio MAX_PRIO (option-within t.prio q 0 MAX_PRIO c three.1);
+        deadline = option-within t.deadline d 1 MAX_TIME e two.1;
+        cost = within t.cost 1 MAX_TIME w g one.1;
+      };
       parts = λ j x l. absurd (omega arith);
       body = omega arith;
       reads = omega arith;
@@ -233,7 +236,7 @@ prints-kept ss ts d e i v t r b c u end decls tasks p = record {
   few_links = rw r p.few_links;
 }
 
-decl-more : (ss : List Statement) (s : Statement) (x : Decl) (d : Draft) (n : ℕ) → Prints ss d → IsDecl s x → IsFreeStatement s → HasCounts ss s → Prints (s ∷ ss) (drafted d n [] (line.Decl x))
+decl-more : (ss : List Statement) (s : Statement) (x : Decl) (d : Draft) (n : ℕ) → Prints ss d → IsDecl s x → IsPrintableStatement s → HasCounts ss s → Prints (s ∷ ss) (drafted d n [] (line.Decl x))
 decl-more ss (input m v) (Input k w) d n p i f c = record {
   until = p.until;
   decls = All-push IsPrintableDecl d.decls (Input k w) p.decls (decl-prints (input m v) (Input k w) i f);
@@ -270,7 +273,7 @@ all-latest : (o : Option RawTask) (ss : List Statement) → IfSome o (IsLatest s
 all-latest None ss h = λ k x l. absurd (omega arith)
 all-latest (Some t) ss h = All-push IsPrintableTask [] t (λ k x l. absurd (omega arith)) h.prints
 
-task-line-more : (ss : List Statement) (s : Statement) (t : TaskLine) (d : Draft) (n : ℕ) → Prints ss d → IsTaskLine s t → IsFreeStatement s → numbers_fit s ≡ true → HasCounts ss s → Prints (s ∷ ss) (drafted d n [] (line.Task t))
+task-line-more : (ss : List Statement) (s : Statement) (t : TaskLine) (d : Draft) (n : ℕ) → Prints ss d → IsTaskLine s t → IsPrintableStatement s → numbers_fit s ≡ true → HasCounts ss s → Prints (s ∷ ss) (drafted d n [] (line.Task t))
 task-line-more ss (task m k q x w) t d n p i f h c = record {
   until = p.until;
   decls = p.decls;
@@ -320,7 +323,7 @@ still-few false count most h k = omega arith
 this-task : (s : Statement) (ss : List Statement) → is_task s ≡ false → of_this_task (s ∷ ss) ≡ s ∷ of_this_task ss
 this-task s ss e = rw e refl
 
-part-line-more : (ss : List Statement) (s : Statement) (x : Part) (d : Draft) (n : ℕ) (t : RawTask) → d.tasks.latest ≡ Some t → Prints ss d → IsPart s x → IsFreeStatement s → numbers_fit s ≡ true → HasShortDelay s → HasCounts ss s
+part-line-more : (ss : List Statement) (s : Statement) (x : Part) (d : Draft) (n : ℕ) (t : RawTask) → d.tasks.latest ≡ Some t → Prints ss d → IsPart s x → IsPrintableStatement s → numbers_fit s ≡ true → HasShortDelay s → HasCounts ss s
     → Prints (s ∷ ss) (drafted d n [] (line.Part x))
 part-line-more ss s x d n t found p i f h l c =
     let k = part-kind s x i in
@@ -345,11 +348,7 @@ part-line-more ss s x d n t found p i f h l c =
       earlier = p.earlier;
       latest = rw found (record {
         prints = record {
-          named = latest.prints.named;
-          clock = latest.prints.clock;
-          prio = latest.prints.prio;
-          deadline = latest.prints.deadline;
-          cost = latest.prints.cost;
+          line = latest.prints.line;
           parts = All-push IsPrintablePart t.parts x latest.prints.parts (part-prints s x i f h l);
           body = omega (arith, size, c.body k.body, latest.body);
           reads = rw reads (still-few (is_read s) (reads_of t) MAX_READS latest_reads (λ e. omega (arith, c.reads e, latest.reads)));
@@ -503,7 +502,7 @@ short-delay ts s i = tt
 pub sound-line : (before : List Said) (bytes : List ℕ) (x : Said) → Reads before bytes x → IsSoundLine (statements before) x
 sound-line before bytes x (of_the_diagram b s e i) =
     let free = fault-free (statements before) s i.within in
-    record { free = free-statement i.tokens s i.stands.form (free-names b i.tokens i.spelled); numbers = free.0; counts = free.1; delay = short-delay i.tokens s i.stands.form }
+    record { free = printable-statement i.tokens s i.stands.form (printable-tokens b i.tokens i.spelled); numbers = free.0; counts = free.1; delay = short-delay i.tokens s i.stands.form }
 sound-line before bytes x (of_the_trace b s e (an_empty_row c i)) = record { free = tt; numbers = refl; counts = refl; delay = tt }
 sound-line before bytes x (of_the_trace b s e (trace_ends c i)) = record { free = tt; numbers = refl; counts = refl; delay = tt }
 sound-line before bytes x (of_the_trace b s e (script_begins c i)) = record { free = tt; numbers = refl; counts = refl; delay = tt }

@@ -1,5 +1,6 @@
 -- What an answer says of a text. Where memory ran out nothing is said.
 use Rattle.std.specs.Prelude.{◌≡◌, ℕ, List, Result, Ok, Err}
+use Rattle.dia_read.specs.declared.document.Body.{Body}
 use Rattle.dia_read.specs.declared.document.Doc.{Doc}
 use Rattle.dia_read.specs.declared.fault.ReadFail.{ReadFail}
 use Rattle.dia_read.specs.declared.fault.ReadFail.TheVariants.{Refused, NoMemory}
@@ -21,3 +22,9 @@ abbrev pub IsRefused : ReadFail → Result Doc ReadFail → Type 0
 IsRefused fail (Err NoMemory) = Unit {0}
 IsRefused fail (Err e) = e ≡ fail
 IsRefused fail (Ok d) = ⊥
+
+-- a document with the body, unless memory ran out
+abbrev pub HasBody : Body → Result Doc ReadFail → Type 0
+HasBody body (Ok d) = d.body ≡ body
+HasBody body (Err NoMemory) = Unit {0}
+HasBody body (Err _) = ⊥

@@ -1,3 +1,4 @@
+pub mod Canonical
 pub mod Documents
 pub mod Drafts
 pub mod Refusals

@@ -1,46 +1,17 @@
 -- Which bodies can be printed, and documents with a line of each item.
 use Rattle.std.specs.Prelude.{◌≡◌, ℕ, ◌≤◌, ◌==◌, Bool, true, false, All, List, [], ◌∷◌, ◌++◌, length, count_by, sum_by, Option, Some, None}
 use Rattle.std.specs.Option.{IfSome}
-use Rattle.dbp_plan.specs.declared.limits.TheConstants.{MAX_TASKS, MAX_INPUTS, MAX_EVENTS, MAX_READS, MAX_READ_LINES, MAX_OUTS, MAX_BODY, MAX_TIME, MAX_PRIO}
-use Rattle.dbp_plan.specs.declared.expr.Expr.{Expr}
-use Rattle.dbp_plan.specs.Limits.{max_delay}
-use Rattle.dia_exprs.specs.FreeNames.{HasFreeName}
-use Rattle.dia_tokens.specs.Pieces.{name}
-use Rattle.dia_tokens.specs.Words.{word_of}
+use Rattle.dbp_plan.specs.declared.limits.TheConstants.{MAX_TASKS, MAX_INPUTS, MAX_EVENTS, MAX_READS, MAX_READ_LINES, MAX_OUTS, MAX_BODY, MAX_TIME}
 use Rattle.dia_lines.specs.declared.item.Decl.{Decl}
 use Rattle.dia_lines.specs.declared.item.Decl.TheVariants.{Input, Event}
 use Rattle.dia_lines.specs.declared.item.Part.{Part}
 use Rattle.dia_lines.specs.declared.item.Part.TheVariants as part
-use Rattle.dia_lines.specs.declared.item.RawClock.{RawClock}
-use Rattle.dia_lines.specs.declared.item.RawClock.TheVariants.{Every, On}
 use Rattle.dia_lines.specs.Lines.{Said, row, step, SaysInTrace, SaysInScript}
+pub use Rattle.dia_print.specs.Printable.{IsPrintableExpr, IsPrintableDecl, IsPrintableClock, IsPrintablePart, IsPrintableTaskLine}
+use Rattle.dia_read.specs.Documents.{first_line}
 use Rattle.dia_read.specs.declared.document.Body.{Body}
 use Rattle.dia_read.specs.declared.document.Doc.{Doc}
 use Rattle.dia_read.specs.declared.document.RawTask.{RawTask}
-
--- the name is no reserved word
-abbrev pub IsFree : List ℕ → Type 0
-IsFree text = word_of text ≡ name text
-
--- no name in the expression is a reserved word
-abbrev pub HasFreeNames : Expr (List ℕ) → Type 0
-HasFreeNames e = All HasFreeName e.nodes
-
-abbrev pub IsPrintableDecl : Decl → Type 0
-IsPrintableDecl (Input n v) = IsFree n
-IsPrintableDecl (Event n) = IsFree n
-
-abbrev pub IsPrintableClock : RawClock → Type 0
-IsPrintableClock (Every period offset) = (1 ≤ period) × (period ≤ MAX_TIME) × (offset ≤ MAX_TIME)
-IsPrintableClock (On n) = IsFree n
-
-abbrev pub IsPrintablePart : Part → Type 0
-IsPrintablePart (part.State n v) = IsFree n
-IsPrintablePart (part.Sense n i) = IsFree n × IsFree i
-IsPrintablePart (part.Read n d w p a) = IsFree n × (d ≤ max_delay) × IsFree w × IsFree p × (a ≤ MAX_TIME)
-IsPrintablePart (part.Let n e) = IsFree n × HasFreeNames e
-IsPrintablePart (part.Next n e) = IsFree n × HasFreeNames e
-IsPrintablePart (part.Out n v e) = IsFree n × HasFreeNames e
 
 abbrev pub is_input_decl : Decl → Bool
 is_input_decl (Input n v) = true
@@ -59,26 +30,23 @@ is_out_part (part.Out n v e) = true
 is_out_part _ = false
 
 pub record IsPrintableTask (t : RawTask) : Type 0 where
-  pub named : IsFree t.name
-  pub clock : IsPrintableClock t.clock
-  pub prio : IfSome t.prio (λ p. p ≤ MAX_PRIO)
-  pub deadline : IfSome t.deadline (λ d. (1 ≤ d) × (d ≤ MAX_TIME))
-  pub cost : (1 ≤ t.cost) × (t.cost ≤ MAX_TIME)
+  pub line : IsPrintableTaskLine (first_line t)
   pub parts : All IsPrintablePart t.parts
   pub body : length t.parts ≤ MAX_BODY
   pub reads : count_by is_read_part t.parts ≤ MAX_READS
   pub outs : count_by is_out_part t.parts ≤ MAX_OUTS
 
--- the text is these lines, each ended by a line feed
+-- these lines as one text, each ended by a line feed
 abbrev pub ended_lines : List (List ℕ) → List ℕ
 ended_lines [] = []
 ended_lines (line ∷ lines) = line ++ 10 ∷ ended_lines lines
 
--- each line says itself, as one that is kept in its section
+-- the text is lines, each ended by a line feed, and each says itself as one that is kept in its section
 abbrev pub KeepsItself : (List ℕ → Said → Type 0) → (List ℕ → Said) → List ℕ → Type 0
 KeepsItself Says kept text = (lines : List (List ℕ)) × (text ≡ ended_lines lines) × All (λ line. Says line (kept line)) lines
 
--- The body keeps the limits of a document, no name in it is a reserved word, and its sections have lines that are kept.
+-- The body keeps the limits that reading tries, its names are no reserved words, its values have 64 bits, and its sections
+-- have lines that are kept.
 pub record IsPrintable (body : Body) : Type 0 where
   pub until : body.until ≤ MAX_TIME
   pub decls : All IsPrintableDecl body.decls

@@ -3,7 +3,10 @@
 ghost use Rattle.std.specs.Prelude.{◌≡◌, ℕ, List as Items};
 ghost use Rattle.dia_lines.specs.declared.fault.ReadCode.{ReadCode as Code};
 ghost use Rattle.dia_read.specs.declared.document.Doc.{Doc as Document};
+ghost use Rattle.dia_read.specs.declared.document.Body.{Body as BodyPrinted};
+ghost use Rattle.dia_read.specs.Canonical.{canonical_text, SpellsBody};
 ghost use Rattle.dia_read.specs.Documents.{Spells, IsFirstFault};
+ghost use Rattle.dia_read.specs.Printable.{IsPrintable};
 
 /// A text spells one document at most.
 pub fn one_document()
@@ -14,4 +17,14 @@ pub fn one_document()
 pub fn one_first_fault()
     ensures none { (bytes : Items ℕ) (d : Document) (line : ℕ) (code : Code) → Spells bytes d → IsFirstFault bytes line code → ⊥ }
     ensures one { (bytes : Items ℕ) (k l : ℕ) (c d : Code) → IsFirstFault bytes k c → IsFirstFault bytes l d → (k ≡ l) × (c ≡ d) }
+{}
+
+/// The canonical text of a body that can be printed spells a document with this body.
+pub fn canonical_text_spells()
+    ensures { (body : BodyPrinted) → IsPrintable body → SpellsBody (canonical_text body) body }
+{}
+
+/// The canonical text of a body that can be printed is its own canonical text.
+pub fn canonical_text_again()
+    ensures { (body : BodyPrinted) (d : Document) → IsPrintable body → Spells (canonical_text body) d → canonical_text d.body ≡ canonical_text body }
 {}

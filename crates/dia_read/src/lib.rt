@@ -1,4 +1,4 @@
-//! The text of a diagram: what a document says, and the first fault of a text that is none.
+//! The text of a diagram: what a document says, the first fault of a text that is none, and the canonical text.
 #![tactic(auto)]
 
 mod document;
@@ -6,13 +6,15 @@ mod draft;
 mod drafting;
 mod fault;
 mod laws;
+mod print;
 mod read;
 mod refusal;
 
 pub use dia_lines::{Decl, Limit, Part, RawClock, ReadCode};
 pub use document::{Body, Doc, DocLines, RawTask};
 pub use fault::ReadFail;
-pub use laws::{one_document, one_first_fault};
+pub use laws::{canonical_text_again, canonical_text_spells, one_document, one_first_fault};
+pub use print::print_doc;
 pub use read::read_doc;
 
 #[cfg(test)]

@@ -1,10 +1,12 @@
 // Reading a text, line by line.
 
-ghost use Rattle.std.specs.Prelude.{ℕ, ◌≤◌, length, IfOk, IfErr};
+ghost use Rattle.std.specs.Prelude.{◌≡◌, ℕ, ◌≤◌, length, IfOk, IfErr};
 ghost use Rattle.dia_lines.specs.declared.fault.ReadCode.{ReadCode as Code};
 ghost use Rattle.dia_read.specs.declared.document.Doc.{Doc as Document};
 ghost use Rattle.dia_read.specs.declared.fault.ReadFail.TheVariants.{Refused};
-ghost use Rattle.dia_read.specs.Answers.{Refuses, Gives, IsRefused};
+ghost use Rattle.dia_read.specs.declared.document.Body.{Body as BodyRead};
+ghost use Rattle.dia_read.specs.Answers.{Refuses, Gives, HasBody, IsRefused};
+ghost use Rattle.dia_read.specs.Canonical.{canonical_text};
 ghost use Rattle.dia_read.specs.Documents.{Spells, IsFirstFault};
 ghost use Rattle.dia_read.specs.Printable.{IsPrintable, HasItemLines};
 
@@ -56,6 +58,8 @@ pub fn read_doc(alloc: Global, bytes: &[u8]) -> Result<Doc, ReadFail>
     // The document can be printed, and has a line of each item.
     ensures printable { IfOk result (λ doc. IsPrintable doc.body) }
     ensures lines { IfOk result (λ doc. HasItemLines doc) }
+    // The canonical text of a body that can be printed is read as a document with this body, unless memory runs out.
+    ensures again { (body : BodyRead) → IsPrintable body → bytes.now ≡ canonical_text body → HasBody body result }
     // A refusal says the text's first fault, unless memory ran out.
     ensures fault { IfErr result (λ e. Refuses bytes.now e) }
     // A text with a first fault is refused with it, unless memory runs out.

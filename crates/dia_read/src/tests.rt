@@ -5,6 +5,7 @@ mod large;
 mod limits;
 mod order;
 mod prefixes;
+mod printing;
 mod showing;
 
 use crate::{Doc, ReadFail, read_doc};

@@ -7,7 +7,7 @@ use std::alloc::Global;
 use std::test::Fail;
 
 // Comments, blank lines, both ends of lines, and odd spacing; the last line has no end.
-const ODD: &[u8] =
+pub const ODD: &[u8] =
     b"# a note\r\n dbp 01 # header\r\n\r\npolicy edf\r\n\t\nuntil 0100 # ticks\ninput g = -7\nevent e\n# more\ninput h = 007\ntask a on e deadline 9 cost 2\n  sense v = g\n\n  let w = if v < (1 - -2) then min(v, h) else -v  # all\n  out y = -3 then w\ntask b every 10 from 4 prio 3 deadline 8 cost 6\n  read p = pre a . y at 5\n  read q = a.y\n  state s = -0\n  next s = not (s)\n  out z=1 then max (p, q)%2\r\ntask c every 7 cost 1\n\tout u = 0 then 0\ntrace # rows\n\n time , g\r\n\t \n0,\t-5 \n \r\n3, 4,1\n\tscript \r\n\naim a 00 # first\nclaim b pre a\n  look  b\ta.y\n# nothing\nx -5\r\ndone 1\n done # end\n\n# c";
 
 const TWO_TASKS_SAY: &str = "Fp 6\n\

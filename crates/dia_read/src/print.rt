@@ -1,0 +1,170 @@
+// The canonical text of a document.
+
+ghost use Rattle.std.specs.Prelude.{◌≡◌, [], ◌∷◌, IfOk, OnOk};
+ghost use Rattle.std.specs.List.{flat_map};
+ghost use Rattle.dia_tokens.specs.declared.token.Token.TheVariants.{Word as WordToken};
+ghost use Rattle.dia_tokens.specs.declared.edge.Edge.TheVariants.{Tight};
+ghost use Rattle.dia_print.specs.ItemTokens.{header_tokens, policy_tokens, until_tokens, task_tokens};
+ghost use Rattle.dia_print.specs.Printed.{with_bytes};
+ghost use Rattle.dia_tokens.specs.TokenText.{line_of};
+ghost use Rattle.dia_read.specs.Canonical.{canonical_text, decl_text, part_text, task_text, section_lines, SpellsBody};
+ghost use Rattle.dia_read.specs.Documents.{first_line};
+ghost use Rattle.dia_read.specs.Printable.{IsPrintable};
+
+use crate::{Body, RawTask};
+use dbp_plan::{List, NoMemory, Policy};
+use dia_lines::{Decl, Part, TaskLine};
+use dia_print::Printer;
+use dia_tokens::{Token, Word};
+use std::alloc::Global;
+
+// A line of the word alone.
+fn push_word(printer: &mut Printer, word: Word) -> Result<(), NoMemory>
+    requires { printer.old.edge ≡ Tight }
+    ensures { OnOk result (printer.new ≡ with_bytes printer.old (line_of (WordToken word ∷ []))) }
+{
+    printer.push(Token::Word(word))?;
+    printer.end_line()
+}
+
+fn push_header(printer: &mut Printer) -> Result<(), NoMemory>
+    requires { printer.old.edge ≡ Tight }
+    ensures { OnOk result (printer.new ≡ with_bytes printer.old (line_of header_tokens)) }
+{
+    printer.push_header()?;
+    printer.end_line()
+}
+
+fn push_policy(printer: &mut Printer, policy: Policy) -> Result<(), NoMemory>
+    requires { printer.old.edge ≡ Tight }
+    ensures { OnOk result (printer.new ≡ with_bytes printer.old (line_of (policy_tokens policy))) }
+{
+    printer.push_policy(policy)?;
+    printer.end_line()
+}
+
+fn push_until(printer: &mut Printer, end: u64) -> Result<(), NoMemory>
+    requires { printer.old.edge ≡ Tight }
+    ensures { OnOk result (printer.new ≡ with_bytes printer.old (line_of (until_tokens end))) }
+{
+    printer.push_until(end)?;
+    printer.end_line()
+}
+
+fn push_decl(printer: &mut Printer, decl: Decl) -> Result<(), NoMemory>
+    requires { printer.old.edge ≡ Tight }
+    ensures { OnOk result (printer.new ≡ with_bytes printer.old (decl_text decl)) }
+{
+    printer.push_decl(decl)?;
+    printer.end_line()
+}
+
+fn push_decls(printer: &mut Printer, decls: &List<Decl>) -> Result<(), NoMemory>
+    requires { printer.old.edge ≡ Tight }
+    ensures { OnOk result (printer.new ≡ with_bytes printer.old (flat_map decl_text decls.now)) }
+{
+    for decl in decls.items() {
+        push_decl(printer, *decl)?;
+    }
+    Ok(())
+}
+
+// A line of a task's body.
+fn push_part(printer: &mut Printer, part: &Part) -> Result<(), NoMemory>
+    ensures { OnOk result (printer.new ≡ with_bytes printer.old (part_text part.now)) }
+{
+    printer.push_bytes(b"  ")?;
+    printer.push_part(part)?;
+    printer.end_line()
+}
+
+fn push_parts(printer: &mut Printer, parts: &List<Part>) -> Result<(), NoMemory>
+    requires { printer.old.edge ≡ Tight }
+    ensures { OnOk result (printer.new ≡ with_bytes printer.old (flat_map part_text parts.now)) }
+{
+    for part in parts.items() {
+        push_part(printer, part)?;
+    }
+    Ok(())
+}
+
+// The line that begins the task.
+fn push_task_line(printer: &mut Printer, task: &RawTask) -> Result<(), NoMemory>
+    requires { printer.old.edge ≡ Tight }
+    ensures { OnOk result (printer.new ≡ with_bytes printer.old (line_of (task_tokens (first_line task.now)))) }
+{
+    printer.push_task(TaskLine {
+        name: task.name,
+        clock: task.clock,
+        prio: task.prio,
+        deadline: task.deadline,
+        cost: task.cost,
+    })?;
+    printer.end_line()
+}
+
+// The line that begins the task, and its body.
+fn push_task(printer: &mut Printer, task: &RawTask) -> Result<(), NoMemory>
+    requires { printer.old.edge ≡ Tight }
+    ensures { OnOk result (printer.new ≡ with_bytes printer.old (task_text task.now)) }
+{
+    push_task_line(printer, task)?;
+    push_parts(printer, &task.parts)
+}
+
+fn push_tasks(printer: &mut Printer, tasks: &List<RawTask>) -> Result<(), NoMemory>
+    requires { printer.old.edge ≡ Tight }
+    ensures { OnOk result (printer.new ≡ with_bytes printer.old (flat_map task_text tasks.now)) }
+{
+    for task in tasks.items() {
+        push_task(printer, task)?;
+    }
+    Ok(())
+}
+
+// The line of the word and the kept lines, where the section is there.
+fn push_section(
+    printer: &mut Printer,
+    word: Word,
+    section: &Option<List<u8>>,
+) -> Result<(), NoMemory>
+    requires { printer.old.edge ≡ Tight }
+    ensures { OnOk result (printer.new ≡ with_bytes printer.old (section_lines word section.now)) }
+{
+    if let Some(kept) = section {
+        push_word(printer, word)?;
+        printer.push_bytes(kept.items())?;
+    }
+    Ok(())
+}
+
+// The canonical text.
+fn print_body(alloc: Global, body: &Body) -> Result<Vec<u8>, NoMemory>
+    ensures { IfOk result (λ text. text.items ≡ canonical_text body.now) }
+{
+    let mut printer = Printer::new(alloc);
+    push_header(&mut printer)?;
+    push_policy(&mut printer, body.policy)?;
+    push_until(&mut printer, body.until)?;
+    push_decls(&mut printer, &body.decls)?;
+    push_tasks(&mut printer, &body.tasks)?;
+    push_section(&mut printer, Word::Trace, &body.trace)?;
+    push_section(&mut printer, Word::Script, &body.script)?;
+    push_word(&mut printer, Word::Done)?;
+    Ok(printer.into_text())
+}
+
+/// The canonical text of the document: one space between tokens but round the point, behind `(`, before `)` and the
+/// comma and behind `min` and `max`; two spaces before the lines of a body; parentheses round each operand of an operator
+/// and each part of an `if` that is an operator other than `min` and `max`, or an `if`; no comments and no blank lines.
+/// docs/LANGUAGE.md has the rules. Each body that `read_doc` answers can be printed. It takes memory for one text that
+/// grows.
+pub fn print_doc(alloc: Global, body: &Body) -> Result<Vec<u8>, NoMemory>
+    requires { IsPrintable body.now }
+    // The text is the canonical one.
+    ensures text { IfOk result (λ text. text.items ≡ canonical_text body.now) }
+    // It spells a document with this body.
+    ensures again { IfOk result (λ text. SpellsBody text.items body.now) }
+{
+    print_body(alloc, body)
+}
