@@ -2,7 +2,7 @@
 #![tactic(auto)]
 
 use dbp_plan::{ReadSource, WriteSink};
-use dbp_top::{Status, dbp_main, note};
+use dbp_top::{Status, command_lines, dbp_main, note};
 use std::alloc::Global;
 use std::process::ExitCode;
 use std::{env, io};
@@ -12,7 +12,17 @@ fn main(rt: HostRuntime) -> ExitCode {
     if !matches!(status, Status::Ok | Status::Refused) {
         let _ = eprintln!(&rt; "dbp: {}", note(status));
     }
+    if status == Status::Usage {
+        list_commands(&rt);
+    }
     ExitCode::from(status as u8)
+}
+
+// Writes the commands to the standard error.
+fn list_commands(rt: &HostRuntime) {
+    if let Ok(lines) = command_lines(rt.alloc()) {
+        let _ = eprint!(rt; "{lines}");
+    }
 }
 
 // Calls the program with the command's words, or says why they aren't there.

@@ -1,18 +1,16 @@
 -- How a call of the program ends.
-use Rattle.std.specs.Prelude.{◌≡◌, ℕ, ◌+◌, ◌≤◌, Option, IfSome, List, [], ◌∷◌, length, map, codes, string_bytes}
+use Rattle.std.specs.Prelude.{◌≡◌, ℕ, ◌+◌, ◌≤◌, Option, IfSome, List, length}
 use Rattle.std.specs.Io.KnownBytes.{Appends, IsAtEnd}
 use Rattle.std.specs.declared.alloc.Global.{Global}
 use Rattle.std.specs.declared.string.String.{String}
 use Rattle.dbp_plan.specs.Faults.{Rose}
 use Rattle.dbp_top.specs.Answer.{Answers}
+use Rattle.dbp_top.specs.Commands.{NamesNone, NamesSome}
 use Rattle.dbp_top.specs.Outside.{LosesFront, AppendsFront}
+use Rattle.dbp_top.specs.declared.command.Command.{Command}
 use Rattle.dbp_top.specs.declared.status.Status.{Status}
 use Rattle.dbp_top.specs.declared.status.Status.TheVariants.{Ok, Refused, Usage, ReadFault, WriteFault, NoMemory, TooLarge}
 use Rattle.dbp_top.specs.declared.top.TheConstants.{MAX_DOCUMENT}
-
--- the words are the command `mean`
-abbrev pub IsMean : List (String Global) → Type 0
-IsMean words = map (λ w. string_bytes w) words ≡ codes "mean" ∷ []
 
 module _ {S K : Type 0} (left : S → Option (List ℕ)) (source_faults : S → ℕ) (written : K → Option (List ℕ)) (sink_faults : K → ℕ) where
   -- the source was read to its end, which is within the limit, and no read failed
@@ -22,16 +20,16 @@ module _ {S K : Type 0} (left : S → Option (List ℕ)) (source_faults : S → 
     pub fits : IfSome (left source) (λ input. length input ≤ MAX_DOCUMENT)
     pub no_fault : source_faults new_source ≡ source_faults source
 
-  -- the source was read to its end, the sink gained the whole text of this status, and nothing failed
-  pub record WroteWhole (source new_source : S) (sink new_sink : K) (status : Status) : Type 0 where
+  -- the source was read to its end, the sink gained the whole text of this command and status, and nothing failed
+  pub record WroteWhole (source new_source : S) (sink new_sink : K) (command : Command) (status : Status) : Type 0 where
     pub read : ReadWhole source new_source
-    pub wrote : IfSome (left source) (λ input. (text : List ℕ) × Answers input status text × Appends (written sink) (written new_sink) text)
+    pub wrote : IfSome (left source) (λ input. (text : List ℕ) × Answers input command status text × Appends (written sink) (written new_sink) text)
     pub no_fault : sink_faults new_sink ≡ sink_faults sink
 
-  -- the source was read to its end, the sink failed, and it gained a front of a text that isn't all of it
-  pub record WrotePart (source new_source : S) (sink new_sink : K) : Type 0 where
+  -- the source was read to its end, the sink failed, and it gained a front of a text of this command that isn't all of it
+  pub record WrotePart (source new_source : S) (sink new_sink : K) (command : Command) : Type 0 where
     pub read : ReadWhole source new_source
-    pub wrote : IfSome (left source) (λ input. (status : Status) × (text : List ℕ) × Answers input status text × AppendsFront (written sink) (written new_sink) text)
+    pub wrote : IfSome (left source) (λ input. (status : Status) × (text : List ℕ) × Answers input command status text × AppendsFront (written sink) (written new_sink) text)
     pub risen : sink_faults sink ≤ sink_faults new_sink
     pub fault : Rose (sink_faults sink) (sink_faults new_sink)
 
@@ -50,10 +48,10 @@ module _ {S K : Type 0} (left : S → Option (List ℕ)) (source_faults : S → 
 
   -- what each status says of the words, the source and the sink
   abbrev pub Ends : List (String Global) → S → S → K → K → Status → Type 0
-  Ends words source new_source sink new_sink Ok = IsMean words × WroteWhole source new_source sink new_sink Ok
-  Ends words source new_source sink new_sink Refused = IsMean words × WroteWhole source new_source sink new_sink Refused
-  Ends words source new_source sink new_sink Usage = (IsMean words → ⊥) × (new_source ≡ source) × (new_sink ≡ sink)
-  Ends words source new_source sink new_sink ReadFault = IsMean words × ReadFailed source new_source sink new_sink
-  Ends words source new_source sink new_sink WriteFault = IsMean words × WrotePart source new_source sink new_sink
-  Ends words source new_source sink new_sink NoMemory = IsMean words × (source_faults new_source ≡ source_faults source) × (new_sink ≡ sink)
-  Ends words source new_source sink new_sink TooLarge = IsMean words × ReadTooMuch source new_source sink new_sink
+  Ends words source new_source sink new_sink Ok = NamesSome words (λ command. WroteWhole source new_source sink new_sink command Ok)
+  Ends words source new_source sink new_sink Refused = NamesSome words (λ command. WroteWhole source new_source sink new_sink command Refused)
+  Ends words source new_source sink new_sink Usage = NamesNone words × (new_source ≡ source) × (new_sink ≡ sink)
+  Ends words source new_source sink new_sink ReadFault = NamesSome words (λ _. ReadFailed source new_source sink new_sink)
+  Ends words source new_source sink new_sink WriteFault = NamesSome words (λ command. WrotePart source new_source sink new_sink command)
+  Ends words source new_source sink new_sink NoMemory = NamesSome words (λ _. (source_faults new_source ≡ source_faults source) × (new_sink ≡ sink))
+  Ends words source new_source sink new_sink TooLarge = NamesSome words (λ _. ReadTooMuch source new_source sink new_sink)

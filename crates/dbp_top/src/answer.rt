@@ -1,22 +1,41 @@
-ghost use Rattle.std.specs.Prelude.{IfOk};
+ghost use Rattle.std.specs.Prelude.{◌≤◌, length, IfOk};
 ghost use Rattle.dbp_top.specs.Answer.{Answers, IsPrinted};
+ghost use Rattle.dbp_top.specs.declared.command.Command.TheVariants.{Mean, Form};
 
 use crate::Status;
+use crate::command::Command;
+use crate::refusal::refusal_line;
 use crate::stand_in::{Unread, read_plan};
 use dbp_plan::{NoMemory, Plan};
+use dia_read::{ReadFail, print_doc, read_doc};
 use std::alloc::Global;
 use sync_meaning::mean;
 use trace_io::lines;
 
-const REFUSED: &[u8] = b"refused: line 1: 30 Unread\n";
+const UNREAD: &[u8] = b"refused: line 1: 30 Unread\n";
 
-// The status and the text for an input that isn't too large.
-pub(crate) fn answer(alloc: Global, input: &[u8]) -> Result<(Status, Vec<u8>), NoMemory>
-    ensures { IfOk result (λ (status, text). Answers input.now status text.items) }
+// The status and the text that the command gives to an input that isn't too large.
+pub(crate) fn answer(
+    alloc: Global,
+    command: Command,
+    input: &[u8],
+) -> Result<(Status, Vec<u8>), NoMemory>
+    requires { length input.now ≤ 2000000000 }
+    ensures { IfOk result (λ (status, text). Answers input.now command status text.items) }
+{
+    match command {
+        Command::Mean => mean_of(alloc, input),
+        Command::Form => form_of(alloc, input),
+    }
+}
+
+// The lines of the meaning of the input's plan.
+fn mean_of(alloc: Global, input: &[u8]) -> Result<(Status, Vec<u8>), NoMemory>
+    ensures { IfOk result (λ (status, text). Answers input.now Mean status text.items) }
 {
     match read_plan(alloc, input) {
         Ok(plan) => Ok((Status::Ok, meaning(alloc, &plan)?)),
-        Err(Unread::Refused) => Ok((Status::Refused, REFUSED.to_vec(alloc)?)),
+        Err(Unread::Refused) => Ok((Status::Refused, UNREAD.to_vec(alloc)?)),
         Err(Unread::NoMemory) => Err(NoMemory),
     }
 }
@@ -28,4 +47,18 @@ fn meaning(alloc: Global, plan: &Plan) -> Result<Vec<u8>, NoMemory>
     let table = mean(alloc, plan)?;
     let text = lines(alloc, plan, &table)?;
     Ok(text)
+}
+
+// The canonical text of the input's document.
+fn form_of(alloc: Global, input: &[u8]) -> Result<(Status, Vec<u8>), NoMemory>
+    requires { length input.now ≤ 2000000000 }
+    ensures { IfOk result (λ (status, text). Answers input.now Form status text.items) }
+{
+    match read_doc(alloc, input) {
+        Ok(doc) => Ok((Status::Ok, print_doc(alloc, &doc.body)?)),
+        Err(ReadFail::Refused { line, code }) => {
+            Ok((Status::Refused, refusal_line(alloc, line, code)?))
+        }
+        Err(ReadFail::NoMemory) => Err(NoMemory),
+    }
 }

@@ -2,12 +2,17 @@
 #![tactic(auto)]
 
 mod answer;
+mod command;
+mod laws;
 mod outside;
+mod refusal;
 mod stand_in;
 mod status;
 #[cfg(test)]
 mod tests;
 mod top;
 
+pub use command::command_lines;
+pub use laws::{one_command, one_form};
 pub use status::{Status, note};
 pub use top::{MAX_DOCUMENT, dbp_main, plain_main};

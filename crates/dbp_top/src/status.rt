@@ -22,7 +22,7 @@ pub fn note(status: Status) -> &'static str {
     match status {
         Status::Ok => "done",
         Status::Refused => "the document was refused",
-        Status::Usage => "usage: dbp COMMAND < DOCUMENT, where COMMAND is one of: mean",
+        Status::Usage => "usage: dbp COMMAND < DOCUMENT, where COMMAND is one of:",
         Status::ReadFault => "a read of the input failed; nothing was written",
         Status::WriteFault => "a write of the output failed; a part of it was written",
         Status::NoMemory => "memory ran out; nothing was written",

@@ -1,5 +1,8 @@
-// Documents, faults and calls of the crates below, as tables.
+// Documents, canonical texts, refusals, words, faults and calls of the crates below, as tables.
 
 mod base;
+mod canonical;
+mod commands;
 mod documents;
 mod faults;
+mod refusals;

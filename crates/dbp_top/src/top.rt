@@ -1,8 +1,8 @@
-ghost use Rattle.std.specs.Prelude.{◌↔◌, IsTrue};
-ghost use Rattle.dbp_top.specs.Ends.{Ends, IsMean};
+ghost use Rattle.dbp_top.specs.Ends.{Ends};
 
 use crate::Status;
 use crate::answer::answer;
+use crate::command::command_of;
 use crate::outside::{ReadStop, read_all, write_all};
 use dbp_plan::{Sink, Source};
 use std::alloc::Global;
@@ -33,30 +33,20 @@ pub fn plain_main<S: Source, K: Sink>(
 ) -> Status
     ensures { Ends S.left S.faults K.written K.faults words.now source.old source.new sink.old sink.new result }
 {
-    if !is_mean(words) {
+    let Some(command) = command_of(words) else {
         return Status::Usage;
-    }
+    };
     let input = match read_all(alloc, source, MAX_DOCUMENT) {
         Ok(input) => input,
         Err(ReadStop::Failed) => return Status::ReadFault,
         Err(ReadStop::TooLarge) => return Status::TooLarge,
         Err(ReadStop::NoMemory) => return Status::NoMemory,
     };
-    let Ok((status, text)) = answer(alloc, &input) else {
+    let Ok((status, text)) = answer(alloc, command, &input) else {
         return Status::NoMemory;
     };
     match write_all(sink, &text) {
         Ok(()) => status,
         Err(_) => Status::WriteFault,
-    }
-}
-
-// Whether the words are the command `mean`.
-fn is_mean(words: &[String]) -> bool
-    ensures { IsTrue result ↔ IsMean words.now }
-{
-    match words {
-        [word] => word.as_str() == "mean",
-        _ => false,
     }
 }

@@ -106,17 +106,6 @@ fn documents_are_answered(rt: HostRuntime) -> Result<(), Fail> {
 }
 
 #[test]
-fn other_words_are_no_command(rt: HostRuntime) -> Result<(), Fail> {
-    let cases: [&[&str]; 5] = [&[], &["sim"], &["mean", "mean"], &["Mean"], &["mean "]];
-    for words in cases {
-        let answer = call(rt.alloc(), words, TWO_RATES.as_bytes(), (16, 1), (8, 1))?;
-        assert_eq!(rt; answer.0, Status::Usage);
-        assert_eq!(rt; answer.1.len(), 0);
-    }
-    Ok(())
-}
-
-#[test]
 fn limits_are_kept(rt: HostRuntime) -> Result<(), Fail> {
     let cases = [
         ("100000", Status::Ok, 1_577_785),

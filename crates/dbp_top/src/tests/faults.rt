@@ -49,7 +49,7 @@ fn statuses_have_numbers_and_notes(rt: HostRuntime) {
         (
             Status::Usage,
             2,
-            "usage: dbp COMMAND < DOCUMENT, where COMMAND is one of: mean",
+            "usage: dbp COMMAND < DOCUMENT, where COMMAND is one of:",
         ),
         (
             Status::ReadFault,

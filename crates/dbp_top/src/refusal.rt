@@ -1,0 +1,67 @@
+// The line that says why a text is refused.
+
+ghost use Rattle.std.specs.Prelude.{◌≡◌, ◌++◌, codes, decimal, IfOk, OnOk};
+ghost use Rattle.dbp_top.specs.Refusals.{code_name, limit_behind, limit_word, refusal_line};
+
+use dbp_plan::NoMemory;
+use dia_read::{Limit, ReadCode};
+use itoa::Buffer;
+use std::alloc::Global;
+
+/// The line `refused: line L: CODE NAME`, with the limit's word behind a passed limit.
+pub(crate) fn refusal_line(alloc: Global, line: u32, code: ReadCode) -> Result<Vec<u8>, NoMemory>
+    ensures { IfOk result (λ text. text.items ≡ refusal_line line code) }
+{
+    let mut text = Vec::from_slice(alloc, b"refused: line ")?;
+    text.extend_from_slice(Buffer::new().format(line).as_bytes())?;
+    text.extend_from_slice(b": ")?;
+    push_code(&mut text, code)?;
+    text.push(b'\n')?;
+    Ok(text)
+}
+
+// Adds the number and the name of the code, and the word of its limit.
+fn push_code(text: &mut Vec<u8>, code: ReadCode) -> Result<(), NoMemory>
+    ensures { OnOk result (text.new.items ≡ text.old.items ++ code_name code ++ limit_behind code) }
+{
+    text.extend_from_slice(name_of(code).as_bytes())?;
+    if let ReadCode::LimitHit(limit) = code {
+        text.push(b' ')?;
+        text.extend_from_slice(word_of(limit).as_bytes())?;
+    }
+    Ok(())
+}
+
+// The number and the name of the code.
+fn name_of(code: ReadCode) -> &'static str
+    ensures { result.now ≡ code_name code }
+{
+    match code {
+        ReadCode::BadByte => "1 BadByte",
+        ReadCode::BadToken => "2 BadToken",
+        ReadCode::BadLine => "3 BadLine",
+        ReadCode::NumberTooWide => "4 NumberTooWide",
+        ReadCode::NameTooLong => "5 NameTooLong",
+        ReadCode::LimitHit(_) => "6 LimitHit",
+        ReadCode::MissingDone => "7 MissingDone",
+        ReadCode::MissingHeader => "8 MissingHeader",
+        ReadCode::DepthHit => "9 DepthHit",
+    }
+}
+
+// The word of the limit.
+fn word_of(limit: Limit) -> &'static str
+    ensures { result.now ≡ limit_word limit }
+{
+    match limit {
+        Limit::Tasks => "tasks",
+        Limit::Reads => "reads",
+        Limit::Links => "links",
+        Limit::Outs => "outs",
+        Limit::Inputs => "inputs",
+        Limit::Events => "events",
+        Limit::Body => "body",
+        Limit::Nodes => "nodes",
+        Limit::Number => "number",
+    }
+}
