@@ -31,10 +31,29 @@ def many_tasks(occurrences: int) -> str:
     return "\n".join(lines + ["done"]) + "\n"
 
 
-def measured(program: str, text: str) -> tuple[float, float, int]:
+def expressions() -> str:
+    """0.9 MB of lets of 63 nodes with long names."""
+    lines = ["dbp 1", "policy fp", "until 1"]
+    for task in range(32):
+        lines.append(f"task t{task} every 1 prio {task} cost 1")
+        names = [f"a_name_of_{place:03}" for place in range(63)]
+        for place, name in enumerate(names):
+            terms = [names[(place + term) % 63] for term in range(32)]
+            lines.append(f"let {name} = " + "+".join(terms))
+        lines.append("out y = 0 then 0")
+    return "\n".join(lines + ["done"]) + "\n"
+
+
+def many_lines(line: str) -> str:
+    """A script section of nearly as many bytes as a document may have."""
+    head = "dbp 1\npolicy fp\nuntil 0\nscript\n"
+    return head + line * ((1_048_576 - len(head) - 5) // len(line)) + "done\n"
+
+
+def measured(program: str, command: str, text: str) -> tuple[float, float, int]:
     before = resource.getrusage(resource.RUSAGE_CHILDREN)
     start = time.perf_counter()
-    done = subprocess.run([program, "mean"], input=text.encode(), stdout=subprocess.PIPE, check=False)
+    done = subprocess.run([program, command], input=text.encode(), stdout=subprocess.PIPE, check=False)
     wall = time.perf_counter() - start
     after = resource.getrusage(resource.RUSAGE_CHILDREN)
     assert done.returncode == 0, done
@@ -43,13 +62,17 @@ def measured(program: str, text: str) -> tuple[float, float, int]:
 
 def main() -> None:
     program = sys.argv[1] if len(sys.argv) > 1 else str(TOP / "crates/dbp/out/dbp")
-    print(f"{'document':<32}{'wall s':>9}{'cpu s':>9}{'peak MB so far':>16}")
-    for name, text in [
-        *((f"1 task, {n} occurrences", one_task(n)) for n in (12_500, 25_000, 50_000, 100_000)),
-        *((f"32 tasks of 63 nodes, {n}", many_tasks(n)) for n in (12_000, 24_000, 48_000, 96_000)),
+    print(f"{'document':<37}{'wall s':>9}{'cpu s':>9}{'peak MB so far':>16}")
+    for command, name, text in [
+        *(("mean", f"1 task, {n} occurrences", one_task(n)) for n in (12_500, 25_000, 50_000, 100_000)),
+        *(("mean", f"32 tasks of 63 nodes, {n}", many_tasks(n)) for n in (12_000, 24_000, 48_000, 96_000)),
+        ("form", "0.9 MB of expressions", expressions()),
+        ("form", "1,000,000 blank lines", many_lines("\n")),
+        ("form", "500,000 steps of a letter", many_lines("a\n")),
+        ("form", "a step of 500,000 names", many_lines("a " * 523_000 + "\n")),
     ]:
-        wall, cpu, peak = measured(program, text)
-        print(f"{name:<32}{wall:>9.3f}{cpu:>9.3f}{peak / 1024:>16.1f}")
+        wall, cpu, peak = measured(program, command, text)
+        print(f"{command} {name:<32}{wall:>9.3f}{cpu:>9.3f}{peak / 1024:>16.1f}")
 
 
 if __name__ == "__main__":
