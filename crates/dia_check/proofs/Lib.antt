@@ -1,0 +1,15 @@
+pub mod ClosedTasks
+pub mod Closedness
+pub mod Faultless
+pub mod FirstFaults
+pub mod LetLines
+pub mod LinkLaws
+pub mod LinkLists
+pub mod NameTests
+pub mod PlaceLaws
+pub mod RankLaws
+pub mod ReadLines
+pub mod ShapeLaws
+pub mod TaskFaults
+pub mod TaskParts
+pub mod TasksSoFar

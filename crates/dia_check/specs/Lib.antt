@@ -1,1 +1,11 @@
 pub use Rattle.dbp_plan.specs.Ranks
+pub mod Checks
+pub mod Diagrams
+pub mod Faults
+pub mod Kinds
+pub mod Names
+pub mod Placed
+pub mod RankFaults
+pub mod Scopes
+pub mod Shapes
+pub mod Tests

@@ -1,6 +1,27 @@
-//! The checking of a diagram: the ranks of its tasks.
+//! The checking of a document: the diagram that it says, with ranks, or its first fault.
 #![tactic(auto)]
 
+mod fail;
+mod first_line;
+mod laws;
+mod line_faults;
+mod links;
+mod names;
+mod parts;
+mod placing;
+mod rank_faults;
 mod ranking;
+mod reads;
+mod scope;
+mod shaped;
+mod shaping;
+mod tasks;
+#[cfg(test)]
+mod tests;
 
-pub use ranking::{is_downward, ranks, ranks_are_distinct};
+pub use fail::{CheckCode, CheckFail};
+pub use laws::{one_check, one_shape, one_shape_fault};
+pub use rank_faults::ranked;
+pub use ranking::{ranks, ranks_are_distinct};
+pub use shaped::{ReadLine, Shaped};
+pub use shaping::shape;

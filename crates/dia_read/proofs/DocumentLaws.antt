@@ -1,15 +1,13 @@
 -- A text spells one document at most.
-use Rattle.std.proofs.Common.{◌≡◌, ℕ, ℤ, pos, ◌≤◌, List, [], ◌∷◌, ◌++◌, length, reverse, Option, Some, None, refl, ap, sym, ◌∙◌, subst}
-use Rattle.std.specs.Coded.{Coded, coded_list}
+use Rattle.std.proofs.Common.{◌≡◌, ℕ, ℤ, pos, List, [], ◌∷◌, ◌++◌, reverse, Option, Some, None, refl, sym, ◌∙◌, subst}
+use Rattle.std.specs.Coded.{Coded}
 use Rattle.std.specs.Option.{option_map}
-use Rattle.dbp_plan.specs.declared.limits.TheConstants.{MAX_NODES}
 use Rattle.dbp_plan.specs.declared.expr.Expr.{Expr}
 use Rattle.dbp_plan.specs.declared.node.Node.{Node}
 use Rattle.dbp_plan.specs.contracts.node.Node as node
 use Rattle.dbp_plan.specs.contracts.name.Name as name
-use Rattle.dbp_plan.specs.Expr.{IsExprOf}
-use Rattle.dbp_plan.specs.Tree.{Tree, HasTree}
-use Rattle.dbp_plan.specs.TreeLaws.{HasTree-prop}
+use Rattle.dbp_plan.specs.Expr.{IsExprOf, same_expr}
+use Rattle.dbp_plan.specs.Tree.{Tree}
 use Rattle.dia_lines.specs.declared.item.Decl.{Decl}
 use Rattle.dia_lines.specs.declared.item.Decl.TheVariants.{Input, Event}
 use Rattle.dia_lines.specs.declared.item.Part.{Part}
@@ -27,28 +25,11 @@ use Rattle.dia_read.specs.declared.document.DocLines.{DocLines}
 use Rattle.dia_read.specs.declared.document.RawTask.{RawTask}
 use Rattle.dia_read.specs.Documents.{Fit, none, another, first_line, AreTasks, no_task, a_task, IsBody, AreItemLines, Spells}
 use Rattle.dia_read.proofs.RunLaws.{run-one}
-use mathlib.Core.HLevel.{Σ_prop_path}
-use Rattle.std.proofs.Math.Bridge.{le_prop}
 
 -- ---- items
 
 node-coded : Coded (Node (List ℕ))
 node-coded = (node.the_row name.the_row).coded
-
-same-expr : (e f : Expr (List ℕ)) → e.nodes ≡ f.nodes → e ≡ f
-same-expr e f p = ap made (Σ_prop_path kept p)
-  where
-    Kept : List (Node (List ℕ)) → Type 0
-    Kept nodes = HasTree nodes × (length nodes ≤ MAX_NODES)
-
-    tree : (nodes : List (Node (List ℕ))) → IsProp (HasTree nodes)
-    tree nodes = HasTree-prop (coded_list node-coded) nodes
-
-    kept : (nodes : List (Node (List ℕ))) → IsProp (HasTree nodes × (length nodes ≤ MAX_NODES))
-    kept nodes = hlevel (tree nodes, le_prop)
-
-    made : (nodes : List (Node (List ℕ))) × (HasTree nodes × (length nodes ≤ MAX_NODES)) → Expr (List ℕ)
-    made x = record { nodes = x.0; tree = x.1.0; few = x.1.1 }
 
 same-pos : (m n : ℕ) (z : ℤ) → z ≡ pos m → z ≡ pos n → m ≡ n
 same-pos m n z a b = let e : pos m ≡ pos n = sym a ∙ b in cc
@@ -63,7 +44,7 @@ decl-one (event m) (Event n) (Input k w) a b = absurd b
 decl-one s d e a b = absurd a
 
 expr-one : (x : Tree (List ℕ)) (e f : Expr (List ℕ)) → IsExprOf e x → IsExprOf f x → e ≡ f
-expr-one x e f a b = same-expr e f (a ∙ sym b)
+expr-one x e f a b = same_expr node-coded e f (a ∙ sym b)
 
 part-one : (s : Statement) (p q : Part) → IsPart s p → IsPart s q → p ≡ q
 part-one (state m v) (part.State n w) (part.State k x) (a, b) (c, d) = cc

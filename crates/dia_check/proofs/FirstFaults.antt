@@ -1,0 +1,63 @@
+-- Going over items in order, to the first that has a fault.
+use Rattle.std.proofs.Common.{◌≡◌, ℕ, zero, suc, ◌+◌, ◌<◌, ◌≤◌, List, [], ◌∷◌, ◌++◌, length, take, drop, get_or, Option, Some, None, refl, sym, ap, ◌∙◌, arith}
+use Rattle.std.proofs.Math.Seq.{drop-cons}
+use Rattle.std.proofs.lemmas.List.{take_more}
+use Rattle.dia_check.specs.Faults.{faults_behind, first_fault}
+
+pub split-at : {A : Type 0} (xs : List A) (k : ℕ) (x : A) → k < length xs → x ≡ get_or xs k x → drop k xs ≡ x ∷ drop (k + 1) xs
+split-at xs k x below is =
+    let next : suc k ≡ k + 1 = omega arith in
+    drop-cons xs k x below ∙ ap (λ j. get_or xs k x ∷ drop j xs) next ∙ ap (λ y. y ∷ drop (k + 1) xs) (sym is)
+
+pub take-next : {A : Type 0} (xs : List A) (k : ℕ) (x : A) → k < length xs → x ≡ get_or xs k x → take (k + 1) xs ≡ take k xs ++ x ∷ []
+take-next xs k x below is = take_more xs k x below ∙ ap (λ y. take k xs ++ y ∷ []) (sym is)
+
+pub nothing-behind : {A : Type 0} (xs : List A) (k : ℕ) → length xs ≤ k → drop k xs ≡ []
+nothing-behind [] zero h = refl
+nothing-behind [] (suc k) h = refl
+nothing-behind (x ∷ xs) zero h = absurd (omega arith)
+nothing-behind (x ∷ xs) (suc k) h = nothing-behind xs k (omega arith)
+
+-- the item at a place, whatever stands in for none
+pub at-any : (ms : List ℕ) (j d : ℕ) → j < length ms → get_or ms j d ≡ get_or ms j (get_or ms j d)
+at-any [] j d h = absurd (omega arith)
+at-any (m ∷ ms) zero d h = refl
+at-any (m ∷ ms) (suc j) d h = at-any ms j d (omega arith)
+
+module _ {A F : Type 0} (fault : List A → A → Option F) (xs : List A) (ns : List ℕ) where
+  -- what stands from a place on decides
+  abbrev pub FirstFrom : ℕ → Type 0
+  FirstFrom k = first_fault (faults_behind fault [] xs ns) ≡ first_fault (faults_behind fault (take k xs) (drop k xs) (drop k ns))
+
+  from-here : (k : ℕ) (x : A) (n : ℕ) → k < length xs → k < length ns → x ≡ get_or xs k x → n ≡ get_or ns k n
+      → faults_behind fault (take k xs) (drop k xs) (drop k ns) ≡ (n, fault (take k xs) x) ∷ faults_behind fault (take (k + 1) xs) (drop (k + 1) xs) (drop (k + 1) ns)
+  from-here k x n in_xs in_ns is_x is_n = rw (split-at xs k x in_xs is_x, split-at ns k n in_ns is_n, take-next xs k x in_xs is_x) refl
+
+  pub first-start : FirstFrom 0
+  first-start = refl
+
+  -- the item at the place has a fault
+  pub first-here : (k : ℕ) (x : A) (n : ℕ) (code : F) → FirstFrom k → k < length xs → k < length ns → x ≡ get_or xs k x → n ≡ get_or ns k n → Some code ≡ fault (take k xs) x
+      → Some (n, code) ≡ first_fault (faults_behind fault [] xs ns)
+  first-here k x n code so_far in_xs in_ns is_x is_n is = sym (so_far ∙ ap first_fault (from-here k x n in_xs in_ns is_x is_n ∙ ap (λ f. (n, f) ∷ faults_behind fault (take (k + 1) xs) (drop (k + 1) xs) (drop (k + 1) ns)) (sym is)))
+
+  pub first-later : (k : ℕ) (x : A) → FirstFrom k → k < length xs → length xs ≤ length ns → x ≡ get_or xs k x → None ≡ fault (take k xs) x → FirstFrom (k + 1)
+  first-later k x so_far in_xs few is_x is =
+      let n : ℕ = get_or ns k 0 in
+      let in_ns : k < length ns = omega (arith, in_xs, few) in
+      so_far ∙ ap first_fault (from-here k x n in_xs in_ns is_x (at-any ns k 0 in_ns) ∙ ap (λ f. (n, f) ∷ faults_behind fault (take (k + 1) xs) (drop (k + 1) xs) (drop (k + 1) ns)) (sym is))
+
+  pub first-none : (k : ℕ) → FirstFrom k → length xs ≤ k → None ≡ first_fault (faults_behind fault [] xs ns)
+  first-none k so_far end = sym (so_far ∙ ap (λ rest. first_fault (faults_behind fault (take k xs) rest (drop k ns))) (nothing-behind xs k end))
+
+-- ---- behind one another
+
+pub first-append : {F : Type 0} (xs ys : List (ℕ × Option F)) → first_fault xs ≡ None → first_fault (xs ++ ys) ≡ first_fault ys
+first-append [] ys e = refl
+first-append ((n, None) ∷ xs) ys e = first-append xs ys e
+first-append ((n, Some code) ∷ xs) ys e = absurd cc
+
+pub first-front : {F : Type 0} (xs ys : List (ℕ × Option F)) (f : ℕ × F) → first_fault xs ≡ Some f → first_fault (xs ++ ys) ≡ Some f
+first-front [] ys f e = absurd cc
+first-front ((n, None) ∷ xs) ys f e = first-front xs ys f e
+first-front ((n, Some code) ∷ xs) ys f e = e

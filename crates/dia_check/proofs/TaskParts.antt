@@ -1,0 +1,111 @@
+-- The parts of a task, as they are put together.
+use Rattle.std.proofs.Common.{◌≡◌, ◌≢◌, ℕ, suc, ◌+◌, ◌-◌, ◌<◌, ◌≤◌, All, List, [], ◌∷◌, length, slice_get, Option, Some, None, refl, sym, ap, ◌∙◌, subst, arith}
+use Rattle.std.specs.List.{flat_map}
+use Rattle.std.proofs.lemmas.Option.{slice_get_within}
+use Rattle.dbp_plan.specs.Closed.{let_base}
+use Rattle.dbp_plan.specs.LetOrder.{VariablesBelow}
+use Rattle.dbp_plan.specs.declared.diagram.Clock.{Clock}
+use Rattle.dbp_plan.specs.declared.diagram.Task.{Task}
+use Rattle.dbp_plan.specs.declared.diagram.Let.{Let}
+use Rattle.dbp_plan.specs.declared.diagram.Out.{Out}
+use Rattle.dia_lines.specs.declared.item.Part.{Part}
+use Rattle.dia_lines.specs.declared.item.Part.TheVariants as part
+use Rattle.dia_read.specs.declared.document.Body.{Body}
+use Rattle.dia_read.specs.declared.document.RawTask.{RawTask}
+use Rattle.expr_eval.specs.declared.order.LetFail.{LetFail}
+use Rattle.expr_eval.specs.declared.order.LetFail.TheVariants as let_fail
+use Rattle.expr_eval.specs.LetOrders.{IsFrontOrder, Uses, IsCycleFrom, IsFailOf}
+use Rattle.dia_check.specs.declared.tasks.Given.{Given}
+use Rattle.dia_check.specs.declared.tasks.Work.{Work}
+use Rattle.dia_check.specs.Diagrams.{clock_of, state_of, sense_of, read_of, let_of, lets_of, out_of, task_of, IsTaskOf}
+use Rattle.dia_check.specs.Faults.{base_of, let_lines}
+use Rattle.dia_check.specs.Names.{input_name, event_name, state_name, sense_name, read_name, env_names, out_name}
+use Rattle.dia_check.specs.Scopes.{IsWorkOf, IsGivenTo, HasFaultlessParts, IsTaskFail, task_fail_of}
+use Rattle.dia_check.proofs.ClosedTasks.{states-alike, senses-alike, reads-alike, outs-alike, few-names, let-variables-below, base-and-lets}
+use Rattle.dia_check.proofs.PlaceLaws.{made-alike}
+
+-- ---- lets
+
+module _ (t : RawTask) (names : List (List ℕ)) (lets : List Let) (named : names ≡ env_names t.parts) (are : lets ≡ flat_map (let_of names) t.parts) where
+  pub lets-are : lets ≡ lets_of t
+  lets-are = are ∙ ap (λ (ns : List (List ℕ)). flat_map (let_of ns) t.parts) named
+
+  pub counts-add : base_of t + length lets ≡ length names
+  counts-add = ap (λ (ls : List Let). base_of t + length ls) lets-are ∙ base-and-lets t ∙ sym (ap (λ (ns : List (List ℕ)). length ns) named)
+
+  pub few-lets : length t.parts ≤ 64 → (length lets ≤ 64) × (length names ≤ 64)
+  few-lets few =
+      let all : length names ≤ 64 = omega (arith, few-names t.parts, few, ap (λ (ns : List (List ℕ)). length ns) named) in
+      (omega (arith, counts-add, all), all)
+
+  pub variables-below : (body : Body) → HasFaultlessParts body t → All (λ l. VariablesBelow (length names - length lets + length lets) l.expr.nodes) lets
+  variables-below body fine =
+      let bound : length (env_names t.parts) ≡ length names - length lets + length lets = omega (arith, counts-add, ap (λ (ns : List (List ℕ)). length ns) named) in
+      let all : All (λ l. VariablesBelow (length (env_names t.parts)) l.expr.nodes) lets = subst (λ ls. All (λ l. VariablesBelow (length (env_names t.parts)) l.expr.nodes) ls) (sym lets-are) (let-variables-below body t fine) in
+      subst (λ (n : ℕ). All (λ l. VariablesBelow n l.expr.nodes) lets) bound all
+
+-- ---- outs
+
+nothing : {A : Type 0} (xs : List A) → length xs ≡ 0 → xs ≡ []
+nothing [] e = refl
+nothing (x ∷ xs) e = absurd (omega (arith, e))
+
+module _ (names : List (List ℕ)) (ps : List Part) (outs : List Out) (are : outs ≡ flat_map (out_of names) ps) where
+  same-count : length outs ≡ length (flat_map out_name ps)
+  same-count = ap (λ (os : List Out). length os) are ∙ made-alike (out_of names) out_name (outs-alike names) ps
+
+  pub no-outs : outs ≡ [] → flat_map out_name ps ≡ []
+  no-outs none = nothing (flat_map out_name ps) (sym same-count ∙ ap (λ (os : List Out). length os) none)
+
+  pub some-outs : (outs ≡ [] → ⊥) → flat_map out_name ps ≢ []
+  some-outs some none = some (nothing outs (same-count ∙ ap (λ (ns : List (List ℕ)). length ns) none))
+
+-- ---- failures
+
+pub fail-is : (t : RawTask) (fail : LetFail) → flat_map out_name t.parts ≢ [] → IsFailOf (base_of t) (lets_of t) fail → IsTaskFail t (task_fail_of fail)
+fail-is t (let_fail.Cycle first names) some is = (some, is)
+fail-is t let_fail.NoMemory some is = tt
+
+-- the lets of a cycle are there
+second-or-last : (base : ℕ) (lets : List Let) (first : ℕ) (cycle : List ℕ) → IsCycleFrom base lets first cycle → (second : Option ℕ) → slice_get cycle 1 ≡ second → (j : ℕ) × Uses base lets first j
+second-or-last base lets first cycle is (Some j) at = (j, is.is.linked 0 first j is.begins at)
+second-or-last base lets first cycle is None at = (first, is.is.closed 0 first first (one cycle is.is.some at) is.begins is.begins)
+  where
+    one : (xs : List ℕ) → 0 < length xs → slice_get xs 1 ≡ None → 0 + 1 ≡ length xs
+    one [] some at = absurd (omega arith)
+    one (x ∷ []) some at = refl
+    one (x ∷ y ∷ xs) some at = absurd cc
+
+pub first-there : (base : ℕ) (lets : List Let) (first : ℕ) (cycle : List ℕ) → IsCycleFrom base lets first cycle → first < length lets
+first-there base lets first cycle is =
+    let uses = second-or-last base lets first cycle is (slice_get cycle 1) refl in
+    slice_get_within lets first _ uses.1.is
+
+-- ---- the lines of lets
+
+pub let-line-each : (ps : List Part) (ns : List ℕ) (names : List (List ℕ)) → length ps ≤ length ns → length (let_lines ps ns) ≡ length (flat_map (let_of names) ps)
+let-line-each [] ns names few = refl
+let-line-each (p ∷ ps) [] names few = absurd (omega arith)
+let-line-each (part.Let m e ∷ ps) (n ∷ ns) names few = ap (λ (k : ℕ). suc k) (let-line-each ps ns names (omega arith))
+let-line-each (part.State m v ∷ ps) (n ∷ ns) names few = let-line-each ps ns names (omega arith)
+let-line-each (part.Sense m i ∷ ps) (n ∷ ns) names few = let-line-each ps ns names (omega arith)
+let-line-each (part.Read m d w q a ∷ ps) (n ∷ ns) names few = let-line-each ps ns names (omega arith)
+let-line-each (part.Next m e ∷ ps) (n ∷ ns) names few = let-line-each ps ns names (omega arith)
+let-line-each (part.Out m v e ∷ ps) (n ∷ ns) names few = let-line-each ps ns names (omega arith)
+
+-- ---- a task
+
+-- the task's own base is that of its lines
+pub base-of-task : (body : Body) (number : ℕ) (t : RawTask) (order : List ℕ) → let_base (task_of body number t order) ≡ base_of t
+base-of-task body number t order =
+    rw (made-alike state_of state_name states-alike t.parts, made-alike (sense_of (flat_map input_name body.decls)) sense_name (senses-alike (flat_map input_name body.decls)) t.parts, made-alike (read_of body.tasks number) read_name (reads-alike body.tasks number) t.parts) refl
+
+pub assembled : (body : Body) (number : ℕ) (t : RawTask) (w : Work) (g : Given) (clock : Clock) → IsWorkOf t w → IsGivenTo body number t.parts g → clock ≡ clock_of (flat_map event_name body.decls) t.clock
+    → IsTaskOf body number t (record { name = t.name; clock = clock; prio = t.prio; deadline = t.deadline; cost = t.cost; states = g.states; senses = g.senses; reads = g.reads; lets = w.lets; order = w.order; nexts = w.nexts; outs = w.outs })
+assembled body number t w g clock work given is =
+    let made : Task = record { name = t.name; clock = clock; prio = t.prio; deadline = t.deadline; cost = t.cost; states = g.states; senses = g.senses; reads = g.reads; lets = w.lets; order = w.order; nexts = w.nexts; outs = w.outs } in
+    let same : made ≡ task_of body number t w.order = rw (is, given.states, given.senses, given.reads, work.lets, work.nexts, work.outs) refl in
+    record {
+      is = same;
+      order = subst (λ (u : Task). IsFrontOrder (let_base u) u.lets w.order) (sym same) (subst (λ (b : ℕ). IsFrontOrder b (lets_of t) w.order) (sym (base-of-task body number t w.order)) work.order);
+    }

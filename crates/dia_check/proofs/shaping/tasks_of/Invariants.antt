@@ -1,0 +1,5 @@
+use Rattle.dia_check.proofs.TasksSoFar.{TasksSoFar}
+use Rattle.dia_check.proofs.shaping.tasks_of.Given as goal
+
+abbrev pub invariant-loop-number : goal.invariant-loop-number
+invariant-loop-number l = TasksSoFar l.fn.doc l.number l.tasks l.rest

@@ -1,0 +1,69 @@
+-- What the names of a document mean in all of its tasks, and how one task is put together.
+use Rattle.std.specs.Prelude.{◌≡◌, ◌≢◌, ℕ, List, [], take, slice_get, Some, None}
+use Rattle.std.specs.List.{flat_map}
+use Rattle.dia_lines.specs.declared.item.Part.{Part}
+use Rattle.dia_read.specs.declared.document.Body.{Body}
+use Rattle.dia_read.specs.declared.document.RawTask.{RawTask}
+use Rattle.expr_eval.specs.declared.order.LetFail.{LetFail}
+use Rattle.expr_eval.specs.declared.order.LetFail.TheVariants as let_fail
+use Rattle.expr_eval.specs.LetOrders.{IsFrontOrder, IsCycle, IsFailOf}
+use Rattle.dia_check.specs.declared.fail.CheckFail.{CheckFail}
+use Rattle.dia_check.specs.declared.fail.CheckFail.TheVariants as check_fail
+use Rattle.dia_check.specs.declared.scope.Scope.{Scope}
+use Rattle.dia_check.specs.declared.tasks.Given.{Given}
+use Rattle.dia_check.specs.declared.tasks.OrderedLets.{OrderedLets}
+use Rattle.dia_check.specs.declared.tasks.TaskFail.{TaskFail}
+use Rattle.dia_check.specs.declared.tasks.TaskFail.TheVariants.{NoOut, Cycle, NoMemory}
+use Rattle.dia_check.specs.declared.tasks.Work.{Work}
+use Rattle.dia_check.specs.Diagrams.{links_of, lets_of, state_of, sense_of, read_of, next_of, out_of}
+use Rattle.dia_check.specs.Faults.{part_fault, base_of, HasTaskFault}
+use Rattle.dia_check.specs.Names.{input_name, event_name, state_name, out_name, env_names, task_names}
+
+-- the scope has the body's names and links
+pub record IsScopeOf (body : Body) (s : Scope) : Type 0 where
+  pub inputs : s.inputs ≡ flat_map input_name body.decls
+  pub events : s.events ≡ flat_map event_name body.decls
+  pub tasks : s.tasks ≡ task_names body.tasks
+  pub links : s.links ≡ links_of body.tasks
+
+-- no line of the task's body has a fault
+abbrev pub HasFaultlessParts : Body → RawTask → Type 0
+HasFaultlessParts body t = (j : ℕ) (p : Part) → slice_get t.parts j ≡ Some p → part_fault body t (take j t.parts) p ≡ None
+
+-- ---- the parts of a task, as they are put together
+
+abbrev pub HasNoCycle : RawTask → Type 0
+HasNoCycle t = (cycle : List ℕ) → IsCycle (base_of t) (lets_of t) cycle → ⊥
+
+-- its lets, in an order from the front
+pub record AreOrderedLets (t : RawTask) (o : OrderedLets) : Type 0 where
+  pub lets : o.lets ≡ lets_of t
+  pub order : IsFrontOrder (base_of t) (lets_of t) o.order
+
+-- what it computes
+pub record IsWorkOf (t : RawTask) (w : Work) : Type 0 where
+  pub lets : w.lets ≡ lets_of t
+  pub order : IsFrontOrder (base_of t) (lets_of t) w.order
+  pub nexts : w.nexts ≡ flat_map (next_of (flat_map state_name t.parts) (env_names t.parts)) t.parts
+  pub outs : w.outs ≡ flat_map (out_of (env_names t.parts)) t.parts
+
+-- what a task with the number keeps, senses and reads
+pub record IsGivenTo (body : Body) (number : ℕ) (parts : List Part) (g : Given) : Type 0 where
+  pub states : g.states ≡ flat_map state_of parts
+  pub senses : g.senses ≡ flat_map (sense_of (flat_map input_name body.decls)) parts
+  pub reads : g.reads ≡ flat_map (read_of body.tasks number) parts
+
+-- what a failure tells of a task as a whole; want of memory tells nothing
+abbrev pub IsTaskFail : RawTask → TaskFail → Type 0
+IsTaskFail t NoOut = flat_map out_name t.parts ≡ []
+IsTaskFail t (Cycle first names) = (flat_map out_name t.parts ≢ []) × IsFailOf (base_of t) (lets_of t) (let_fail.Cycle first names)
+IsTaskFail t NoMemory = Unit {0}
+
+abbrev pub task_fail_of : LetFail → TaskFail
+task_fail_of (let_fail.Cycle first names) = Cycle first names
+task_fail_of let_fail.NoMemory = NoMemory
+
+-- what a refusal tells of the task, whose first line and those of its body have these numbers
+abbrev pub IsTaskRefusal : RawTask → ℕ → List ℕ → CheckFail → Type 0
+IsTaskRefusal t begins parts (check_fail.Refused line code) = HasTaskFault t begins parts line code
+IsTaskRefusal t begins parts check_fail.NoMemory = Unit {0}

@@ -1,0 +1,100 @@
+// The ranks of a diagram's tasks, and the first fault that keeps it from having them.
+
+ghost use Rattle.std.specs.Prelude.{◌≡◌, ◌<◌, ◌≤◌, All, IfErr, IfOk, [], length, map};
+ghost use Rattle.dbp_plan.specs.Closed.{IsClosed};
+ghost use Rattle.dbp_plan.specs.Ranked.{IsRanked};
+ghost use Rattle.dia_check.specs.Faults.{faults_behind, first_fault};
+ghost use Rattle.dia_check.specs.RankFaults.{task_rank_fault, link_rank_fault, read_rank_fault, HasNoRankFault, IsRankRefusal, ranked_diagram};
+ghost use Rattle.dia_read.specs.declared.document.Doc.{Doc as AnyDoc};
+ghost use Rattle.dia_check.specs.Checks.{IsCheckedOf};
+ghost use Rattle.dia_check.specs.Shapes.{IsShapeOf, HasLines};
+
+use crate::fail::{CheckFail, RankFault};
+use crate::ranking::ranks;
+use crate::shaped::{ReadLine, Shaped};
+use dbp_plan::{Diagram, Link, Policy, Task};
+use std::alloc::Global;
+
+/// `MissingPrio` or `MissingDeadline`, where the task lacks what the policy ranks it by.
+fn task_rank_fault(policy: Policy, task: &Task) -> Option<RankFault>
+    ensures { result ≡ task_rank_fault policy task.now }
+{
+    match policy {
+        Policy::Fp if task.prio.is_none() => Some(RankFault::MissingPrio),
+        Policy::Edf if task.deadline.is_none() => Some(RankFault::MissingDeadline),
+        _ => None,
+    }
+}
+
+/// The first fault of the tasks, whose lines have these numbers.
+fn tasks_rank_fault(policy: Policy, tasks: &[Task], lines: &[u32]) -> Option<(u32, RankFault)>
+    requires { length tasks.now ≤ length lines.now }
+    ensures { result ≡ first_fault (faults_behind (λ before t. task_rank_fault policy t) [] tasks.now lines.now) }
+{
+    for (place, task) in tasks.iter().enumerate() {
+        if let Some(fault) = task_rank_fault(policy, task) {
+            return Some((lines[place], fault));
+        }
+    }
+    None
+}
+
+/// `UndelayedUpward`, where the link is direct and its reader is ranked above its writer.
+fn link_rank_fault(ranks: &[u32], link: Link) -> Option<RankFault>
+    requires { (link.writer < length ranks.now) × (link.reader < length ranks.now) }
+    ensures { result ≡ link_rank_fault ranks.now link }
+{
+    if link.delay == 0 && ranks[link.reader as usize] < ranks[link.writer as usize] {
+        return Some(RankFault::UndelayedUpward {
+            writer: link.writer,
+            reader: link.reader,
+        });
+    }
+    None
+}
+
+/// The first fault of the read lines, which read over these links.
+fn reads_rank_fault(ranks: &[u32], links: &[Link], reads: &[ReadLine]) -> Option<(u32, RankFault)>
+    requires ends { All (λ l. (l.writer < length ranks.now) × (l.reader < length ranks.now)) links.now }
+    requires linked { All (λ r. r.link < length links.now) reads.now }
+    ensures { result ≡ first_fault (map (λ r. (r.line, read_rank_fault ranks.now links.now r)) reads.now) }
+{
+    for read in reads {
+        if let Some(fault) = link_rank_fault(ranks, links[read.link as usize]) {
+            return Some((read.line, fault));
+        }
+    }
+    None
+}
+
+/// Gives the tasks of a document's diagram their ranks, by its policy. Refused is the first fault, at its line: of
+/// the tasks in order, `MissingPrio` under fixed priorities and `MissingDeadline` under earliest deadline first, and
+/// then of the `read` lines in order, `UndelayedUpward`. With an error `shaped` is given up.
+pub fn ranked(alloc: Global, shaped: Shaped) -> Result<Diagram, CheckFail>
+    requires closed { IsClosed shaped.diagram }
+    requires lines { HasLines shaped }
+    // It has no fault of ranks, and this is its diagram with them.
+    ensures found { IfOk result (λ d. HasNoRankFault shaped × (d ≡ ranked_diagram shaped.diagram)) }
+    ensures ranked { IfOk result (λ d. IsRanked d) }
+    // The diagram came from the document that `shaped` came from.
+    ensures checked { (doc : AnyDoc) → IsShapeOf doc shaped → IfOk result (λ d. IsCheckedOf doc d) }
+    // It has this first fault, unless memory ran out.
+    ensures fault { IfErr result (λ e. IsRankRefusal shaped e) }
+{
+    let policy = shaped.diagram.policy;
+    let tasks = shaped.diagram.tasks.items();
+    if let Some((line, fault)) = tasks_rank_fault(policy, tasks, shaped.task_lines.items()) {
+        let code = fault.code();
+        return Err(CheckFail::Refused { line, code });
+    }
+    let ranks = ranks(alloc, policy, tasks)?;
+    let links = shaped.diagram.links.items();
+    if let Some((line, fault)) = reads_rank_fault(ranks.items(), links, shaped.read_lines.items()) {
+        let code = fault.code();
+        return Err(CheckFail::Refused { line, code });
+    }
+    Ok(Diagram {
+        ranks,
+        ..shaped.diagram
+    })
+}

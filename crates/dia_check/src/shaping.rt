@@ -1,0 +1,118 @@
+// The diagram that a document says.
+
+ghost use Rattle.std.specs.Prelude.{◌≡◌, ◌<◌, ◌^◌, [], None, length, IfOk, IfErr};
+ghost use Rattle.std.specs.List.{flat_map};
+ghost use Rattle.dbp_plan.specs.Closed.{IsClosed};
+ghost use Rattle.dia_read.specs.Printable.{IsPrintable, HasItemLines};
+ghost use Rattle.dia_check.specs.Diagrams.{IsDiagramOf, input_of};
+ghost use Rattle.dia_check.specs.Faults.{first_fault, line_faults};
+ghost use Rattle.dia_check.specs.Scopes.{IsScopeOf};
+ghost use Rattle.dia_check.specs.Shapes.{IsShapeOf, IsShapeRefusal, HasLines, AreTasksOf, AreWhole};
+
+use crate::fail::CheckFail;
+use crate::first_line::first_line_fault;
+use crate::reads::read_lines_of;
+use crate::scope::{Scope, scope_of};
+use crate::shaped::Shaped;
+use crate::tasks::checked_task;
+use dbp_plan::{Diagram, Input, List, NoMemory, Task};
+use dia_lines::Decl;
+use dia_read::Doc;
+use std::alloc::Global;
+
+fn inputs_of(alloc: Global, decls: &[Decl]) -> Result<List<Input>, NoMemory>
+    requires { length decls.now < 2 ^ 32 }
+    ensures { IfOk result (λ inputs. inputs ≡ flat_map input_of decls.now) }
+{
+    let mut inputs = List::new(alloc);
+    for decl in decls {
+        if let Decl::Input(name, first) = decl {
+            inputs.push(Input {
+                name: *name,
+                first: *first,
+            })?;
+        }
+    }
+    Ok(inputs)
+}
+
+/// The tasks of the document, of which no line has a fault.
+#[tactic(auto, using(crate::proofs::TasksSoFar::tasks_begin))]
+fn tasks_of(alloc: Global, doc: &Doc, scope: &Scope) -> Result<List<Task>, CheckFail>
+    requires printable { IsPrintable doc.now.body }
+    requires lines { HasItemLines doc.now }
+    requires scope { IsScopeOf doc.now.body scope.now }
+    requires faultless { first_fault (line_faults doc.now) ≡ None }
+    ensures tasks { IfOk result (λ tasks. AreTasksOf doc.now.body tasks) }
+    ensures whole { IfOk result (λ _. AreWhole doc.now.body.tasks) }
+    ensures fault { IfErr result (λ fail. IsShapeRefusal doc.now fail) }
+{
+    let begins = doc.lines.tasks.items();
+    let mut rest = doc.lines.parts.items();
+    let mut tasks = List::new(alloc);
+    for (number, raw) in doc.body.tasks.items().iter().enumerate() {
+        let line = begins[number];
+        let task = checked_task(alloc, &doc.body, scope, number as u32, raw, line, rest)?;
+        tasks.push(task)?;
+        rest = &rest[raw.parts.items().len()..];
+    }
+    Ok(tasks)
+}
+
+/// The diagram of the document, of which no line has a fault.
+fn diagram_of(alloc: Global, doc: &Doc, scope: Scope) -> Result<Diagram, CheckFail>
+    requires printable { IsPrintable doc.now.body }
+    requires lines { HasItemLines doc.now }
+    requires scope { IsScopeOf doc.now.body scope }
+    requires faultless { first_fault (line_faults doc.now) ≡ None }
+    ensures diagram { IfOk result (λ diagram. IsDiagramOf doc.now.body diagram) }
+    ensures unranked { IfOk result (λ diagram. diagram.ranks ≡ []) }
+    ensures whole { IfOk result (λ _. AreWhole doc.now.body.tasks) }
+    ensures fault { IfErr result (λ fail. IsShapeRefusal doc.now fail) }
+{
+    let tasks = tasks_of(alloc, doc, &scope)?;
+    let inputs = inputs_of(alloc, doc.body.decls.items())?;
+    Ok(Diagram {
+        policy: doc.body.policy,
+        until: doc.body.until,
+        inputs,
+        events: scope.events,
+        tasks,
+        links: scope.links,
+        ranks: List::new(alloc),
+    })
+}
+
+/// The diagram that the document says, still without ranks. Its names are looked up where they are declared, before
+/// or behind their use; of two tasks with one name, which are refused at the second, a `read` means the first. A state
+/// without a `next` keeps its value.
+///
+/// Refused is the first line with a fault, with the first of its faults in this order: `Duplicate`, `Unknown`,
+/// `SelfLink`, `ReadPastCost`. Where no line has one, it is the first task with `NoOut`, at its first line, or with
+/// `LetCycle`, at the line of the earliest let on a cycle. The order of lets is that of `order_lets`.
+pub fn shape(alloc: Global, doc: &Doc) -> Result<Shaped, CheckFail>
+    requires printable { IsPrintable doc.now.body }
+    requires lines { HasItemLines doc.now }
+    // The document has no fault of names and shape, and this is its diagram.
+    ensures found { IfOk result (λ shaped. IsShapeOf doc.now shaped) }
+    ensures closed { IfOk result (λ shaped. IsClosed shaped.diagram) }
+    ensures lines { IfOk result (λ shaped. HasLines shaped) }
+    // It has this first fault, unless memory ran out.
+    ensures fault { IfErr result (λ fail. IsShapeRefusal doc.now fail) }
+{
+    if let Some((line, fault)) = first_line_fault(doc) {
+        return Err(CheckFail::Refused {
+            line,
+            code: fault.code(),
+        });
+    }
+    let scope = scope_of(alloc, &doc.body)?;
+    let read_lines = read_lines_of(alloc, doc, &scope)?;
+    let task_lines = doc.lines.tasks.copied()?;
+    let diagram = diagram_of(alloc, doc, scope)?;
+    Ok(Shaped {
+        diagram,
+        task_lines,
+        read_lines,
+    })
+}
