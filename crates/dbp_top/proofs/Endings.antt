@@ -3,7 +3,7 @@ use Rattle.std.proofs.Common.{ℕ, ◌++◌, List, Option, Some, None, sym, ◌�
 use Rattle.std.specs.Prelude.{IfSome}
 use Rattle.std.proofs.lemmas.List.{append-nil}
 use Rattle.std.specs.Io.KnownBytes.{Consumes, IsAtEnd}
-use Rattle.dbp_top.specs.Answer.{Answers, mean_of_a_plan, mean_of_no_plan, form_of_a_document, form_of_a_fault}
+use Rattle.dbp_top.specs.Answer.{Answers, mean_of_a_plan, mean_of_a_fault, form_of_a_document, form_of_a_fault}
 use Rattle.dbp_top.specs.Commands.{Names}
 use Rattle.dbp_top.specs.Ends.{Ends, WroteWhole}
 use Rattle.dbp_top.specs.declared.command.Command.{Command}
@@ -19,7 +19,7 @@ whole-input (Some xs) None bytes P consumes end holds = absurd consumes
 pub ends-whole : {S K : Type 0} (left : S → Option (List ℕ)) (source_faults : S → ℕ) (written : K → Option (List ℕ)) (sink_faults : K → ℕ) (words : List (String Global)) (source new_source : S) (sink new_sink : K)
     (input : List ℕ) (command : Command) (status : Status) (text : List ℕ) → Names words command → Answers input command status text
     → WroteWhole left source_faults written sink_faults source new_source sink new_sink command status → Ends left source_faults written sink_faults words source new_source sink new_sink status
-ends-whole left sf written kf words s t k l input command status text named (mean_of_a_plan x printed) wrote = (Mean, named, wrote)
-ends-whole left sf written kf words s t k l input command status text named mean_of_no_plan wrote = (Mean, named, wrote)
+ends-whole left sf written kf words s t k l input command status text named (mean_of_a_plan plan is) wrote = (Mean, named, wrote)
+ends-whole left sf written kf words s t k l input command status text named (mean_of_a_fault line code fault) wrote = (Mean, named, wrote)
 ends-whole left sf written kf words s t k l input command status text named (form_of_a_document doc spelled) wrote = (Form, named, wrote)
 ends-whole left sf written kf words s t k l input command status text named (form_of_a_fault line code fault) wrote = (Form, named, wrote)

@@ -1,6 +1,6 @@
-pub mod Closings
 pub mod Commands
 pub mod Endings
 pub mod FormLaws
 pub mod Plans
+pub mod StopLaws
 pub mod Streams

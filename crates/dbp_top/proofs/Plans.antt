@@ -14,19 +14,18 @@ use Rattle.dbp_plan.specs.Ranked.{IsRanked}
 use Rattle.dbp_plan.specs.Plan.{IsPlan}
 use Rattle.trace_io.specs.Batches.{AreBatches, IsClockOf}
 
-clock_fits : (c : Clock) → ((period offset : ℕ) → c ≡ Every period offset → (1 ≤ period) × (period ≤ 1000000000) × (offset ≤ 1000000000)) → ((event : ℕ) → c ≡ On event → event < 0) → IsClockOf 0 c
-clock_fits (Every period offset) periodic on_event = periodic period offset refl
-clock_fits (On event) periodic on_event = on_event event refl
+clock_fits : (events : ℕ) (c : Clock) → ((period offset : ℕ) → c ≡ Every period offset → (1 ≤ period) × (period ≤ 1000000000) × (offset ≤ 1000000000)) → ((event : ℕ) → c ≡ On event → event < events) → IsClockOf events c
+clock_fits events (Every period offset) periodic on_event = periodic period offset refl
+clock_fits events (On event) periodic on_event = on_event event refl
 
 -- the clocks of a diagram's tasks
 abbrev pub clocks_of : List Task → List Clock
 clocks_of tasks = map (λ t. t.clock) tasks
 
-pub clocks_fit : (d : Diagram) → IsClosed d → d.events ≡ [] → All (IsClockOf 0) (clocks_of d.tasks)
-clocks_fit d closed none =
-    let events : length d.events ≡ 0 = ap length none in
-    All-map (IsClockOf 0) (λ (t : Task). t.clock) d.tasks
-    (λ k t below. let fits = closed.each k t below in clock_fits (get_or d.tasks k t).clock fits.periodic (λ event is. omega (arith, fits.on_event event is, events)))
+pub clocks_fit : (d : Diagram) → IsClosed d → All (IsClockOf (length d.events)) (clocks_of d.tasks)
+clocks_fit d closed =
+    All-map (IsClockOf (length d.events)) (λ (t : Task). t.clock) d.tasks
+    (λ k t below. let fits = closed.each k t below in clock_fits (length d.events) (get_or d.tasks k t).clock fits.periodic fits.on_event)
 
 pub plan_from : (d : Diagram) (batches : List Batch) → IsRanked d → AreBatches d.until [] (clocks_of d.tasks) batches → IsPlan d [] batches
 plan_from d batches ranked made = record {

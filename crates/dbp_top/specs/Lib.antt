@@ -1,6 +1,6 @@
 pub mod Answer
-pub mod Closing
 pub mod Commands
 pub mod Ends
 pub mod Outside
 pub mod Refusals
+pub mod Stops

@@ -1,10 +1,14 @@
 -- The line that says why a text is refused.
 use Rattle.std.specs.Prelude.{ℕ, List, [], ◌∷◌, ◌++◌, codes}
 use Rattle.std.specs.Fmt.{decimal}
+use Rattle.dia_check.specs.declared.fail.CheckCode.{CheckCode}
+use Rattle.dia_check.specs.declared.fail.CheckCode.TheVariants.{Duplicate, Unknown, SelfLink, LetCycle, MissingPrio, MissingDeadline, ReadPastCost, NoOut, UndelayedUpward}
 use Rattle.dia_lines.specs.declared.fault.Limit.{Limit}
 use Rattle.dia_lines.specs.declared.fault.Limit.TheVariants.{Tasks, Reads, Links, Outs, Inputs, Events, Body, Nodes, Number}
 use Rattle.dia_lines.specs.declared.fault.ReadCode.{ReadCode}
 use Rattle.dia_lines.specs.declared.fault.ReadCode.TheVariants.{BadByte, BadToken, BadLine, NumberTooWide, NameTooLong, LimitHit, MissingDone, MissingHeader, DepthHit}
+use Rattle.dbp_top.specs.declared.stop.Code.{Code}
+use Rattle.dbp_top.specs.declared.stop.Code.TheVariants.{Reading, Checking, Unread}
 
 -- the word of a limit
 abbrev pub limit_word : Limit → List ℕ
@@ -35,6 +39,23 @@ abbrev pub limit_behind : ReadCode → List ℕ
 limit_behind (LimitHit limit) = 32 ∷ limit_word limit
 limit_behind _ = []
 
+-- the number and the name of a code of checking
+abbrev pub check_name : CheckCode → List ℕ
+check_name Duplicate = codes "10 Duplicate"
+check_name Unknown = codes "11 Unknown"
+check_name SelfLink = codes "12 SelfLink"
+check_name (LetCycle names) = codes "13 LetCycle"
+check_name MissingPrio = codes "14 MissingPrio"
+check_name MissingDeadline = codes "15 MissingDeadline"
+check_name ReadPastCost = codes "16 ReadPastCost"
+check_name NoOut = codes "17 NoOut"
+check_name (UndelayedUpward writer reader) = codes "18 UndelayedUpward"
+
+abbrev pub code_text : Code → List ℕ
+code_text (Reading code) = code_name code ++ limit_behind code
+code_text (Checking code) = check_name code
+code_text Unread = codes "30 Unread"
+
 -- `refused: line L: CODE NAME`, ended by LF (10)
-abbrev pub refusal_line : ℕ → ReadCode → List ℕ
-refusal_line line code = codes "refused: line " ++ decimal line ++ codes ": " ++ code_name code ++ limit_behind code ++ 10 ∷ []
+abbrev pub refusal_line : ℕ → Code → List ℕ
+refusal_line line code = codes "refused: line " ++ decimal line ++ codes ": " ++ code_text code ++ 10 ∷ []

@@ -1,18 +1,19 @@
-ghost use Rattle.std.specs.Prelude.{◌≤◌, length, IfOk};
-ghost use Rattle.dbp_top.specs.Answer.{Answers, IsPrinted};
+ghost use Rattle.std.specs.Prelude.{◌≡◌, ◌≤◌, length, IfOk};
+ghost use Rattle.sync_meaning.specs.SomeMeaning.{meaning_of};
+ghost use Rattle.trace_io.specs.Lines.{lines_of};
+ghost use Rattle.dbp_top.specs.Answer.{Answers};
 ghost use Rattle.dbp_top.specs.declared.command.Command.TheVariants.{Mean, Form};
 
 use crate::Status;
 use crate::command::Command;
+use crate::plan::plan_of;
 use crate::refusal::refusal_line;
-use crate::stand_in::{Unread, read_plan};
+use crate::stop::{Code, Stop};
 use dbp_plan::{NoMemory, Plan};
 use dia_read::{ReadFail, print_doc, read_doc};
 use std::alloc::Global;
 use sync_meaning::mean;
 use trace_io::lines;
-
-const UNREAD: &[u8] = b"refused: line 1: 30 Unread\n";
 
 // The status and the text that the command gives to an input that isn't too large.
 pub(crate) fn answer(
@@ -31,18 +32,21 @@ pub(crate) fn answer(
 
 // The lines of the meaning of the input's plan.
 fn mean_of(alloc: Global, input: &[u8]) -> Result<(Status, Vec<u8>), NoMemory>
+    requires { length input.now ≤ 2000000000 }
     ensures { IfOk result (λ (status, text). Answers input.now Mean status text.items) }
 {
-    match read_plan(alloc, input) {
+    match plan_of(alloc, input) {
         Ok(plan) => Ok((Status::Ok, meaning(alloc, &plan)?)),
-        Err(Unread::Refused) => Ok((Status::Refused, UNREAD.to_vec(alloc)?)),
-        Err(Unread::NoMemory) => Err(NoMemory),
+        Err(Stop::Refused { line, code }) => {
+            Ok((Status::Refused, refusal_line(alloc, line, &code)?))
+        }
+        Err(Stop::NoMemory) => Err(NoMemory),
     }
 }
 
 // The lines of the plan's table.
 fn meaning(alloc: Global, plan: &Plan) -> Result<Vec<u8>, NoMemory>
-    ensures { IfOk result (λ text. IsPrinted text.items) }
+    ensures { IfOk result (λ text. text.items ≡ lines_of plan.now.diagram plan.now.batches (meaning_of plan.now)) }
 {
     let table = mean(alloc, plan)?;
     let text = lines(alloc, plan, &table)?;
@@ -57,7 +61,10 @@ fn form_of(alloc: Global, input: &[u8]) -> Result<(Status, Vec<u8>), NoMemory>
     match read_doc(alloc, input) {
         Ok(doc) => Ok((Status::Ok, print_doc(alloc, &doc.body)?)),
         Err(ReadFail::Refused { line, code }) => {
-            Ok((Status::Refused, refusal_line(alloc, line, code)?))
+            Ok((
+                Status::Refused,
+                refusal_line(alloc, line, &Code::Reading(code))?,
+            ))
         }
         Err(ReadFail::NoMemory) => Err(NoMemory),
     }

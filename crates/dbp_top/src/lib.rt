@@ -5,9 +5,10 @@ mod answer;
 mod command;
 mod laws;
 mod outside;
+mod plan;
 mod refusal;
-mod stand_in;
 mod status;
+mod stop;
 #[cfg(test)]
 mod tests;
 mod top;

@@ -1,16 +1,18 @@
 // The line that says why a text is refused.
 
 ghost use Rattle.std.specs.Prelude.{◌≡◌, ◌++◌, codes, decimal, IfOk, OnOk};
-ghost use Rattle.dbp_top.specs.Refusals.{code_name, limit_behind, limit_word, refusal_line};
+ghost use Rattle.dbp_top.specs.Refusals.{check_name, code_name, code_text, limit_behind, limit_word, refusal_line};
 
+use crate::stop::Code;
 use dbp_plan::NoMemory;
+use dia_check::CheckCode;
 use dia_read::{Limit, ReadCode};
 use itoa::Buffer;
 use std::alloc::Global;
 
 /// The line `refused: line L: CODE NAME`, with the limit's word behind a passed limit.
-pub(crate) fn refusal_line(alloc: Global, line: u32, code: ReadCode) -> Result<Vec<u8>, NoMemory>
-    ensures { IfOk result (λ text. text.items ≡ refusal_line line code) }
+pub(crate) fn refusal_line(alloc: Global, line: u32, code: &Code) -> Result<Vec<u8>, NoMemory>
+    ensures { IfOk result (λ text. text.items ≡ refusal_line line code.now) }
 {
     let mut text = Vec::from_slice(alloc, b"refused: line ")?;
     text.extend_from_slice(Buffer::new().format(line).as_bytes())?;
@@ -20,8 +22,18 @@ pub(crate) fn refusal_line(alloc: Global, line: u32, code: ReadCode) -> Result<V
     Ok(text)
 }
 
+fn push_code(text: &mut Vec<u8>, code: &Code) -> Result<(), NoMemory>
+    ensures { OnOk result (text.new.items ≡ text.old.items ++ code_text code.now) }
+{
+    match code {
+        Code::Reading(code) => push_read_code(text, *code),
+        Code::Checking(code) => Ok(text.extend_from_slice(check_name(code).as_bytes())?),
+        Code::Unread => Ok(text.extend_from_slice(b"30 Unread")?),
+    }
+}
+
 // Adds the number and the name of the code, and the word of its limit.
-fn push_code(text: &mut Vec<u8>, code: ReadCode) -> Result<(), NoMemory>
+fn push_read_code(text: &mut Vec<u8>, code: ReadCode) -> Result<(), NoMemory>
     ensures { OnOk result (text.new.items ≡ text.old.items ++ code_name code ++ limit_behind code) }
 {
     text.extend_from_slice(name_of(code).as_bytes())?;
@@ -30,6 +42,23 @@ fn push_code(text: &mut Vec<u8>, code: ReadCode) -> Result<(), NoMemory>
         text.extend_from_slice(word_of(limit).as_bytes())?;
     }
     Ok(())
+}
+
+// The number and the name of a code of checking.
+fn check_name(code: &CheckCode) -> &'static str
+    ensures { result.now ≡ check_name code.now }
+{
+    match code {
+        CheckCode::Duplicate => "10 Duplicate",
+        CheckCode::Unknown => "11 Unknown",
+        CheckCode::SelfLink => "12 SelfLink",
+        CheckCode::LetCycle { .. } => "13 LetCycle",
+        CheckCode::MissingPrio => "14 MissingPrio",
+        CheckCode::MissingDeadline => "15 MissingDeadline",
+        CheckCode::ReadPastCost => "16 ReadPastCost",
+        CheckCode::NoOut => "17 NoOut",
+        CheckCode::UndelayedUpward { .. } => "18 UndelayedUpward",
+    }
 }
 
 // The number and the name of the code.

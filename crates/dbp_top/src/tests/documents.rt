@@ -14,13 +14,11 @@ task a every 2 from 0 prio 2 cost 1
   out y = 0 then n + 1
 task b every 3 from 0 prio 1 cost 2
   read x = a.y
-  out z = 0 then x + 10
+  out z = 0 then x * 10
 done
 ";
 
-const TWO_RATES_LINES: &str = "0,a,1,1\n0,b,1,11\n2,a,2,2\n3,b,2,12\n4,a,3,3\n";
-
-const UNREAD: &str = "refused: line 1: 30 Unread\n";
+const TWO_RATES_LINES: &str = "0,a,1,1\n0,b,1,10\n2,a,2,2\n3,b,2,20\n4,a,3,3\n";
 
 // How a call with these words ends on a source of such pieces and a sink of such pieces, and what it wrote.
 pub(super) fn call(
@@ -64,37 +62,11 @@ fn documents_are_answered(rt: HostRuntime) -> Result<(), Fail> {
             Status::Ok,
             "0,m,1,9223372036854775807,-9223372036854775808\n",
         ),
-        ("", Status::Refused, UNREAD),
-        ("dbp 1\npolicy fp\nuntil 0\n", Status::Refused, UNREAD),
         (
-            // a link from a lower to a higher rank
-            "dbp 1\npolicy fp\nuntil 1\ntask a every 1 from 0 prio 1 cost 1\nout y = 0 then 1\ntask b every 1 from 0 prio 2 cost 1\nread x = a.y\nout z = 0 then x\ndone\n",
-            Status::Refused,
-            UNREAD,
-        ),
-        (
-            // a task that reads itself
-            "dbp 1\npolicy fp\nuntil 1\ntask a every 1 from 0 prio 1 cost 1\nread x = a.y\nout y = 0 then x\ndone\n",
-            Status::Refused,
-            UNREAD,
-        ),
-        (
-            // no out
-            "dbp 1\npolicy fp\nuntil 1\ntask a every 1 from 0 prio 1 cost 1\nstate y = 0\ndone\n",
-            Status::Refused,
-            UNREAD,
-        ),
-        (
-            // a product
-            "dbp 1\npolicy fp\nuntil 1\ntask a every 1 from 0 prio 1 cost 1\nout y = 0 then 2 * 3\ndone\n",
-            Status::Refused,
-            UNREAD,
-        ),
-        (
-            // a period of 0
-            "dbp 1\npolicy fp\nuntil 1\ntask a every 0 from 0 prio 1 cost 1\nout y = 0 then 2\ndone\n",
-            Status::Refused,
-            UNREAD,
+            // delayed links either way, lets in another order than declared, a state that keeps its value
+            "dbp 1\npolicy edf\nuntil 5\ntask a every 2 deadline 2 cost 1\nstate n = 0\nstate k = 7\nread x = pre b.w\nlet p = q + 1\nlet q = n * 2\nnext n = n + 1\nout y = 5 then p - x\nout w = -1 then k\ntask b every 1 from 1 deadline 9 cost 2\nread x = pre a.y\nread y = a.w at 1\nread z = pre a.w\nout w = 3 then if x > 0 then x else y + z\ndone\n",
+            Status::Ok,
+            "0,a,1,-2,7\n1,b,1,5\n2,a,2,-2,7\n2,b,2,14\n3,b,3,14\n4,a,3,-9,7\n4,b,4,14\n",
         ),
     ];
     for (text, status, lines) in cases {
@@ -105,11 +77,103 @@ fn documents_are_answered(rt: HostRuntime) -> Result<(), Fail> {
     Ok(())
 }
 
+const LONE: &str = "dbp 1\npolicy fp\nuntil 100001\n";
+
+// What stands behind a header, and the refusal's line.
+static REFUSED: [(&str, &str); 18] = [
+    ("", "4: 7 MissingDone"),
+    ("event e\ninput e = 1\ndone", "5: 10 Duplicate"),
+    (
+        "task e on e cost 1\nout y = 0 then 1\nout y = 0 then 1\ndone",
+        "4: 11 Unknown",
+    ),
+    (
+        "task a every 1 prio 1 cost 1\nstate y = 0\n\nout y = 0 then 1\ndone",
+        "7: 10 Duplicate",
+    ),
+    (
+        "task a every 1 prio 1 cost 1\nstate y = 0\nnext y = 1\nnext y = 2\ndone",
+        "7: 10 Duplicate",
+    ),
+    (
+        "task a every 1 prio 1 cost 1\nout z = 0 then y\nout y = 0 then 1\ndone",
+        "5: 11 Unknown",
+    ),
+    (
+        "task a every 1 prio 1 cost 1\nread x = a.z at 9\nout y = 0 then x\ndone",
+        "5: 11 Unknown",
+    ),
+    (
+        "task a every 1 prio 1 cost 1\nread x = a.y at 9\nout y = 0 then x\ndone",
+        "5: 12 SelfLink",
+    ),
+    (
+        "task a every 1 prio 1 cost 1\nread x = b.y at 1\nout y = 0 then x\ntask b every 1 cost 1\nout y = 0 then 1\ndone",
+        "5: 16 ReadPastCost",
+    ),
+    (
+        "task a every 1 prio 1 cost 1\nlet p = q\nlet q = r\n\nlet r = q\nout y = 0 then p\ntask b every 1 cost 1\ndone",
+        "6: 13 LetCycle",
+    ),
+    (
+        "task a every 1 prio 1 cost 1\nstate y = 0\ntask b every 1 prio 1 cost 1\nlet p = p\nout y = 0 then 1\ndone",
+        "4: 17 NoOut",
+    ),
+    (
+        "task a every 1 prio 1 cost 1\nread x = b.y\nout y = 0 then x\ntask b every 1 cost 1\nout y = 0 then 1\ndone",
+        "7: 14 MissingPrio",
+    ),
+    (
+        // of equal priorities the earlier declared is higher
+        "task a every 1 prio 1 cost 1\nread x = b.y\nout y = 0 then x\ntask b every 1 prio 1 cost 1\nout y = 0 then 1\ndone",
+        "5: 18 UndelayedUpward",
+    ),
+    (
+        "input i = 0\ntask a every 2 prio 1 cost 1\nout y = 0 then 1\ndone",
+        "4: 30 Unread",
+    ),
+    (
+        "event e\ntask a every 2 prio 1 cost 1\nout y = 0 then 1\ntrace\ntime,e\ndone",
+        "4: 30 Unread",
+    ),
+    (
+        "task a every 2 prio 1 cost 1\nout y = 0 then 1\ntrace\ntime\ndone",
+        "6: 30 Unread",
+    ),
+    (
+        "task a every 1 prio 1 cost 1\nout y = 0 then 1\ndone",
+        "3: 30 Unread",
+    ),
+    (
+        "event e\ntask a every 1 prio 1 cost 1\nout y = 0 then 1\ndone",
+        "3: 30 Unread",
+    ),
+];
+
+#[test]
+fn diagrams_are_checked(rt: HostRuntime) -> Result<(), Fail> {
+    let alloc = rt.alloc();
+    for (text, line) in &REFUSED {
+        let text = format!(in alloc; "{LONE}{text}")?;
+        let line = format!(in alloc; "refused: line {line}\n")?;
+        let answer = call(alloc, &["mean"], text.as_bytes(), (64, 0), (64, 0))?;
+        assert_eq!(rt; answer.0, Status::Refused, "{line}");
+        assert_eq!(rt; answer.1.as_slice(), line.as_bytes(), "{line}");
+    }
+    let edf = "dbp 1\npolicy edf\nuntil 1\ntask a every 1 prio 1 cost 1\nout y = 0 then 1\ndone";
+    let answer = call(alloc, &["mean"], edf.as_bytes(), (64, 0), (64, 0))?;
+    assert_eq!(rt;
+        answer.1.as_slice(),
+        b"refused: line 4: 15 MissingDeadline\n".as_slice()
+    );
+    Ok(())
+}
+
 #[test]
 fn limits_are_kept(rt: HostRuntime) -> Result<(), Fail> {
     let cases = [
         ("100000", Status::Ok, 1_577_785),
-        ("100001", Status::Refused, UNREAD.len()),
+        ("100001", Status::Refused, 27),
     ];
     for (until, status, size) in cases {
         let text = format!(in rt.alloc();

@@ -29,14 +29,14 @@ fn a_reader_and_a_writer_are_adapted(rt: HostRuntime) -> Result<(), Fail> {
     let mut words = Vec::new(alloc);
     words.push("mean".to_string(alloc)?)?;
     let mut written = Vec::<u8>::new(alloc);
-    let mut source = ReadSource::new(b"dbp 1\npolicy fp\n".as_slice());
+    let mut source = ReadSource::new(b"dbp 1\npolicy fp\nuntil".as_slice());
     let mut sink = WriteSink::new(&mut written);
     let status = dbp_main(alloc, &words, &mut source, &mut sink);
     drop(sink);
     assert_eq!(rt; status, Status::Refused);
     assert_eq!(rt;
         written.as_slice(),
-        b"refused: line 1: 30 Unread\n".as_slice()
+        b"refused: line 3: 3 BadLine\n".as_slice()
     );
     Ok(())
 }

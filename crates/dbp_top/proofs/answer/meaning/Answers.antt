@@ -10,4 +10,4 @@ lines-requires c = has_rows c.args.plan.now.diagram.tasks c.args.plan.now.batche
 pub returns : goal.returns
 returns c =
     let plan = c.args.plan.now in
-    record { plan = plan; is = c.in_ok-text.ensures ∙ ap (λ (t : Table). lines_of plan.diagram plan.batches t) c.in_ok-table.ensures.table }
+    c.in_ok-text.ensures ∙ ap (λ (t : Table). lines_of plan.diagram plan.batches t) c.in_ok-table.ensures.table

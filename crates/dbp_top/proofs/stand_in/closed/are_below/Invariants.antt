@@ -1,6 +1,0 @@
-use Rattle.std.proofs.Common.{◌≡◌, ◌<◌, ℕ, Some, slice_get}
-use Rattle.dbp_plan.specs.declared.node.Node.TheVariants.{Var}
-use Rattle.dbp_top.proofs.stand_in.closed.are_below.Given as goal
-
-abbrev pub invariant-loop-node : goal.invariant-loop-node
-invariant-loop-node l = (k v : ℕ) → k < l.node-index → slice_get l.nodes k ≡ Some (Var v) → v < l.bound

@@ -1,0 +1,69 @@
+// Why an input has no plan.
+
+ghost use Rattle.std.specs.Prelude.{◌≡◌};
+
+use dbp_plan::NoMemory;
+use dia_check::{CheckCode, CheckFail};
+use dia_read::{ReadCode, ReadFail};
+
+/// Why an input is refused.
+#[derive(Drop)]
+pub(crate) enum Code {
+    /// It spells no document.
+    Reading(ReadCode),
+    /// Its document has no diagram with ranks.
+    Checking(CheckCode),
+    /// Inputs, events and traces aren't read yet, nor are documents with too many occurrences told.
+    Unread,
+}
+
+/// Why an input has no plan.
+#[derive(Drop)]
+pub(crate) enum Stop {
+    /// The first fault, at a line, counted from 1.
+    Refused { line: u32, code: Code },
+    /// Memory ran out.
+    NoMemory,
+}
+
+impl From<NoMemory> for Stop {
+    ghost use Rattle.dbp_top.specs.declared.stop.Stop.TheVariants.{NoMemory as OutOfMemory};
+
+    ghost from_gives = { λ _ stop. stop ≡ OutOfMemory };
+
+    fn from(_: NoMemory) -> Self {
+        Stop::NoMemory
+    }
+}
+
+impl From<ReadFail> for Stop {
+    ghost use Rattle.dbp_top.specs.Stops.{stop_of_reading};
+
+    ghost from_gives = { λ fail stop. stop ≡ stop_of_reading fail };
+
+    fn from(fail: ReadFail) -> Self {
+        match fail {
+            ReadFail::Refused { line, code } => Stop::Refused {
+                line,
+                code: Code::Reading(code),
+            },
+            ReadFail::NoMemory => Stop::NoMemory,
+        }
+    }
+}
+
+impl From<CheckFail> for Stop {
+    ghost use Rattle.dbp_top.specs.Stops.{stop_of_checking};
+
+    ghost from_gives = { λ fail stop. stop ≡ stop_of_checking fail };
+
+    fn from(fail: CheckFail) -> Self {
+        match fail {
+            CheckFail::Refused { line, code } => Stop::Refused {
+                line,
+                code: Code::Checking(code),
+            },
+            CheckFail::NoMemory => Stop::NoMemory,
+        }
+    }
+}
