@@ -1,0 +1,10 @@
+pub mod CellNumbers
+pub mod ColumnCells
+pub mod HeaderColumns
+pub mod LineRecords
+pub mod ReadErrors
+pub mod RisingTimes
+pub mod RowFits
+pub mod RowTimes
+pub mod SampleOrder
+pub mod Timetable

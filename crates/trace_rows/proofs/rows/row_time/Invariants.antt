@@ -1,0 +1,6 @@
+use Rattle.csv.specs.Records.{fields_of}
+use Rattle.trace_rows.proofs.RowFits.{FitsFrom}
+use Rattle.trace_rows.proofs.rows.row_time.Given as goal
+
+abbrev pub invariant-loop-column : goal.invariant-loop-column
+invariant-loop-column l = FitsFrom l.kinds (fields_of l.row) l.column

@@ -1,0 +1,19 @@
+//! The records of a trace section: its header, the first fault of its rows, and what they give to inputs and events.
+#![tactic(auto)]
+
+mod cell;
+mod fail;
+mod header;
+mod rows;
+mod section;
+mod values;
+
+pub use cell::Kind;
+pub use fail::{TraceCode, TraceFail};
+pub use header::{is_header, kinds};
+pub use rows::{MAX_ROWS, times};
+pub use section::records;
+pub use values::{event_times, samples};
+
+#[cfg(test)]
+mod tests;
