@@ -1,6 +1,5 @@
 pub mod Commands
 pub mod Endings
-pub mod FormLaws
-pub mod Plans
+pub mod AnswerLaws
 pub mod StopLaws
 pub mod Streams

@@ -1,7 +1,6 @@
 -- What stops tell of an input.
-use Rattle.std.proofs.Common.{◌≡◌, ℕ, List, Result, Ok, Err, IfErr, refl, sym, subst}
+use Rattle.std.proofs.Common.{ℕ, List}
 use Rattle.dbp_plan.specs.declared.diagram.Diagram.{Diagram}
-use Rattle.dbp_plan.specs.declared.plan.Plan.{Plan}
 use Rattle.dia_check.specs.declared.fail.CheckFail.{CheckFail}
 use Rattle.dia_check.specs.declared.fail.CheckFail.TheVariants as check
 use Rattle.dia_check.specs.declared.shaped.Shaped.{Shaped}
@@ -13,11 +12,10 @@ use Rattle.dia_read.specs.declared.fault.ReadFail.{ReadFail}
 use Rattle.dia_read.specs.declared.fault.ReadFail.TheVariants as read
 use Rattle.dia_read.specs.Answers.{Refuses}
 use Rattle.dia_read.specs.Documents.{Spells}
-use Rattle.dbp_top.specs.declared.stop.Code.{Code}
-use Rattle.dbp_top.specs.declared.stop.Code.TheVariants.{Unread}
-use Rattle.dbp_top.specs.declared.stop.Stop.{Stop}
-use Rattle.dbp_top.specs.declared.stop.Stop.TheVariants.{Refused, NoMemory}
-use Rattle.dbp_top.specs.Stops.{IsFaultOf, of_reading, of_checking, not_yet, IsStopOf, stop_of_reading, stop_of_checking}
+use Rattle.trace_io.specs.Texts.{of_reading, of_checking, of_the_trace}
+use Rattle.trace_io.specs.Traces.{TraceFail, IsTraceRefusal}
+use Rattle.trace_io.specs.Traces as trace
+use Rattle.dbp_top.specs.Stops.{IsStopOf, stop_of_reading, stop_of_checking, stop_of_tracing}
 
 pub reading-stop : (input : List ℕ) (fail : ReadFail) → Refuses input fail → IsStopOf input (stop_of_reading fail)
 reading-stop input (read.Refused line code) fault = of_reading line code fault
@@ -31,8 +29,6 @@ pub rank-stop : (input : List ℕ) (doc : Doc) (s : Shaped) (fail : CheckFail) �
 rank-stop input doc s (check.Refused line code) spelled shape fault = of_checking doc line code spelled (of_ranks s line code shape fault)
 rank-stop input doc s check.NoMemory spelled shape fault = tt
 
-pub unread-stop : (input : List ℕ) (doc : Doc) (d : Diagram) (answer : Result Plan Stop) → Spells input doc → IsCheckedOf doc d → ((line : ℕ) (code : Code) → answer ≡ Err (Refused line code) → code ≡ Unread)
-    → IfErr answer (λ stop. IsStopOf input stop)
-unread-stop input doc d (Ok plan) spelled checked unread = tt
-unread-stop input doc d (Err (Refused line code)) spelled checked unread = subst (λ c. IsFaultOf input line c) (sym (unread line code refl)) (not_yet doc d line spelled checked)
-unread-stop input doc d (Err NoMemory) spelled checked unread = tt
+pub trace-stop : (input : List ℕ) (doc : Doc) (d : Diagram) (fail : TraceFail) → Spells input doc → IsCheckedOf doc d → IsTraceRefusal doc d fail → IsStopOf input (stop_of_tracing fail)
+trace-stop input doc d (trace.Refused line code) spelled checked fault = of_the_trace doc d line code spelled checked fault
+trace-stop input doc d trace.NoMemory spelled checked fault = tt

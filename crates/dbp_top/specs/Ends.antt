@@ -5,7 +5,7 @@ use Rattle.std.specs.declared.alloc.Global.{Global}
 use Rattle.std.specs.declared.string.String.{String}
 use Rattle.dbp_plan.specs.Faults.{Rose}
 use Rattle.dbp_top.specs.Answer.{Answers}
-use Rattle.dbp_top.specs.Commands.{NamesNone, NamesSome}
+use Rattle.dbp_top.specs.Commands.{Names, NamesNone, NamesSome}
 use Rattle.dbp_top.specs.Outside.{LosesFront, AppendsFront}
 use Rattle.dbp_top.specs.declared.command.Command.{Command}
 use Rattle.dbp_top.specs.declared.status.Status.{Status}
@@ -55,3 +55,12 @@ module _ {S K : Type 0} (left : S → Option (List ℕ)) (source_faults : S → 
   Ends words source new_source sink new_sink WriteFault = NamesSome words (λ command. WrotePart source new_source sink new_sink command)
   Ends words source new_source sink new_sink NoMemory = NamesSome words (λ _. (source_faults new_source ≡ source_faults source) × (new_sink ≡ sink))
   Ends words source new_source sink new_sink TooLarge = NamesSome words (λ _. ReadTooMuch source new_source sink new_sink)
+
+  -- How a call ends in which nothing failed: the words name no command, and nothing was read or written; or the input is
+  -- too large, or memory ran out, and nothing was written; or the input was read to its end, and the command's answer to
+  -- it was written whole.
+  pub data Answered (words : List (String Global)) (source new_source : S) (sink new_sink : K) : Status → Type 0 where
+    no_command : NamesNone words → new_source ≡ source → new_sink ≡ sink → Answered words source new_source sink new_sink Usage
+    too_large : (command : Command) → Names words command → ReadTooMuch source new_source sink new_sink → Answered words source new_source sink new_sink TooLarge
+    no_memory : (command : Command) → Names words command → new_sink ≡ sink → Answered words source new_source sink new_sink NoMemory
+    whole : (command : Command) (status : Status) → Names words command → WroteWhole source new_source sink new_sink command status → Answered words source new_source sink new_sink status

@@ -7,8 +7,9 @@ use Rattle.dia_lines.specs.declared.fault.Limit.{Limit}
 use Rattle.dia_lines.specs.declared.fault.Limit.TheVariants.{Tasks, Reads, Links, Outs, Inputs, Events, Body, Nodes, Number}
 use Rattle.dia_lines.specs.declared.fault.ReadCode.{ReadCode}
 use Rattle.dia_lines.specs.declared.fault.ReadCode.TheVariants.{BadByte, BadToken, BadLine, NumberTooWide, NameTooLong, LimitHit, MissingDone, MissingHeader, DepthHit}
-use Rattle.dbp_top.specs.declared.stop.Code.{Code}
-use Rattle.dbp_top.specs.declared.stop.Code.TheVariants.{Reading, Checking, Unread}
+use Rattle.trace_io.specs.declared.code.Code.{Code}
+use Rattle.trace_io.specs.declared.code.Code.TheVariants.{Reading, Checking, Tracing}
+use Rattle.trace_io.specs.Traces.{TraceCode, BadHeader, BadRow, BadCell, TimeNotRising, TimePastEnd, TooManyOccurrences, TooManyRows}
 
 -- the word of a limit
 abbrev pub limit_word : Limit → List ℕ
@@ -51,10 +52,20 @@ check_name ReadPastCost = codes "16 ReadPastCost"
 check_name NoOut = codes "17 NoOut"
 check_name (UndelayedUpward writer reader) = codes "18 UndelayedUpward"
 
+-- the number and the name of a code of the trace
+abbrev pub trace_name : TraceCode → List ℕ
+trace_name BadHeader = codes "20 BadHeader"
+trace_name BadRow = codes "21 BadRow"
+trace_name BadCell = codes "22 BadCell"
+trace_name TimeNotRising = codes "23 TimeNotRising"
+trace_name TimePastEnd = codes "24 TimePastEnd"
+trace_name TooManyOccurrences = codes "25 TooManyOccurrences"
+trace_name TooManyRows = codes "26 TooManyRows"
+
 abbrev pub code_text : Code → List ℕ
 code_text (Reading code) = code_name code ++ limit_behind code
 code_text (Checking code) = check_name code
-code_text Unread = codes "30 Unread"
+code_text (Tracing code) = trace_name code
 
 -- `refused: line L: CODE NAME`, ended by LF (10)
 abbrev pub refusal_line : ℕ → Code → List ℕ

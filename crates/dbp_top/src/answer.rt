@@ -8,12 +8,12 @@ use crate::Status;
 use crate::command::Command;
 use crate::plan::plan_of;
 use crate::refusal::refusal_line;
-use crate::stop::{Code, Stop};
+use crate::stop::Stop;
 use dbp_plan::{NoMemory, Plan};
 use dia_read::{ReadFail, print_doc, read_doc};
 use std::alloc::Global;
 use sync_meaning::mean;
-use trace_io::lines;
+use trace_io::{Code, lines};
 
 // The status and the text that the command gives to an input that isn't too large.
 pub(crate) fn answer(

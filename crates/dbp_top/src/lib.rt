@@ -14,6 +14,6 @@ mod tests;
 mod top;
 
 pub use command::command_lines;
-pub use laws::{one_command, one_form};
+pub use laws::{one_answer, one_command};
 pub use status::{Status, note};
 pub use top::{MAX_DOCUMENT, dbp_main, plain_main};

@@ -1,14 +1,14 @@
 // The line that says why a text is refused.
 
 ghost use Rattle.std.specs.Prelude.{◌≡◌, ◌++◌, codes, decimal, IfOk, OnOk};
-ghost use Rattle.dbp_top.specs.Refusals.{check_name, code_name, code_text, limit_behind, limit_word, refusal_line};
+ghost use Rattle.dbp_top.specs.Refusals.{check_name, code_name, code_text, limit_behind, limit_word, refusal_line, trace_name};
 
-use crate::stop::Code;
 use dbp_plan::NoMemory;
 use dia_check::CheckCode;
 use dia_read::{Limit, ReadCode};
 use itoa::Buffer;
 use std::alloc::Global;
+use trace_io::{Code, TraceCode};
 
 /// The line `refused: line L: CODE NAME`, with the limit's word behind a passed limit.
 pub(crate) fn refusal_line(alloc: Global, line: u32, code: &Code) -> Result<Vec<u8>, NoMemory>
@@ -28,7 +28,7 @@ fn push_code(text: &mut Vec<u8>, code: &Code) -> Result<(), NoMemory>
     match code {
         Code::Reading(code) => push_read_code(text, *code),
         Code::Checking(code) => Ok(text.extend_from_slice(check_name(code).as_bytes())?),
-        Code::Unread => Ok(text.extend_from_slice(b"30 Unread")?),
+        Code::Tracing(code) => Ok(text.extend_from_slice(trace_name(*code).as_bytes())?),
     }
 }
 
@@ -58,6 +58,21 @@ fn check_name(code: &CheckCode) -> &'static str
         CheckCode::ReadPastCost => "16 ReadPastCost",
         CheckCode::NoOut => "17 NoOut",
         CheckCode::UndelayedUpward { .. } => "18 UndelayedUpward",
+    }
+}
+
+// The number and the name of a code of the trace.
+fn trace_name(code: TraceCode) -> &'static str
+    ensures { result.now ≡ trace_name code }
+{
+    match code {
+        TraceCode::BadHeader => "20 BadHeader",
+        TraceCode::BadRow => "21 BadRow",
+        TraceCode::BadCell => "22 BadCell",
+        TraceCode::TimeNotRising => "23 TimeNotRising",
+        TraceCode::TimePastEnd => "24 TimePastEnd",
+        TraceCode::TooManyOccurrences => "25 TooManyOccurrences",
+        TraceCode::TooManyRows => "26 TooManyRows",
     }
 }
 

@@ -3,19 +3,9 @@
 ghost use Rattle.std.specs.Prelude.{◌≡◌};
 
 use dbp_plan::NoMemory;
-use dia_check::{CheckCode, CheckFail};
-use dia_read::{ReadCode, ReadFail};
-
-/// Why an input is refused.
-#[derive(Drop)]
-pub(crate) enum Code {
-    /// It spells no document.
-    Reading(ReadCode),
-    /// Its document has no diagram with ranks.
-    Checking(CheckCode),
-    /// Inputs, events and traces aren't read yet, nor are documents with too many occurrences told.
-    Unread,
-}
+use dia_check::CheckFail;
+use dia_read::ReadFail;
+use trace_io::{Code, TraceFail};
 
 /// Why an input has no plan.
 #[derive(Drop)]
@@ -64,6 +54,22 @@ impl From<CheckFail> for Stop {
                 code: Code::Checking(code),
             },
             CheckFail::NoMemory => Stop::NoMemory,
+        }
+    }
+}
+
+impl From<TraceFail> for Stop {
+    ghost use Rattle.dbp_top.specs.Stops.{stop_of_tracing};
+
+    ghost from_gives = { λ fail stop. stop ≡ stop_of_tracing fail };
+
+    fn from(fail: TraceFail) -> Self {
+        match fail {
+            TraceFail::Refused { line, code } => Stop::Refused {
+                line,
+                code: Code::Tracing(code),
+            },
+            TraceFail::NoMemory => Stop::NoMemory,
         }
     }
 }

@@ -5,4 +5,6 @@ mod canonical;
 mod commands;
 mod documents;
 mod faults;
+mod limits;
 mod refusals;
+mod traces;

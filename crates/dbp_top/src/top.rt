@@ -1,4 +1,5 @@
-ghost use Rattle.dbp_top.specs.Ends.{Ends};
+ghost use Rattle.dbp_plan.specs.Faults.{Rose};
+ghost use Rattle.dbp_top.specs.Ends.{Answered, Ends};
 
 use crate::Status;
 use crate::answer::answer;
@@ -19,13 +20,33 @@ pub fn dbp_main<S: Source, K: Sink>(
     source: &mut S,
     sink: &mut K,
 ) -> Status
-    ensures { Ends S.left S.faults K.written K.faults words.now source.old source.new sink.old sink.new result }
+    // What each status says.
+    ensures ends { Ends S.left S.faults K.written K.faults words.now source.old source.new sink.old sink.new result }
+    // Where no read and no write failed, the call was answered.
+    ensures answered { (Rose (S.faults source.old) (S.faults source.new) → ⊥) → (Rose (K.faults sink.old) (K.faults sink.new) → ⊥)
+        → Answered S.left S.faults K.written K.faults words.now source.old source.new sink.old sink.new result }
 {
     plain_main(alloc, words, source, sink)
 }
 
 /// `dbp_main` for the commands that start no tasks. It waits for nobody, and always returns.
 pub fn plain_main<S: Source, K: Sink>(
+    alloc: Global,
+    words: &[String],
+    source: &mut S,
+    sink: &mut K,
+) -> Status
+    // What each status says.
+    ensures ends { Ends S.left S.faults K.written K.faults words.now source.old source.new sink.old sink.new result }
+    // Where no read and no write failed, the call was answered.
+    ensures answered { (Rose (S.faults source.old) (S.faults source.new) → ⊥) → (Rose (K.faults sink.old) (K.faults sink.new) → ⊥)
+        → Answered S.left S.faults K.written K.faults words.now source.old source.new sink.old sink.new result }
+{
+    ending(alloc, words, source, sink)
+}
+
+/// How a call of these words ends.
+fn ending<S: Source, K: Sink>(
     alloc: Global,
     words: &[String],
     source: &mut S,

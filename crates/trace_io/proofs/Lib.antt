@@ -5,3 +5,8 @@ pub mod BatchLines
 pub mod Numbers
 pub mod Counting
 pub mod OneSchedule
+pub mod Plans
+pub mod TraceFaults
+pub mod TraceLines
+pub mod Timetables
+pub mod TextLaws

@@ -13,7 +13,7 @@ abbrev pub IsClockOf : ℕ → Clock → Type 0
 IsClockOf events (Every period offset) = (1 ≤ period) × (period ≤ MAX_TIME) × (offset ≤ MAX_TIME)
 IsClockOf events (On event) = event < events
 
--- the times of each event rise and are below `until`
+-- `until` is at most the greatest time, and the times of each event rise and are below it
 pub record IsTimetable (until : ℕ) (events : List (List ℕ)) : Type 0 where
   pub last : until ≤ MAX_TIME
   pub rising : All IsStrictlyIncreasing events

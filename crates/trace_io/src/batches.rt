@@ -10,7 +10,7 @@ use std::alloc::Global;
 
 /// Why there are no batches.
 #[derive(Clone, Copy, Debug, PartialEq, Eq)]
-pub enum BatchFail {
+pub(crate) enum BatchFail {
     /// All clocks together occur more often than `MAX_OCCURRENCES`.
     TooManyOccurrences,
     /// Memory ran out.
@@ -31,7 +31,7 @@ impl From<NoMemory> for BatchFail {
 /// The batches of tasks with these clocks, below tick `until`: each task occurs at exactly the times of its clock.
 /// The times of event `e` are those of `events[e]`. They are refused exactly where all clocks together occur more
 /// often than `MAX_OCCURRENCES`, which is found before any batch is made.
-pub fn checked_batches(
+pub(crate) fn checked_batches(
     alloc: Global,
     until: u64,
     events: &[List<u64>],

@@ -28,6 +28,7 @@ pub(crate) fn occurrences(until: u64, events: &[List<u64>], clock: Clock) -> u64
     requires clock { IsClockOf (length events.now) clock }
     requires until { until ≤ MAX_TIME }
     ensures is { result ≡ count_of until events.now clock }
+    // So those of all tasks add up in 64 bits.
     ensures fits { result ≤ 5000000000 }
     ensures each { (k : ℕ) → (k < result) ↔ IsSome (time_at until events.now clock k) }
 {

@@ -4,7 +4,13 @@ ghost use Rattle.std.specs.Prelude.{◌≡◌, ℕ, ◌<◌, ◌↔◌, IsSome, 
 ghost use Rattle.dbp_plan.specs.declared.diagram.Clock.{Clock as AnyClock};
 ghost use Rattle.dbp_plan.specs.declared.schedule.Batch.{Batch as AnyBatch};
 ghost use Rattle.dbp_plan.specs.Clocks.{time_at};
+ghost use Rattle.dbp_plan.specs.declared.plan.Plan.{Plan as AnyPlan};
+ghost use Rattle.trace_io.specs.declared.code.Code.{Code as AnyCode};
+ghost use Rattle.trace_io.specs.Texts.{Accepts, Refuses, IsSameCode};
 ghost use Rattle.trace_io.specs.Batches.{AreBatches, IsClockOf, count_of};
+
+use dia_check::one_check;
+use dia_read::{one_document, one_first_fault};
 
 /// Clocks have one list of batches at most.
 pub fn one_schedule()
@@ -15,3 +21,16 @@ pub fn one_schedule()
 pub fn count_is_exact()
     ensures { (until : ℕ) (events : Items (Items ℕ)) (clock : AnyClock) (k : ℕ) → IsClockOf (length events) clock → (k < count_of until events clock) ↔ IsSome (time_at until events clock k) }
 {}
+
+/// A text is accepted with one plan at most, and not where it is refused; it is refused at one line at most, with one
+/// number of a code.
+pub fn one_plan()
+    ensures one { (text : Items ℕ) (p q : AnyPlan) → Accepts text p → Accepts text q → p ≡ q }
+    ensures none { (text : Items ℕ) (p : AnyPlan) (line : ℕ) (code : AnyCode) → Accepts text p → Refuses text line code → ⊥ }
+    ensures one_fault { (text : Items ℕ) (line other : ℕ) (code another : AnyCode) → Refuses text line code → Refuses text other another → (line ≡ other) × IsSameCode code another }
+{
+    one_document();
+    one_first_fault();
+    one_check();
+    one_schedule();
+}

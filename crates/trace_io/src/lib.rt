@@ -1,14 +1,19 @@
-//! Batches of clocks, and the printed lines of a table.
+//! The plan of a document, with the samples of its trace and the batches of its clocks; which texts are accepted and
+//! which are refused; and the printed lines of a table.
 #![tactic(auto)]
 
 mod batches;
 mod clocks;
+mod code;
 mod laws;
 mod printed;
+mod trace;
 
-pub use batches::{BatchFail, checked_batches};
-pub use laws::{count_is_exact, one_schedule};
+pub use code::Code;
+pub use laws::{count_is_exact, one_plan, one_schedule};
 pub use printed::lines;
+pub use trace::read_trace;
+pub use trace_rows::{TraceCode, TraceFail};
 
 #[cfg(test)]
 mod tests;

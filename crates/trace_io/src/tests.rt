@@ -2,7 +2,7 @@ ghost use Rattle.std.specs.Prelude.{◌<◌, ◌≤◌, All, length};
 ghost use Rattle.std.specs.List.Sorted.{IsStrictlyIncreasing};
 ghost use Rattle.trace_io.specs.Batches.{IsClockOf};
 
-use crate::{BatchFail, checked_batches};
+use crate::batches::{BatchFail, checked_batches};
 use dbp_plan::{Batch, Clock, List, MAX_TASKS, MAX_TIME};
 use std::alloc::Global;
 use std::fmt::Write;

@@ -1,6 +1,6 @@
 // Reads and writes that fail, and the adapters of std's reader and writer.
 
-use super::documents::{TWO_RATES, call};
+use super::documents::{TWO_RATES, TWO_RATES_LINES, call};
 use crate::{Status, dbp_main, note};
 use dbp_plan::{ReadSource, WriteSink};
 use std::test::Fail;
@@ -20,6 +20,29 @@ fn faults_end_the_call(rt: HostRuntime) -> Result<(), Fail> {
         assert_eq!(rt; answer.0, status);
         assert_eq!(rt; answer.1.as_slice(), lines.as_bytes());
     }
+    Ok(())
+}
+
+#[test]
+fn each_fault_ends_the_call(rt: HostRuntime) -> Result<(), Fail> {
+    let alloc = rt.alloc();
+    let document = TWO_RATES.as_bytes();
+    let whole = TWO_RATES_LINES.as_bytes();
+    // the document is 13 pieces of 16 bytes, then its end is told; its lines are six pieces of 8 bytes
+    for failing in 1..=14 {
+        let answer = call(alloc, &["mean"], document, (16, failing), (8, 0))?;
+        assert_eq!(rt; answer.0, Status::ReadFault, "read {failing}");
+        assert!(rt; answer.1.is_empty(), "read {failing}");
+    }
+    for failing in 1..=6 {
+        let answer = call(alloc, &["mean"], document, (16, 0), (8, failing))?;
+        assert_eq!(rt; answer.0, Status::WriteFault, "write {failing}");
+        let written = answer.1.as_slice();
+        assert!(rt; whole.starts_with(written), "write {failing}");
+        assert!(rt; written.len() < whole.len(), "write {failing}");
+    }
+    let answer = call(alloc, &["mean"], document, (16, 15), (8, 7))?;
+    assert_eq!(rt; answer.0, Status::Ok);
     Ok(())
 }
 

@@ -1,5 +1,5 @@
-use Rattle.dbp_top.proofs.FormLaws.{one-form}
-use Rattle.dbp_top.proofs.laws.one_form.Goals as goal
+use Rattle.dbp_top.proofs.AnswerLaws.{one-answer}
+use Rattle.dbp_top.proofs.laws.one_answer.Goals as goal
 
 pub returns : goal.returns
-returns c = one-form
+returns c = one-answer c.one_plan.ensures.one c.one_plan.ensures.none c.one_plan.ensures.one_fault c.one_meaning.ensures

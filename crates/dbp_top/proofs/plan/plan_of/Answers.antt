@@ -1,5 +1,5 @@
 use Rattle.std.proofs.lemmas.Result.{err_from_is_err_and}
-use Rattle.dbp_top.proofs.StopLaws.{reading-stop, shape-stop, rank-stop, unread-stop}
+use Rattle.dbp_top.proofs.StopLaws.{reading-stop, shape-stop, rank-stop, trace-stop}
 use Rattle.dbp_top.proofs.plan.plan_of.Goals as goal
 
 pub returns-in_err-doc-clause-stop : goal.returns-in_err-doc-clause-stop
@@ -17,6 +17,7 @@ returns-in_err-diagram-clause-stop c =
     let p = err_from_is_err_and c.from_residual-in_err-diagram.result c.from_residual-in_err-diagram.ensures.1 in
     rw (p.1, p.2) (rank-stop c.args.input.now c.in_ok-doc.doc c.in_ok-shaped.shaped c.in_err-diagram.field-0.0 c.in_ok-doc.ensures.found c.in_ok-shaped.ensures.found c.in_err-diagram.ensures.fault)
 
-pub returns-clause-stop : goal.returns-clause-stop
-returns-clause-stop c =
-    unread-stop c.args.input.now c.in_ok-doc.doc c.in_ok-diagram.diagram c.planned.result c.in_ok-doc.ensures.found (c.in_ok-diagram.ensures.checked c.in_ok-doc.doc c.in_ok-shaped.ensures.found) c.planned.ensures.unread
+pub returns-in_err-plan-clause-stop : goal.returns-in_err-plan-clause-stop
+returns-in_err-plan-clause-stop c =
+    let p = err_from_is_err_and c.from_residual-in_err-plan.result c.from_residual-in_err-plan.ensures.1 in
+    rw (p.1, p.2) (trace-stop c.args.input.now c.in_ok-doc.doc c.in_ok-diagram.diagram c.in_err-plan.field-0.0 c.in_ok-doc.ensures.found (c.in_ok-diagram.ensures.checked c.in_ok-doc.doc c.in_ok-shaped.ensures.found) c.in_err-plan.ensures.fault)

@@ -3,7 +3,7 @@ use Rattle.std.specs.Io.KnownBytes.{Appends}
 use Rattle.dbp_top.specs.Answer.{Answers}
 use Rattle.dbp_top.specs.declared.top.TheConstants.{MAX_DOCUMENT}
 use Rattle.dbp_top.proofs.Endings.{ends-whole, whole-input}
-use Rattle.dbp_top.proofs.top.plain_main.Goals as goal
+use Rattle.dbp_top.proofs.top.ending.Goals as goal
 
 pub returns-in-Ok-write_all : goal.returns-in-Ok-write_all
 returns-in-Ok-write_all g c =

@@ -1,0 +1,88 @@
+-- The first fault of a trace, by what its section has.
+use Rattle.std.proofs.Common.{◌≡◌, ℕ, suc, ◌<◌, ◌≤◌, true, false, All, List, [], ◌∷◌, length, map, drop, Some, None, refl, sym, ap, ◌∙◌, arith}
+use Rattle.std.specs.Prelude.{nat_lt, slice_index_or, replicate}
+use Rattle.std.proofs.lemmas.Bool.Decides.{nat_tests}
+use Rattle.dbp_plan.specs.declared.diagram.Diagram.{Diagram}
+use Rattle.dbp_plan.specs.declared.limits.TheConstants.{MAX_OCCURRENCES}
+use Rattle.dbp_plan.specs.declared.schedule.Sample.{Sample}
+use Rattle.dia_check.specs.Faults.{first_fault}
+use Rattle.dia_check.proofs.FirstFaults.{first-append, first-front}
+use Rattle.dia_read.specs.declared.document.Doc.{Doc}
+use Rattle.trace_rows.specs.declared.fail.TraceCode.{TraceCode}
+use Rattle.trace_rows.specs.declared.fail.TraceFail.{TraceFail}
+use Rattle.trace_rows.specs.declared.fail.TraceFail.TheVariants.{Refused, NoMemory}
+use Rattle.trace_rows.specs.declared.fail.TraceCode.TheVariants.{BadHeader, TooManyOccurrences}
+use Rattle.trace_rows.specs.Headers.{is_header, kind_of_column}
+use Rattle.trace_rows.specs.Records.{records_of}
+use Rattle.trace_rows.specs.Rows.{row_faults}
+use Rattle.trace_rows.specs.Values.{event_times, samples_of}
+use Rattle.trace_io.specs.Batches.{total_of}
+use Rattle.trace_io.specs.Traces.{columns_of, rows_of, events_of, clocks_of, section_faults, trace_faults, occurrence_fault, IsTraceOf, IsTraceFault, IsTraceRefusal}
+
+-- a fault of the section is one of the trace
+pub trace-fault : (doc : Doc) (d : Diagram) (line : ℕ) (code : TraceCode) → first_fault (section_faults doc d) ≡ Some (line, code) → IsTraceFault doc d line code
+trace-fault doc d line code is = first-front (section_faults doc d) ((doc.lines.until_at, occurrence_fault doc d) ∷ []) (line, code) is
+
+-- the section has no record
+pub no-record : (doc : Doc) (d : Diagram) (text : List ℕ) → doc.body.trace ≡ Some text → records_of (Some text) ≡ [] → first_fault (section_faults doc d) ≡ Some (doc.lines.trace_at, BadHeader)
+no-record doc d text is none = rw (is, none) refl
+
+module _ (doc : Doc) (d : Diagram) (text : List ℕ) (header : List (List ℕ)) (rows : List (List (List ℕ))) (is : doc.body.trace ≡ Some text) (some : records_of (Some text) ≡ header ∷ rows) where
+  pub bad-header : is_header d.inputs d.events header ≡ false → first_fault (section_faults doc d) ≡ Some (slice_index_or doc.lines.trace 0 0, BadHeader)
+  bad-header bad = rw (is, some, bad) refl
+
+  pub columns-are : columns_of doc ≡ drop 1 header
+  columns-are = rw (is, some) refl
+
+  pub rows-are : rows_of doc ≡ rows
+  rows-are = rw (is, some) refl
+
+  pub rows-decide : is_header d.inputs d.events header ≡ true
+      → first_fault (section_faults doc d) ≡ first_fault (row_faults d.until (map (kind_of_column d.inputs) (drop 1 header)) rows (drop 1 doc.lines.trace))
+  rows-decide good = rw (is, some, good) refl
+
+  -- the rows have a first fault
+  pub rows-refused : is_header d.inputs d.events header ≡ true → (fail : TraceFail)
+      → ((line : ℕ) (code : TraceCode) → fail ≡ Refused line code → first_fault (row_faults d.until (map (kind_of_column d.inputs) (drop 1 header)) rows (drop 1 doc.lines.trace)) ≡ Some (line, code))
+      → IsTraceRefusal doc d fail
+  rows-refused good (Refused line code) fault = trace-fault doc d line code (rows-decide good ∙ fault line code refl)
+  rows-refused good NoMemory fault = tt
+
+  -- no line has a fault, and these are what the rows give
+  pub whole-section : is_header d.inputs d.events header ≡ true → first_fault (row_faults d.until (map (kind_of_column d.inputs) (drop 1 header)) rows (drop 1 doc.lines.trace)) ≡ None
+      → (events : List (List ℕ)) (samples : List Sample) → events ≡ event_times (drop 1 header) rows d.events → samples ≡ samples_of (drop 1 header) rows d.inputs → IsTraceOf doc d events samples
+  whole-section good faultless events samples events_are samples_are = record {
+    faultless = rows-decide good ∙ faultless;
+    events_are = events_are ∙ sym (λ i. event_times (columns-are i) (rows-are i) d.events);
+    samples_are = samples_are ∙ sym (λ i. samples_of (columns-are i) (rows-are i) d.inputs);
+  }
+
+no-marks : (names : List (List ℕ)) → event_times [] [] names ≡ replicate (length names) []
+no-marks [] = refl
+no-marks (name ∷ names) = ap (λ (ts : List (List ℕ)). [] ∷ ts) (no-marks names)
+
+pub all-none : (ts : List (List ℕ)) → All (λ t. t ≡ []) ts → ts ≡ replicate (length ts) []
+all-none [] none = refl
+all-none (t ∷ ts) none = rw (none 0 [] (omega arith), sym (all-none ts (λ k d below. none (suc k) d (omega arith)))) refl
+
+-- there is no section
+pub no-section : (doc : Doc) (d : Diagram) (events : List (List ℕ)) (samples : List Sample) → doc.body.trace ≡ None → events ≡ replicate (length d.events) [] → samples ≡ [] → IsTraceOf doc d events samples
+no-section doc d events samples none events_are samples_are = record {
+  faultless = rw none refl;
+  events_are = events_are ∙ rw none (sym (no-marks d.events));
+  samples_are = samples_are ∙ rw none refl;
+}
+
+-- no line of the section has a fault, and the tasks occur too often
+pub too-many : (doc : Doc) (d : Diagram) → first_fault (section_faults doc d) ≡ None → MAX_OCCURRENCES < total_of d.until (events_of doc d) (clocks_of d) → IsTraceFault doc d doc.lines.until_at TooManyOccurrences
+too-many doc d faultless many = first-append (section_faults doc d) ((doc.lines.until_at, occurrence_fault doc d) ∷ []) faultless ∙ go
+  where
+    go : first_fault ((doc.lines.until_at, occurrence_fault doc d) ∷ []) ≡ Some (doc.lines.until_at, TooManyOccurrences)
+    go = let test : nat_lt MAX_OCCURRENCES (total_of d.until (events_of doc d) (clocks_of d)) ≡ true = grind (arith, nat_tests) in rw test refl
+
+-- no line of the section has a fault, and the tasks don't occur too often
+pub no-fault : (doc : Doc) (d : Diagram) → first_fault (section_faults doc d) ≡ None → total_of d.until (events_of doc d) (clocks_of d) ≤ MAX_OCCURRENCES → first_fault (trace_faults doc d) ≡ None
+no-fault doc d faultless few = first-append (section_faults doc d) ((doc.lines.until_at, occurrence_fault doc d) ∷ []) faultless ∙ go
+  where
+    go : first_fault ((doc.lines.until_at, occurrence_fault doc d) ∷ []) ≡ None
+    go = let test : nat_lt MAX_OCCURRENCES (total_of d.until (events_of doc d) (clocks_of d)) ≡ false = grind (arith, nat_tests) in rw test refl
