@@ -38,9 +38,28 @@ def expressions() -> str:
         lines.append(f"task t{task} every 1 prio {task} cost 1")
         names = [f"a_name_of_{place:03}" for place in range(63)]
         for place, name in enumerate(names):
-            terms = [names[(place + term) % 63] for term in range(32)]
+            terms = [names[(place + term) % place] if place else "11111111111111" for term in range(32)]
             lines.append(f"let {name} = " + "+".join(terms))
         lines.append("out y = 0 then 0")
+    return "\n".join(lines + ["done"]) + "\n"
+
+
+def trace(rows: int, inputs: int, events: int) -> str:
+    """A trace of so many rows and columns; one task senses all inputs, and one occurs at each event of the first column."""
+    lines = ["dbp 1", "policy fp", f"until {rows}"]
+    lines += [f"input i{place} = 0" for place in range(inputs)]
+    lines += [f"event e{place}" for place in range(events)]
+    lines += ["task all every 10 prio 1 cost 1"]
+    lines += [f"sense s{place} = i{place}" for place in range(inputs)]
+    lines += ["out y = 0 then " + " + ".join(f"s{place}" for place in range(inputs))]
+    lines += ["task count on e0 prio 2 cost 1", "state n = 0", "next n = n + 1", "out y = 0 then n + 1", "trace"]
+    lines += ["time," + ",".join([f"i{place}" for place in range(inputs)] + [f"e{place}" for place in range(events)])]
+    for row in range(rows):
+        cells = [""] * (inputs + events)
+        cells[row % inputs] = str(row % 10)
+        if row % 7 == 0:
+            cells[inputs] = "1"
+        lines.append(f"{row}," + ",".join(cells))
     return "\n".join(lines + ["done"]) + "\n"
 
 
@@ -66,6 +85,9 @@ def main() -> None:
     for command, name, text in [
         *(("mean", f"1 task, {n} occurrences", one_task(n)) for n in (12_500, 25_000, 50_000, 100_000)),
         *(("mean", f"32 tasks of 63 nodes, {n}", many_tasks(n)) for n in (12_000, 24_000, 48_000, 96_000)),
+        ("mean", "0.9 MB of expressions", expressions()),
+        *(("mean", f"{n} rows of 12 columns", trace(n, 6, 6)) for n in (12_500, 25_000, 50_000)),
+        ("mean", "25000 rows of 32 columns", trace(25_000, 16, 16)),
         ("form", "0.9 MB of expressions", expressions()),
         ("form", "1,000,000 blank lines", many_lines("\n")),
         ("form", "500,000 steps of a letter", many_lines("a\n")),
