@@ -1,11 +1,9 @@
 -- A command has one status and one text at most for an input.
-use Rattle.std.proofs.Common.{◌≡◌, ℕ, List, refl, sym, ap, ◌∙◌}
-use Rattle.std.specs.Prelude.{◌==◌, codes, if◌then◌else◌}
+use Rattle.std.proofs.Common.{◌≡◌, ℕ, List, refl, ap}
 use Rattle.dbp_plan.specs.declared.plan.Plan.{Plan}
 use Rattle.dbp_plan.specs.declared.table.Table.{Table}
 use Rattle.dia_check.specs.declared.fail.CheckCode.{CheckCode}
-use Rattle.dia_check.specs.declared.fail.CheckCode.TheVariants.{Duplicate, Unknown, SelfLink, LetCycle, MissingPrio, MissingDeadline, ReadPastCost, NoOut, UndelayedUpward}
-use Rattle.dia_check.specs.Faults.{number_of}
+use Rattle.dia_check.specs.Faults as checking
 use Rattle.dia_read.specs.declared.document.Doc.{Doc}
 use Rattle.dia_read.specs.Canonical.{canonical_text}
 use Rattle.dia_read.proofs.DocumentLaws.{one-document}
@@ -20,29 +18,9 @@ use Rattle.dbp_top.specs.Refusals.{check_name, code_text, refusal_line}
 use Rattle.dbp_top.specs.declared.command.Command.{Command}
 use Rattle.dbp_top.specs.declared.status.Status.{Status}
 
--- the name of the code of checking with this number
-numbered : ℕ → List ℕ
-numbered n =
-    if n == 10 then codes "10 Duplicate" else
-    if n == 11 then codes "11 Unknown" else
-    if n == 12 then codes "12 SelfLink" else
-    if n == 13 then codes "13 LetCycle" else
-    if n == 14 then codes "14 MissingPrio" else
-    if n == 15 then codes "15 MissingDeadline" else
-    if n == 16 then codes "16 ReadPastCost" else
-    if n == 17 then codes "17 NoOut" else codes "18 UndelayedUpward"
-
-named-by-number : (c : CheckCode) → check_name c ≡ numbered (number_of c)
-unfolding numbered
-named-by-number Duplicate = refl
-named-by-number Unknown = refl
-named-by-number SelfLink = refl
-named-by-number (LetCycle names) = refl
-named-by-number MissingPrio = refl
-named-by-number MissingDeadline = refl
-named-by-number ReadPastCost = refl
-named-by-number NoOut = refl
-named-by-number (UndelayedUpward writer reader) = refl
+same-name : (a b : CheckCode) → checking.IsSameCode a b → check_name a ≡ check_name b
+same-name a b (checking.same code) = refl
+same-name a b (checking.cycles names others) = refl
 
 -- the names of a cycle stand in no line
 same-text : (a b : Code) → IsSameCode a b → code_text a ≡ code_text b
@@ -50,7 +28,7 @@ same-text (Reading a) (Reading b) same = ap (λ c. code_text (Reading c)) same
 same-text (Reading a) (Checking b) same = absurd same
 same-text (Reading a) (Tracing b) same = absurd same
 same-text (Checking a) (Reading b) same = absurd same
-same-text (Checking a) (Checking b) same = named-by-number a ∙ ap numbered same ∙ sym (named-by-number b)
+same-text (Checking a) (Checking b) same = same-name a b same
 same-text (Checking a) (Tracing b) same = absurd same
 same-text (Tracing a) (Reading b) same = absurd same
 same-text (Tracing a) (Checking b) same = absurd same

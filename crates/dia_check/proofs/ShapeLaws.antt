@@ -11,10 +11,11 @@ use Rattle.dia_read.specs.declared.document.Doc.{Doc}
 use Rattle.dia_read.specs.declared.document.RawTask.{RawTask}
 use Rattle.expr_eval.specs.LetOrders.{IsFrontOrder, IsFirstCycle}
 use Rattle.dia_check.specs.declared.fail.CheckCode.{CheckCode}
+use Rattle.dia_check.specs.declared.fail.CheckCode.TheVariants.{NoOut}
 use Rattle.dia_check.specs.declared.fail.LineFault.{LineFault}
 use Rattle.dia_check.specs.declared.shaped.Shaped.{Shaped}
 use Rattle.dia_check.specs.Diagrams.{lets_of, task_of, IsTaskOf, IsDiagramOf}
-use Rattle.dia_check.specs.Faults.{code_of, number_of, first_fault, line_faults, let_lines, base_of, part_lines, IsWhole, HasTaskFault, no_out, a_cycle, HasNoShapeFault, IsShapeFault, of_a_line, of_a_task}
+use Rattle.dia_check.specs.Faults.{code_of, IsSameCode, same, cycles, first_fault, line_faults, let_lines, base_of, part_lines, IsWhole, HasTaskFault, no_out, a_cycle, HasNoShapeFault, IsShapeFault, of_a_line, of_a_task}
 use Rattle.dia_check.specs.Shapes.{IsShapeOf}
 use Rattle.dia_check.specs.Checks.{IsCheckFault, of_shape, of_ranks}
 use Rattle.dia_check.specs.RankFaults.{IsRankFault, code_of_rank}
@@ -42,8 +43,8 @@ same-task : HaveOneOrder → (body : Body) (number : ℕ) (raw : RawTask) (t u :
 same-task law body number raw t u one other =
     let first = subst (λ v. IsFrontOrder (let_base v) v.lets t.order) one.is one.order in
     let second = subst (λ v. IsFrontOrder (let_base v) v.lets u.order) other.is other.order in
-    let same : t.order ≡ u.order = law (let_base (task_of body number raw t.order)) (lets_of raw) t.order u.order first second in
-    one.is ∙ ap (task_of body number raw) same ∙ sym other.is
+    let order : t.order ≡ u.order = law (let_base (task_of body number raw t.order)) (lets_of raw) t.order u.order first second in
+    one.is ∙ ap (task_of body number raw) order ∙ sym other.is
 
 same-diagram : HaveOneOrder → (body : Body) (d e : Diagram) → IsDiagramOf body d → IsDiagramOf body e → d.ranks ≡ e.ranks → d ≡ e
 same-diagram law body d e one other ranks =
@@ -76,23 +77,26 @@ no-fault-of-a-shape doc line code faultless (of_a_task i begins _ t _ none at at
 -- one let at most is the first on a cycle
 same-first-let : (base : ℕ) (lets : List Let) (i j : ℕ) (one other : List ℕ) → IsFirstCycle base lets i one → IsFirstCycle base lets j other → i ≡ j
 same-first-let base lets i j one other first second = elim (cases_order i j) [
-  | inl same ↦ same
+  | inl equal ↦ equal
   | inr (inl less) ↦ absurd (second.earliest i less (one, first.is))
   | inr (inr more) ↦ absurd (first.earliest j more (other, second.is))
 ]
 
 -- the same line, and the same code but for the names of a cycle
 abbrev pub AreAlike : ℕ → CheckCode → ℕ → CheckCode → Type 0
-AreAlike line code other another = (line ≡ other) × (number_of code ≡ number_of another)
+AreAlike line code other another = (line ≡ other) × IsSameCode code another
+
+alike : (code another : CheckCode) → code ≡ another → IsSameCode code another
+alike code another is = subst (IsSameCode code) is (same code)
 
 same-task-fault : (t : RawTask) (begins : ℕ) (parts : List ℕ) (line other : ℕ) (code another : CheckCode) → HasTaskFault t begins parts line code → HasTaskFault t begins parts other another
     → AreAlike line code other another
-same-task-fault t begins parts line other code another (no_out none) (no_out empty) = (refl, refl)
+same-task-fault t begins parts line other code another (no_out none) (no_out empty) = (refl, same NoOut)
 same-task-fault t begins parts line other code another (no_out none) (a_cycle _ first cycle names some is named there) = absurd (some none)
 same-task-fault t begins parts line other code another (a_cycle _ first cycle names some is named there) (no_out none) = absurd (some none)
 same-task-fault t begins parts line other code another (a_cycle _ first cycle names some is named there) (a_cycle _ second cycle' names' some' is' named' there') =
-    let same : first ≡ second = same-first-let (base_of t) (lets_of t) first second cycle cycle' is is' in
-    (same_Some line other (sym there ∙ ap (slice_get (let_lines t.parts parts)) same ∙ there'), refl)
+    let one : first ≡ second = same-first-let (base_of t) (lets_of t) first second cycle cycle' is is' in
+    (same_Some line other (sym there ∙ ap (slice_get (let_lines t.parts parts)) one ∙ there'), cycles names names')
 
 -- one task at most is the first that isn't whole
 same-first-task : (doc : Doc) (i k begins starts line other : ℕ) (t u : RawTask) (code another : CheckCode)
@@ -100,7 +104,7 @@ same-first-task : (doc : Doc) (i k begins starts line other : ℕ) (t u : RawTas
     → slice_get doc.body.tasks k ≡ Some u → ((j : ℕ) (v : RawTask) → j < k → slice_get doc.body.tasks j ≡ Some v → IsWhole v) → HasTaskFault u starts (part_lines doc k) other another
     → i ≡ k
 same-first-task doc i k begins starts line other t u code another at_t before_t fault_t at_u before_u fault_u = elim (cases_order i k) [
-  | inl same ↦ same
+  | inl equal ↦ equal
   | inr (inl less) ↦ absurd (whole-or-fault t begins (part_lines doc i) line code (before_u i t less at_t) fault_t)
   | inr (inr more) ↦ absurd (whole-or-fault u starts (part_lines doc k) other another (before_t k u more at_u) fault_u)
 ]
@@ -108,17 +112,17 @@ same-first-task doc i k begins starts line other t u code another at_t before_t 
 -- of one task one fault is told
 told-of-one : (doc : Doc) (i k begins starts line other : ℕ) (t u : RawTask) (code another : CheckCode) → i ≡ k → slice_get doc.body.tasks i ≡ Some t → slice_get doc.lines.tasks i ≡ Some begins → HasTaskFault t begins (part_lines doc i) line code
     → slice_get doc.body.tasks k ≡ Some u → slice_get doc.lines.tasks k ≡ Some starts → HasTaskFault u starts (part_lines doc k) other another → AreAlike line code other another
-told-of-one doc i k begins starts line other t u code another same at_t line_t fault_t at_u line_u fault_u =
-    let task : t ≡ u = same_Some t u (sym at_t ∙ ap (slice_get doc.body.tasks) same ∙ at_u) in
-    let line_of : begins ≡ starts = same_Some begins starts (sym line_t ∙ ap (slice_get doc.lines.tasks) same ∙ line_u) in
+told-of-one doc i k begins starts line other t u code another one at_t line_t fault_t at_u line_u fault_u =
+    let task : t ≡ u = same_Some t u (sym at_t ∙ ap (slice_get doc.body.tasks) one ∙ at_u) in
+    let line_of : begins ≡ starts = same_Some begins starts (sym line_t ∙ ap (slice_get doc.lines.tasks) one ∙ line_u) in
     let moved : HasTaskFault u starts (part_lines doc k) line code =
-    subst (λ v. HasTaskFault v starts (part_lines doc k) line code) task (subst (λ n. HasTaskFault t n (part_lines doc k) line code) line_of (subst (λ j. HasTaskFault t begins (part_lines doc j) line code) same fault_t)) in
+    subst (λ v. HasTaskFault v starts (part_lines doc k) line code) task (subst (λ n. HasTaskFault t n (part_lines doc k) line code) line_of (subst (λ j. HasTaskFault t begins (part_lines doc j) line code) one fault_t)) in
     same-task-fault u starts (part_lines doc k) line other code another moved fault_u
 
 same-line : (line other : ℕ) (fault another : LineFault) (f : Option (ℕ × LineFault)) → f ≡ Some (line, fault) → f ≡ Some (other, another) → AreAlike line (code_of fault) other (code_of another)
 same-line line other fault another f one two =
-    let same : (line, fault) ≡ (other, another) = same_Some (line, fault) (other, another) (sym one ∙ two) in
-    (ap (λ p. p.0) same, ap (λ p. number_of (code_of p.1)) same)
+    let pair : (line, fault) ≡ (other, another) = same_Some (line, fault) (other, another) (sym one ∙ two) in
+    (ap (λ p. p.0) pair, alike (code_of fault) (code_of another) (ap (λ p. code_of p.1) pair))
 
 line-or-task : (line : ℕ) (fault : LineFault) (f : Option (ℕ × LineFault)) → f ≡ Some (line, fault) → f ≡ None → ⊥
 line-or-task line fault f some none = none-some (line, fault) (sym none ∙ some)
@@ -128,19 +132,19 @@ one-shape-fault doc line other code another (of_a_line _ fault at) (of_a_line _ 
 one-shape-fault doc line other code another (of_a_line _ fault at) (of_a_task k starts _ u _ none at_u line_u before_u fault_u) = absurd (line-or-task line fault (first_fault (line_faults doc)) at none)
 one-shape-fault doc line other code another (of_a_task i begins _ t _ none at_t line_t before_t fault_t) (of_a_line _ fault at) = absurd (line-or-task other fault (first_fault (line_faults doc)) at none)
 one-shape-fault doc line other code another (of_a_task i begins _ t _ none at_t line_t before_t fault_t) (of_a_task k starts _ u _ none' at_u line_u before_u fault_u) =
-    let same : i ≡ k = same-first-task doc i k begins starts line other t u code another at_t before_t fault_t at_u before_u fault_u in
-    told-of-one doc i k begins starts line other t u code another same at_t line_t fault_t at_u line_u fault_u
+    let one : i ≡ k = same-first-task doc i k begins starts line other t u code another at_t before_t fault_t at_u before_u fault_u in
+    told-of-one doc i k begins starts line other t u code another one at_t line_t fault_t at_u line_u fault_u
 
 -- ---- checking as a whole
 
 abbrev pub HaveOneShape : Type 0
 HaveOneShape = (doc : Doc) (s t : Shaped) → IsShapeOf doc s → IsShapeOf doc t → s ≡ t
 
-same-rank-fault : (s : Shaped) (line other : ℕ) (code another : CheckCode) → IsRankFault s line code → IsRankFault s other another → (line ≡ other) × (number_of code ≡ number_of another)
+same-rank-fault : (s : Shaped) (line other : ℕ) (code another : CheckCode) → IsRankFault s line code → IsRankFault s other another → AreAlike line code other another
 same-rank-fault s line other code another (f, at, is) (g, at_other, is_other) =
-    let same : Some (line, f) ≡ Some (other, g) = sym at ∙ at_other in
-    let pair : (line, f) ≡ (other, g) = same_Some (line, f) (other, g) same in
-    (ap (λ p. p.0) pair, ap number_of (is ∙ ap (λ p. code_of_rank p.1) pair ∙ sym is_other))
+    let told : Some (line, f) ≡ Some (other, g) = sym at ∙ at_other in
+    let pair : (line, f) ≡ (other, g) = same_Some (line, f) (other, g) told in
+    (ap (λ p. p.0) pair, alike code another (is ∙ ap (λ p. code_of_rank p.1) pair ∙ sym is_other))
 
 pub one-check-fault : HaveOneShape → (doc : Doc) (line other : ℕ) (code another : CheckCode) → IsCheckFault doc line code → IsCheckFault doc other another → AreAlike line code other another
 one-check-fault one doc line other code another (of_shape _ _ first) (of_shape _ _ second) = one-shape-fault doc line other code another first second

@@ -114,17 +114,10 @@ code_of Unknown = code.Unknown
 code_of SelfLink = code.SelfLink
 code_of ReadPastCost = code.ReadPastCost
 
--- the number by which a code is told
-abbrev pub number_of : CheckCode → ℕ
-number_of code.Duplicate = 10
-number_of code.Unknown = 11
-number_of code.SelfLink = 12
-number_of (code.LetCycle names) = 13
-number_of code.MissingPrio = 14
-number_of code.MissingDeadline = 15
-number_of code.ReadPastCost = 16
-number_of code.NoOut = 17
-number_of (code.UndelayedUpward writer reader) = 18
+-- the same code, but for the names of a cycle
+pub data IsSameCode : CheckCode → CheckCode → Type 0 where
+  same : (code : CheckCode) → IsSameCode code code
+  cycles : (names others : List (List ℕ)) → IsSameCode (LetCycle names) (LetCycle others)
 
 -- ---- the first fault of a task as a whole
 

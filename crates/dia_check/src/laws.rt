@@ -6,7 +6,7 @@ ghost use Rattle.dia_check.specs.declared.fail.CheckCode.{CheckCode};
 ghost use Rattle.dia_check.specs.declared.shaped.Shaped.{Shaped};
 ghost use Rattle.dbp_plan.specs.declared.diagram.Diagram.{Diagram};
 ghost use Rattle.dia_check.specs.Checks.{IsCheckedOf, IsCheckFault};
-ghost use Rattle.dia_check.specs.Faults.{IsShapeFault, number_of};
+ghost use Rattle.dia_check.specs.Faults.{IsShapeFault, IsSameCode};
 ghost use Rattle.dia_check.specs.Shapes.{IsShapeOf};
 
 use expr_eval::one_front_order;
@@ -22,7 +22,7 @@ pub fn one_shape()
 /// names of a cycle.
 pub fn one_shape_fault()
     ensures none { (doc : Doc) (s : Shaped) (line : ℕ) (code : CheckCode) → IsShapeOf doc s → IsShapeFault doc line code → ⊥ }
-    ensures one { (doc : Doc) (line other : ℕ) (code another : CheckCode) → IsShapeFault doc line code → IsShapeFault doc other another → (line ≡ other) × (number_of code ≡ number_of another) }
+    ensures one { (doc : Doc) (line other : ℕ) (code another : CheckCode) → IsShapeFault doc line code → IsShapeFault doc other another → (line ≡ other) × IsSameCode code another }
 {}
 
 /// A document has one checked diagram at most, and none where it has a fault; it has one first fault at most, but for
@@ -30,7 +30,7 @@ pub fn one_shape_fault()
 pub fn one_check()
     ensures one { (doc : Doc) (d e : Diagram) → IsCheckedOf doc d → IsCheckedOf doc e → d ≡ e }
     ensures none { (doc : Doc) (d : Diagram) (line : ℕ) (code : CheckCode) → IsCheckedOf doc d → IsCheckFault doc line code → ⊥ }
-    ensures one_fault { (doc : Doc) (line other : ℕ) (code another : CheckCode) → IsCheckFault doc line code → IsCheckFault doc other another → (line ≡ other) × (number_of code ≡ number_of another) }
+    ensures one_fault { (doc : Doc) (line other : ℕ) (code another : CheckCode) → IsCheckFault doc line code → IsCheckFault doc other another → (line ≡ other) × IsSameCode code another }
 {
     one_shape();
     one_shape_fault();

@@ -11,7 +11,8 @@ use mathlib.Core.HLevel.{Σ_prop_path}
 use Rattle.std.proofs.lemmas.Option.{same_Some}
 use Rattle.dia_check.specs.declared.fail.CheckCode.{CheckCode}
 use Rattle.dia_check.specs.Checks.{IsCheckedOf, IsCheckFault}
-use Rattle.dia_check.specs.Faults.{number_of, first_fault}
+use Rattle.dia_check.specs.Faults.{first_fault}
+use Rattle.dia_check.specs.Faults as checking
 use Rattle.dia_lines.specs.declared.fault.ReadCode.{ReadCode}
 use Rattle.dia_read.specs.declared.document.Doc.{Doc}
 use Rattle.dia_read.specs.Documents.{Spells, IsFirstFault}
@@ -39,7 +40,7 @@ module _
     (one_fault : (bytes : List ℕ) (k l : ℕ) (c d : ReadCode) → IsFirstFault bytes k c → IsFirstFault bytes l d → (k ≡ l) × (c ≡ d))
     (one_check : (doc : Doc) (d e : Diagram) → IsCheckedOf doc d → IsCheckedOf doc e → d ≡ e)
     (no_check_fault : (doc : Doc) (d : Diagram) (line : ℕ) (code : CheckCode) → IsCheckedOf doc d → IsCheckFault doc line code → ⊥)
-    (one_check_fault : (doc : Doc) (line other : ℕ) (code another : CheckCode) → IsCheckFault doc line code → IsCheckFault doc other another → (line ≡ other) × (number_of code ≡ number_of another))
+    (one_check_fault : (doc : Doc) (line other : ℕ) (code another : CheckCode) → IsCheckFault doc line code → IsCheckFault doc other another → (line ≡ other) × checking.IsSameCode code another)
     (one_schedule : (until : ℕ) (events : List (List ℕ)) (clocks : List Clock) (a b : List Batch) → AreBatches until events clocks a → AreBatches until events clocks b → a ≡ b)
   where
     same-diagram : (text : List ℕ) (doc other : Doc) (d e : Diagram) → Spells text doc → Spells text other → IsCheckedOf doc d → IsCheckedOf other e → (doc ≡ other) × (d ≡ e)

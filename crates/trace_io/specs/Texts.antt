@@ -4,7 +4,7 @@ use Rattle.dbp_plan.specs.declared.diagram.Diagram.{Diagram}
 use Rattle.dbp_plan.specs.declared.plan.Plan.{Plan}
 use Rattle.dia_check.specs.declared.fail.CheckCode.{CheckCode}
 use Rattle.dia_check.specs.Checks.{IsCheckedOf, IsCheckFault}
-use Rattle.dia_check.specs.Faults.{number_of}
+use Rattle.dia_check.specs.Faults as checking
 use Rattle.dia_lines.specs.declared.fault.ReadCode.{ReadCode}
 use Rattle.dia_read.specs.declared.document.Doc.{Doc}
 use Rattle.dia_read.specs.Documents.{Spells, IsFirstFault}
@@ -27,9 +27,9 @@ pub data Refuses (text : List ℕ) : ℕ → Code → Type 0 where
   of_checking : (doc : Doc) (line : ℕ) (code : CheckCode) → Spells text doc → IsCheckFault doc line code → Refuses text line (Checking code)
   of_the_trace : (doc : Doc) (d : Diagram) (line : ℕ) (code : TraceCode) → Spells text doc → IsCheckedOf doc d → IsTraceFault doc d line code → Refuses text line (Tracing code)
 
--- codes with the same number: of checking two may differ in the names of a cycle, or in the tasks of an upward link
+-- the same code, but for the names of a cycle
 abbrev pub IsSameCode : Code → Code → Type 0
 IsSameCode (Reading a) (Reading b) = a ≡ b
-IsSameCode (Checking a) (Checking b) = number_of a ≡ number_of b
+IsSameCode (Checking a) (Checking b) = checking.IsSameCode a b
 IsSameCode (Tracing a) (Tracing b) = a ≡ b
 IsSameCode a b = ⊥

@@ -22,8 +22,8 @@ pub fn count_is_exact()
     ensures { (until : ℕ) (events : Items (Items ℕ)) (clock : AnyClock) (k : ℕ) → IsClockOf (length events) clock → (k < count_of until events clock) ↔ IsSome (time_at until events clock k) }
 {}
 
-/// A text is accepted with one plan at most, and not where it is refused; it is refused at one line at most, with one
-/// number of a code.
+/// A text is accepted with one plan at most, and not where it is refused; it is refused with one first fault at most,
+/// but for the names of a cycle.
 pub fn one_plan()
     ensures one { (text : Items ℕ) (p q : AnyPlan) → Accepts text p → Accepts text q → p ≡ q }
     ensures none { (text : Items ℕ) (p : AnyPlan) (line : ℕ) (code : AnyCode) → Accepts text p → Refuses text line code → ⊥ }
