@@ -36,5 +36,5 @@ answered-without-faults left sf written kf words s t k l Refused ends reads writ
 answered-without-faults left sf written kf words s t k l Usage ends reads writes = no_command ends.0 ends.1 ends.2
 answered-without-faults left sf written kf words s t k l ReadFault ends reads writes = absurd (reads ends.2.fault)
 answered-without-faults left sf written kf words s t k l WriteFault ends reads writes = absurd (writes ends.2.fault)
-answered-without-faults left sf written kf words s t k l NoMemory ends reads writes = no_memory ends.0 ends.1 ends.2.1
+answered-without-faults left sf written kf words s t k l NoMemory ends reads writes = no_memory ends.0 ends.1 ends.2
 answered-without-faults left sf written kf words s t k l TooLarge ends reads writes = too_large ends.0 ends.1 ends.2

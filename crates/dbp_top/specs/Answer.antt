@@ -17,8 +17,8 @@ use Rattle.dbp_top.specs.declared.status.Status.{Status}
 use Rattle.dbp_top.specs.declared.status.Status.TheVariants.{Ok, Refused}
 use Rattle.dbp_top.specs.Refusals.{refusal_line}
 
--- the status and the text that a command gives to an input of at most 1,048,576 bytes: the lines of the one table that
--- meets the equations of the input's plan, or its canonical text, or else the line of its first fault
+-- the status and the text that a command gives to an input: the lines of the one table that meets the equations of the
+-- input's plan, or its canonical text, or else the line of its first fault
 pub data Answers (input : List ℕ) : Command → Status → List ℕ → Type 0 where
   mean_of_a_plan : (plan : Plan) (table : Table) → Accepts input plan → IsMeaning plan.diagram plan.samples plan.batches table → Answers input Mean Ok (lines_of plan.diagram plan.batches table)
   mean_of_a_fault : (line : ℕ) (code : Code) → Refuses input line code → Answers input Mean Refused (refusal_line line code)

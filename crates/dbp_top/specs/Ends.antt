@@ -46,6 +46,12 @@ module _ {S K : Type 0} (left : S → Option (List ℕ)) (source_faults : S → 
     pub no_fault : source_faults new_source ≡ source_faults source
     pub silent : new_sink ≡ sink
 
+  -- memory ran out, at most one byte more than the limit was taken, no read failed, and nothing was written
+  pub record RanOut (source new_source : S) (sink new_sink : K) : Type 0 where
+    pub taken : LosesFront (left source) (left new_source) (λ n. n ≤ MAX_DOCUMENT + 1)
+    pub no_fault : source_faults new_source ≡ source_faults source
+    pub silent : new_sink ≡ sink
+
   -- what each status says of the words, the source and the sink
   abbrev pub Ends : List (String Global) → S → S → K → K → Status → Type 0
   Ends words source new_source sink new_sink Ok = NamesSome words (λ command. WroteWhole source new_source sink new_sink command Ok)
@@ -53,7 +59,7 @@ module _ {S K : Type 0} (left : S → Option (List ℕ)) (source_faults : S → 
   Ends words source new_source sink new_sink Usage = NamesNone words × (new_source ≡ source) × (new_sink ≡ sink)
   Ends words source new_source sink new_sink ReadFault = NamesSome words (λ _. ReadFailed source new_source sink new_sink)
   Ends words source new_source sink new_sink WriteFault = NamesSome words (λ command. WrotePart source new_source sink new_sink command)
-  Ends words source new_source sink new_sink NoMemory = NamesSome words (λ _. (source_faults new_source ≡ source_faults source) × (new_sink ≡ sink))
+  Ends words source new_source sink new_sink NoMemory = NamesSome words (λ _. RanOut source new_source sink new_sink)
   Ends words source new_source sink new_sink TooLarge = NamesSome words (λ _. ReadTooMuch source new_source sink new_sink)
 
   -- How a call ends in which nothing failed: the words name no command, and nothing was read or written; or the input is
@@ -62,5 +68,5 @@ module _ {S K : Type 0} (left : S → Option (List ℕ)) (source_faults : S → 
   pub data Answered (words : List (String Global)) (source new_source : S) (sink new_sink : K) : Status → Type 0 where
     no_command : NamesNone words → new_source ≡ source → new_sink ≡ sink → Answered words source new_source sink new_sink Usage
     too_large : (command : Command) → Names words command → ReadTooMuch source new_source sink new_sink → Answered words source new_source sink new_sink TooLarge
-    no_memory : (command : Command) → Names words command → new_sink ≡ sink → Answered words source new_source sink new_sink NoMemory
+    no_memory : (command : Command) → Names words command → RanOut source new_source sink new_sink → Answered words source new_source sink new_sink NoMemory
     whole : (command : Command) (status : Status) → Names words command → WroteWhole source new_source sink new_sink command status → Answered words source new_source sink new_sink status

@@ -9,7 +9,7 @@ pub enum Status {
     Usage = 2,
     /// A read failed. Nothing was written.
     ReadFault = 4,
-    /// A write failed. A part of the text was written.
+    /// A write failed. Not all of the text was written.
     WriteFault = 5,
     /// Memory ran out. Nothing was written.
     NoMemory = 6,
@@ -24,7 +24,7 @@ pub fn note(status: Status) -> &'static str {
         Status::Refused => "the document was refused",
         Status::Usage => "usage: dbp COMMAND < DOCUMENT, where COMMAND is one of:",
         Status::ReadFault => "a read of the input failed; nothing was written",
-        Status::WriteFault => "a write of the output failed; a part of it was written",
+        Status::WriteFault => "a write of the output failed; not all of it was written",
         Status::NoMemory => "memory ran out; nothing was written",
         Status::TooLarge => "the document has more than 1048576 bytes; nothing was written",
     }

@@ -12,8 +12,8 @@ use std::alloc::Global;
 pub const MAX_DOCUMENT: usize = 1_048_576;
 
 /// The whole program: compares the words with the commands, reads the source to its end, makes the command's
-/// text and writes it. The clause says for each status when it comes, and what was read and written then;
-/// docs/LAYERS.md has it as a table.
+/// text and writes it. Clause `ends` says for each status when it comes, and what was read and written
+/// then (docs/LAYERS.md has it as a table); clause `answered` says the same of a call in which nothing failed.
 pub fn dbp_main<S: Source, K: Sink>(
     alloc: Global,
     words: &[String],

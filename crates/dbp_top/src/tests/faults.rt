@@ -82,7 +82,7 @@ fn statuses_have_numbers_and_notes(rt: HostRuntime) {
         (
             Status::WriteFault,
             5,
-            "a write of the output failed; a part of it was written",
+            "a write of the output failed; not all of it was written",
         ),
         (Status::NoMemory, 6, "memory ran out; nothing was written"),
         (
