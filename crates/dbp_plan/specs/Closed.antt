@@ -43,6 +43,10 @@ pub record IsClosedTask (inputs events links : ℕ) (t : Task) : Type 0 where
   pub linked : All (λ r. r.link < links) t.reads
   pub pointers : All (λ r. r.at < t.cost) t.reads
 
+-- the task is closed in a diagram with some numbers of inputs, events and links
+abbrev pub IsClosedSomewhere : Task → Type 0
+IsClosedSomewhere t = (inputs : ℕ) × (events : ℕ) × (links : ℕ) × IsClosedTask inputs events links t
+
 -- the diagram is closed: its numbers and counts are within the limits, and what it names is there
 pub record IsClosed (d : Diagram) : Type 0 where
   pub until : d.until ≤ MAX_TIME

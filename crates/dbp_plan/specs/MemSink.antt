@@ -17,10 +17,11 @@ failures s = s.failed
 abbrev pub calls : MemSink → ℕ
 calls s = s.calls
 
--- how many bytes a call takes at most, and all calls together
+-- how many bytes a call takes at most
 abbrev pub piece_size : MemSink → ℕ
 piece_size s = s.piece
 
+-- how many bytes all calls together take at most
 abbrev pub room_size : MemSink → ℕ
 room_size s = s.room
 

@@ -12,7 +12,7 @@ use Rattle.dbp_plan.specs.Occurrences.{times_of, occurrence_count}
 use Rattle.dbp_plan.specs.Ranked.{IsRanked}
 use Rattle.dbp_plan.specs.Samples.{is_before}
 
--- the diagram is ranked, its batches are those of its periodic tasks and of other occurrences, and its samples stand in order
+-- the diagram is ranked, its batches are those of its periodic tasks and of the occurrences of tasks on events, and its samples stand in order
 pub record IsPlan (d : Diagram) (samples : List Sample) (batches : List Batch) : Type 0 where
   pub ranked : IsRanked d
   -- batches stand by time, a batch's tasks by declaration and so once each

@@ -41,7 +41,7 @@ pub struct Read {
     pub link: u32,
     /// The writer's out.
     pub port: u32,
-    /// After how many ticks of its cost the task reads.
+    /// After how many ticks of its service the task reads.
     pub at: u64,
 }
 

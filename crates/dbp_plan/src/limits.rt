@@ -24,3 +24,28 @@ pub const MAX_PRIO: u32 = 1_000_000;
 pub const MAX_OCCURRENCES: u32 = 100_000;
 /// The longest delay of a link, in occurrences of its writer.
 pub const MAX_DELAY: u32 = 1;
+
+// Contracts name the limits; here are their values.
+const _: () = prove!(MAX_TASKS == 32);
+
+const _: () = prove!(MAX_INPUTS == 16);
+
+const _: () = prove!(MAX_EVENTS == 16);
+
+const _: () = prove!(MAX_READS == 16);
+
+const _: () = prove!(MAX_READ_LINES == 128);
+
+const _: () = prove!(MAX_OUTS == 8);
+
+const _: () = prove!(MAX_BODY == 64);
+
+const _: () = prove!(MAX_NODES == 64);
+
+const _: () = prove!(MAX_TIME == 1_000_000_000);
+
+const _: () = prove!(MAX_PRIO == 1_000_000);
+
+const _: () = prove!(MAX_OCCURRENCES == 100_000);
+
+const _: () = prove!(MAX_DELAY == 1);

@@ -5,7 +5,7 @@ use crate::calls::fails_at;
 use crate::{Got, Source};
 
 /// A source in memory. A read gives as many bytes as the piece, the buffer and what is left allow, and fails
-/// where its number, counted from 1, is among those that are to fail. For tests, and to be read from in part.
+/// where its number, counted from 1, is among those that are to fail. For tests.
 #[derive(Drop)]
 pub struct MemSource {
     bytes: Vec<u8>,
@@ -42,7 +42,7 @@ impl MemSource {
 }
 
 impl Source for MemSource {
-    ghost use Rattle.dbp_plan.specs.MemSource.{bytes_left, failures, next_got, CountsRead};
+    ghost use Rattle.dbp_plan.specs.MemSource.{bytes_left, failures, next_got, CountsRead, KeepsBehind};
 
     ghost left = { λ s. Some (bytes_left s) };
 
@@ -54,6 +54,7 @@ impl Source for MemSource {
         ensures cause { GivesCause (failures self.old) (failures self.new) result }
         ensures exact { result ≡ next_got self.old (length buf.old) }
         ensures counts { CountsRead self.old self.new }
+        ensures behind { KeepsBehind buf.old buf.new result }
     {
         self.calls = self.calls.saturating_add(1);
         if fails_at(&self.fail, self.calls) {

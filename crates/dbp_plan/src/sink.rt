@@ -38,7 +38,7 @@ pub struct WriteSink<W> {
 }
 
 impl<W: io::Write> WriteSink<W> {
-    ghost use Rattle.dbp_plan.specs.WriteSink.{write_failures, inner_writer};
+    ghost use Rattle.dbp_plan.specs.WriteSink.{write_failures, inner_writer, put_of, failures_after};
 
     /// A sink over the writer, which hasn't failed yet.
     pub fn new(writer: W) -> WriteSink<W>
@@ -46,6 +46,22 @@ impl<W: io::Write> WriteSink<W> {
         ensures writer { inner_writer result ≡ writer }
     {
         WriteSink { writer, failed: 0 }
+    }
+
+    // What the writer answered, counted where it is a failure.
+    fn answered(&mut self, taken: io::Result<usize>) -> Put
+        ensures put { result ≡ put_of taken }
+        ensures writer { inner_writer self.new ≡ inner_writer self.old }
+        ensures faults { write_failures self.new ≡ failures_after taken (write_failures self.old) }
+        ensures cause { TakesCause (write_failures self.old) (write_failures self.new) result }
+    {
+        match taken {
+            Ok(count) if count > 0 => Put::Bytes(count),
+            _ => {
+                self.failed = self.failed.saturating_add(1);
+                Put::Failed
+            }
+        }
     }
 }
 
@@ -57,12 +73,7 @@ impl<W: io::Write> Sink for WriteSink<W> {
     ghost faults = { write_failures };
 
     fn write(&mut self, piece: &[u8]) -> Put {
-        match self.writer.write(piece) {
-            Ok(count) if count > 0 => Put::Bytes(count),
-            _ => {
-                self.failed = self.failed.saturating_add(1);
-                Put::Failed
-            }
-        }
+        let taken = self.writer.write(piece);
+        self.answered(taken)
     }
 }

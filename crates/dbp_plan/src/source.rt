@@ -39,7 +39,7 @@ pub struct ReadSource<R> {
 }
 
 impl<R: io::Read> ReadSource<R> {
-    ghost use Rattle.dbp_plan.specs.ReadSource.{read_failures, inner_reader};
+    ghost use Rattle.dbp_plan.specs.ReadSource.{read_failures, inner_reader, got_of, failures_after};
 
     /// A source over the reader, which hasn't failed yet.
     pub fn new(reader: R) -> ReadSource<R>
@@ -47,6 +47,23 @@ impl<R: io::Read> ReadSource<R> {
         ensures reader { inner_reader result ≡ reader }
     {
         ReadSource { reader, failed: 0 }
+    }
+
+    // What the reader answered, counted where it is a failure.
+    fn answered(&mut self, given: io::Result<usize>) -> Got
+        ensures got { result ≡ got_of given }
+        ensures reader { inner_reader self.new ≡ inner_reader self.old }
+        ensures faults { read_failures self.new ≡ failures_after given (read_failures self.old) }
+        ensures cause { GivesCause (read_failures self.old) (read_failures self.new) result }
+    {
+        match given {
+            Ok(0) => Got::End,
+            Ok(count) => Got::Bytes(count),
+            Err(_) => {
+                self.failed = self.failed.saturating_add(1);
+                Got::Failed
+            }
+        }
     }
 }
 
@@ -58,13 +75,7 @@ impl<R: io::Read> Source for ReadSource<R> {
     ghost faults = { read_failures };
 
     fn read(&mut self, buf: &mut [u8]) -> Got {
-        match self.reader.read(buf) {
-            Ok(0) => Got::End,
-            Ok(count) => Got::Bytes(count),
-            Err(_) => {
-                self.failed = self.failed.saturating_add(1);
-                Got::Failed
-            }
-        }
+        let given = self.reader.read(buf);
+        self.answered(given)
     }
 }

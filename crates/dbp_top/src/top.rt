@@ -11,6 +11,8 @@ use std::alloc::Global;
 /// The greatest document, in bytes.
 pub const MAX_DOCUMENT: usize = 1_048_576;
 
+const _: () = prove!(MAX_DOCUMENT == 1_048_576);
+
 /// The whole program: compares the words with the commands, reads the source to its end, makes the command's
 /// text and writes it. Clause `ends` says for each status when it comes, and what was read and written
 /// then (docs/LAYERS.md has it as a table); clause `answered` says the same of a call in which nothing failed.

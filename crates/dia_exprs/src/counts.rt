@@ -8,6 +8,8 @@ use dia_tokens::{Symbol, Token, Word};
 /// Parentheses that may be open at once, at most.
 pub const MAX_DEPTH: u32 = 64;
 
+const _: () = prove!(MAX_DEPTH == 64);
+
 /// How many of the tokens stand for a node of an expression: all but parentheses, commas, `then` and `else`.
 pub fn node_tokens(tokens: &[Token]) -> usize
     ensures { result ≡ node_count tokens.now }

@@ -45,7 +45,7 @@ pub enum Part {
         delay: u32,
         task: Name,
         port: Name,
-        /// After how many ticks of its cost the task reads.
+        /// After how many ticks of its service the task reads.
         at: u64,
     },
     Let(Name, Expr<Name>),

@@ -1,6 +1,6 @@
 // What a line says behind those before it, or its first fault.
 
-ghost use Rattle.std.specs.Prelude.{◌≡◌, ◌∷◌, List, IfOk, IfErr};
+ghost use Rattle.std.specs.Prelude.{◌≡◌, ◌≢◌, ◌∷◌, List, IfOk, IfErr};
 ghost use Rattle.dia_tokens.specs.Line.{Spells as SpellsTokens};
 ghost use Rattle.dia_lines.specs.Answers.{Refuses, RefusesText, RefusesInDiagram};
 ghost use Rattle.dia_lines.specs.Held.{IsHeld, IsKept};
@@ -8,6 +8,8 @@ ghost use Rattle.dia_lines.specs.Lines.{Said, SaysStatement, SaysInScript, Reads
 ghost use Rattle.dia_lines.specs.Moves.{place_behind_line, step_of_tokens};
 ghost use Rattle.dia_lines.specs.Positions.{AreCounts, IsBehind};
 ghost use Rattle.dia_lines.specs.Statements.{Statement};
+ghost use Rattle.dia_lines.specs.declared.fault.LineError.TheVariants.{NoMemory as OutOfMemory};
+ghost use Rattle.dia_lines.specs.declared.place.Place.TheVariants.{Trace};
 
 use crate::before_form::token_code;
 use crate::statement::statement;
@@ -86,6 +88,7 @@ fn place_behind(place: Place, line: &Line) -> Place
 fn counted_line(alloc: Global, position: Position, line: &[u8]) -> Result<(Line, Counts), LineError>
     ensures found { (before : List Said) → IsBehind before position → IfOk result (λ r. (said : Said) × Reads before line.now said × IsHeld said r.0 × AreCounts (statements (said ∷ before)) r.1) }
     ensures fault { (before : List Said) → IsBehind before position → IfErr result (λ e. Refuses before line.now e) }
+    ensures memory { position.place ≡ Trace → IfErr result (λ e. e ≢ OutOfMemory) }
 {
     match position.place {
         Place::Trace => match trace_line(line) {
@@ -107,6 +110,8 @@ pub fn read_line(
     ensures found { (before : List Said) → IsBehind before position → IfOk result (λ r. (said : Said) × Reads before line.now said × IsHeld said r.0 × IsBehind (said ∷ before) r.1) }
     // A refusal says the line's first fault, unless memory ran out.
     ensures fault { (before : List Said) → IsBehind before position → IfErr result (λ e. Refuses before line.now e) }
+    // A line of the trace section takes no memory.
+    ensures memory { position.place ≡ Trace → IfErr result (λ e. e ≢ OutOfMemory) }
 {
     let (line, counts) = counted_line(alloc, position, line)?;
     let place = place_behind(position.place, &line);

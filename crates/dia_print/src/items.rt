@@ -80,6 +80,7 @@ impl Printer {
         self.push_count(1)
     }
 
+    /// Adds the line of the policy.
     pub fn push_policy(&mut self, policy: Policy) -> Result<(), NoMemory>
         ensures { OnOk result (self.new ≡ with_tokens self.old (policy_tokens policy)) }
     {
@@ -90,6 +91,7 @@ impl Printer {
         }))
     }
 
+    /// Adds the line of the tick before which tasks occur.
     pub fn push_until(&mut self, end: u64) -> Result<(), NoMemory>
         ensures { OnOk result (self.new ≡ with_tokens self.old (until_tokens end)) }
     {

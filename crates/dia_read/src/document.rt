@@ -22,7 +22,8 @@ pub struct Body {
     pub until: u64,
     pub decls: List<Decl>,
     pub tasks: List<RawTask>,
-    /// The kept lines of the trace section: those that aren't blank, each ended by a line feed.
+    /// The kept lines of the trace section: those that aren't blank, without a carriage return
+    /// at their end, each ended by a line feed.
     pub trace: Option<List<u8>>,
     /// The kept lines of the script section: the tokens of those that have some, joined by one space, each ended by
     /// a line feed.

@@ -154,7 +154,7 @@ fn print_body(alloc: Global, body: &Body) -> Result<Vec<u8>, NoMemory>
     Ok(printer.into_text())
 }
 
-/// The canonical text of the document: one space between tokens but round the point, behind `(`, before `)` and the
+/// The canonical text of the body: one space between tokens but round the point, behind `(`, before `)` and the
 /// comma and behind `min` and `max`; two spaces before the lines of a body; parentheses round each operand of an operator
 /// and each part of an `if` that is an operator other than `min` and `max`, or an `if`; no comments and no blank lines.
 /// docs/LANGUAGE.md has the rules. Each body that `read_doc` answers can be printed. It takes memory for one text that

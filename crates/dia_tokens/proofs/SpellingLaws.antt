@@ -354,6 +354,7 @@ printable-tokens line ts s = All-from_recursion IsPrintableToken ts (each-printa
 -- what was added and the tokens that are left make the line's tokens
 pub record Leaves (start line out : List ℕ) (first signed : Bool) (rest : List ℕ) : Type 0 where
   pub tokens : (ps : List Piece) → Lexes true line ps → (us : List Piece) × Lexes signed rest us × (start ++ joined ps ≡ out ++ left first us)
+  pub grown : (added : List ℕ) × (out ≡ start ++ added)
 
 left-next : (first : Bool) (p : Piece) (ps : List Piece) → left first (p ∷ ps) ≡ spaced first p ++ left false ps
 left-next true p ps = joined-next p ps
@@ -369,7 +370,7 @@ next-left {start} {line} {out} {first} {signed} {rest} {p} {after} l e ps d =
 
 pub Leaves-found : {start line out : List ℕ} {first signed : Bool} {rest : List ℕ} {p : Piece} {after : List ℕ} → Leaves start line out first signed rest → found p after ≡ token_at signed rest
     → Leaves start line (out ++ spaced first p) false (signs p) after
-Leaves-found l e = record { tokens = next-left l e }
+Leaves-found {start} {line} {out} {first} {signed} {rest} {p} l e = record { tokens = next-left l e; grown = (l.grown.0 ++ spaced first p, ap (λ (text : List ℕ). text ++ spaced first p) l.grown.1 ∙ append_assoc start l.grown.0 (spaced first p)) }
 
 pub Leaves-room : {start line out : List ℕ} {first signed : Bool} {rest : List ℕ} {p : Piece} {after : List ℕ} → Leaves start line out first signed rest → found p after ≡ token_at signed rest
     → HasTokens line → length out + length (spaced first p) ≤ length start + 2 * length line

@@ -1,6 +1,6 @@
 // The tokens of a line as they are spelled.
 
-ghost use Rattle.std.specs.Prelude.{◌≡◌, ℕ, true, ◌+◌, ◌*◌, ◌^◌, ◌<◌, ◌≤◌, List as Items, ◌++◌, length, OnOk};
+ghost use Rattle.std.specs.Prelude.{◌≡◌, ℕ, true, ◌+◌, ◌*◌, ◌^◌, ◌<◌, ◌≤◌, List as Items, ◌++◌, length, OnOk, OnErr};
 ghost use Rattle.dia_tokens.specs.Lexes.{Lexes};
 ghost use Rattle.dia_tokens.specs.Pieces.{Piece as Text, seen};
 ghost use Rattle.dia_tokens.specs.Spelling.{text_of, spaced, joined, HasTokens};
@@ -23,7 +23,8 @@ fn text_of<'a>(piece: Piece<'a>) -> &'a [u8]
 /// Adds the token's text, behind a space unless it is the first.
 fn push_piece(first: bool, out: &mut List<u8>, piece: Piece) -> Result<(), NoMemory>
     requires { length out.old + length (spaced first (seen piece)) < 2 ^ 32 }
-    ensures { OnOk result (out.new ≡ out.old ++ spaced first (seen piece.entry)) }
+    ensures ok { OnOk result (out.new ≡ out.old ++ spaced first (seen piece.entry)) }
+    ensures err { OnErr result ((added : Items ℕ) × (out.new ≡ out.old ++ added)) }
 {
     if !first {
         out.push(b' ')?;
@@ -38,6 +39,7 @@ pub fn push_spelling(out: &mut List<u8>, line: &[u8]) -> Result<(), NoMemory>
     // Each token's space is at most as long as the token.
     requires room { length out.old + 2 * length line.now < 2 ^ 32 }
     ensures ok { (ps : Items Text) → Lexes true line.now ps → OnOk result (out.new ≡ out.old ++ joined ps) }
+    ensures err { OnErr result ((added : Items ℕ) × (out.new ≡ out.old ++ added)) }
     ensures fits { OnOk result (length out.new ≤ length out.old + 2 * length line.now) }
 {
     let mut first = true;

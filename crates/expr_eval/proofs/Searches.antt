@@ -7,7 +7,7 @@ use Rattle.std.proofs.lemmas.List.Elements.{Contains-push_cases}
 use Rattle.dbp_plan.specs.declared.diagram.Let.{Let}
 use Rattle.dbp_plan.specs.Places.{at_place, front_place, last_place, all_place}
 use Rattle.expr_eval.specs.LetOrders.{Uses, IsCycleFrom, IsFirstCycle, LiesOnCycle}
-use Rattle.expr_eval.specs.LetSearch.{AreListed, UsesOneOf, UsesNoneOf, LeadTo, AreAllLeading}
+use Rattle.expr_eval.specs.LetSearch.{AreListed, IsNextUser, UsesOneOf, UsesNoneOf, LeadTo, AreAllLeading}
 use Rattle.expr_eval.proofs.Listed.{place_of, contains_at, one_place, listed_none, listed_push, listed_room, take_has}
 use Rattle.expr_eval.proofs.Cycles.{IsPath, path_one, path_more, path_closed, cycle_listed}
 
@@ -137,12 +137,8 @@ descent_none base lets target found bound path last lead all descent none lies =
   | inr (m, j, before, at, used) ↦ none j (contains_at (take bound found) m j (take_has found bound m j before at)) used
 ]
 
--- a let that is found next
-abbrev pub IsNewUser : ℕ → List Let → List ℕ → ℕ → Type 0
-IsNewUser base lets found user = (user < length lets) × (Contains found user → ⊥) × UsesOneOf base lets found user
-
-pub lead_room : (base : ℕ) (lets : List Let) (target : ℕ) (found : List ℕ) (user : ℕ) → LeadTo base lets target found → IsNewUser base lets found user → length found < length lets
-lead_room base lets target found user lead next = listed_room (length lets) found user lead.listed next.0 next.1
+pub lead_room : (base : ℕ) (lets : List Let) (target : ℕ) (found : List ℕ) (user : ℕ) → LeadTo base lets target found → IsNextUser base lets found user → length found < length lets
+lead_room base lets target found user lead next = listed_room (length lets) found user lead.listed next.named next.new
 
 pub absent : {X : Type 0} (P : Type 0) (Q : X → Type 0) (o : Option X) → false ≡ is_some o → MatchOption o P Q → P
 absent P Q None none is = is

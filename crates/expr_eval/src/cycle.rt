@@ -1,7 +1,7 @@
-ghost use Rattle.std.specs.Prelude.{◌≡◌, ℕ, ◌<◌, ◌≤◌, Contains, IfOk, MatchBool, MatchOption, length, slice_get};
+ghost use Rattle.std.specs.Prelude.{◌≡◌, ℕ, ◌<◌, ◌≤◌, Contains, IfOk, MatchBool, MatchOption, length};
 ghost use Rattle.dbp_plan.specs.declared.limits.TheConstants.{MAX_BODY};
-ghost use Rattle.expr_eval.specs.LetOrders.{IsCycleFrom, IsFirstCycle, LiesOnCycle, Uses};
-ghost use Rattle.expr_eval.specs.LetSearch.{AreAllLeading, LeadTo, UsesNoneOf, UsesOneOf};
+ghost use Rattle.expr_eval.specs.LetOrders.{IsCycleFrom, IsFirstCycle, LiesOnCycle};
+ghost use Rattle.expr_eval.specs.LetSearch.{AreAllLeading, IsFirstUsed, IsNextUser, LeadTo, UsesNoneOf, UsesOneOf};
 
 use crate::variable::{is_among, uses, uses_one_of};
 use dbp_plan::{Let, List, NoMemory};
@@ -48,7 +48,7 @@ fn leading_to(
 
 // The earliest let that isn't among these and uses one of them.
 fn next_user(lets: &List<Let>, base: u32, found: &[u32]) -> Option<u32>
-    ensures { MatchOption result (AreAllLeading base lets.now found.now) (λ i. (i < length lets.now) × (Contains found.now i → ⊥) × UsesOneOf base lets.now found.now i) }
+    ensures { MatchOption result (AreAllLeading base lets.now found.now) (IsNextUser base lets.now found.now) }
 {
     for i in 0..lets.len() {
         if is_new_user(lets, base, i, found) {
@@ -98,7 +98,7 @@ fn cycle_from(
 // The first place of a let that the user uses.
 fn first_used(lets: &List<Let>, base: u32, user: u32, found: &[u32]) -> Option<usize>
     requires { user < length lets.now }
-    ensures { MatchOption result (UsesNoneOf base lets.now found.now user) (λ place. (used : ℕ) × (slice_get found.now place ≡ Some used) × Uses base lets.now user used) }
+    ensures { MatchOption result (UsesNoneOf base lets.now found.now user) (IsFirstUsed base lets.now found.now user) }
 {
     for (place, used) in found.iter().enumerate() {
         if uses(lets, base, user, *used) {

@@ -19,7 +19,7 @@ pub use order::{LetFail, no_order_of_a_cycle, one_front_order, order_lets};
 const FEW_NODES: u32 = 8;
 
 /// The value of the expression, where each variable is the word at its place of the environment. A number outside of
-/// `i64` becomes the nearest inside, and what is divided by 0 gives 0. Nothing is refused, and no memory is taken.
+/// `i64` becomes the nearest inside, and `/` and `%` by 0 give 0. Nothing is refused, and no memory is taken.
 pub fn eval(expr: &Expr<u32>, env: &[i64]) -> i64
     requires { VariablesBelow (length env.now) expr.now.nodes }
     ensures { result ≡ value_of expr.now env.now }

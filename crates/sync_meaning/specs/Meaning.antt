@@ -16,8 +16,9 @@ use Rattle.dbp_plan.specs.Samples.{input_value}
 use Rattle.dbp_plan.specs.Table.{IsRow, HasAllRows}
 use Rattle.expr_eval.specs.Values.{value_of}
 
--- Where each task has occurred so often, the read gives the word: that of its port in the writer's row of as many
--- occurrences ago as the link's delay, and in the row of first values where there were fewer.
+-- What a read gives where the tasks have occurred so often: the word of its port in the row of the writer's last
+-- instance, or as many instances before that as the link's delay. Where the writer had no such instance, the row is
+-- that of first values.
 pub record IsRead (links : List Link) (occurred : ℕ → ℕ) (table : Table) (read : Read) (word : ℤ) : Type 0 where
   pub link : Link
   pub has_link : slice_get links read.link ≡ Some link

@@ -19,7 +19,7 @@ pub record HasRowsUpTo (tasks : List Task) (done : List ℕ) (table : List TaskR
   pub counts : length done ≡ length tasks
   pub each : (i n : ℕ) (t : Task) (rows : TaskRows) → slice_get tasks i ≡ Some t → slice_get done i ≡ Some n → slice_get table i ≡ Some rows → HasRowsOf (length t.outs) n rows
 
--- of each task that has so many occurrences all instances but the last are computed, and above the rank the last too
+-- of each task that has so many occurrences all instances but at most the last are computed, and above the rank the last too
 pub record IsDoneAbove (rank : ℕ) (ranks named done : List ℕ) : Type 0 where
   pub size : length named ≡ length ranks
   pub counts : length done ≡ length ranks

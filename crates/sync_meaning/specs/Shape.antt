@@ -6,14 +6,10 @@ use Rattle.dbp_plan.specs.declared.diagram.Read.{Read}
 use Rattle.dbp_plan.specs.declared.schedule.Batch.{Batch}
 use Rattle.dbp_plan.specs.declared.table.Table.{Table}
 use Rattle.dbp_plan.specs.declared.table.TaskRows.{TaskRows}
-use Rattle.dbp_plan.specs.Closed.{IsClosedTask, place_count}
+use Rattle.dbp_plan.specs.Closed.{place_count}
 use Rattle.dbp_plan.specs.Occurrences.{names, times_of}
 use Rattle.sync_meaning.specs.declared.env.Env.{Env}
 use Rattle.sync_meaning.specs.Meaning.{IsRead}
-
--- the task is closed in a diagram with some numbers of inputs, events and links
-abbrev pub IsClosedSomewhere : Task → Type 0
-IsClosedSomewhere task = (inputs : ℕ) × (events : ℕ) × (links : ℕ) × IsClosedTask inputs events links task
 
 -- the environment has a word for each place of the task's, and one for each state
 pub record IsEnvOf (task : Task) (env : Env) : Type 0 where

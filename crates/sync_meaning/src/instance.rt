@@ -1,14 +1,14 @@
 ghost use Rattle.std.specs.Prelude.{◌≡◌, ◌<◌, ℕ, length, slice_get, take};
-ghost use Rattle.dbp_plan.specs.Closed.{let_base, place_count};
+ghost use Rattle.dbp_plan.specs.Closed.{IsClosedSomewhere, let_base, place_count};
 ghost use Rattle.sync_meaning.specs.Meaning.{AreStatesAfter, HasLets, outs_in};
-ghost use Rattle.sync_meaning.specs.Shape.{IsClosedSomewhere};
 
 use crate::Env;
 use dbp_plan::{List, Row, Task};
 use expr_eval::eval;
 
 /// One instance of the task, from the states, the senses and the reads that stand in `env.now`: computes the lets
-/// there, the states after the instance in `env.later`, and the outs. A state without a `next` keeps its value.
+/// there, the states after the instance in `env.later`, and the outs. A state without a `next` keeps its value. The
+/// states, the senses and the reads stay in `env.now`; what `outs` held is dropped.
 pub fn work(task: &Task, env: &mut Env, outs: &mut Row)
     requires closed { IsClosedSomewhere task.now }
     requires now { length env.old.now ≡ place_count task.now }

@@ -17,6 +17,8 @@ use std::alloc::Global;
 /// Rows of a trace section, at most.
 pub const MAX_ROWS: usize = 50_000;
 
+const _: () = prove!(MAX_ROWS == 50_000);
+
 /// The time of a row whose cells are of their forms.
 fn row_time(kinds: &[Kind], row: &ByteRecord) -> Option<u64>
     requires { length kinds.now + 1 < 2 ^ 64 }

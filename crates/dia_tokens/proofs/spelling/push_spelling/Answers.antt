@@ -11,7 +11,7 @@ pub loop-piece-smaller : goal.loop-piece-smaller
 loop-piece-smaller c = subst (Shrinks c.loop-piece.rest.now) (sym c.in-Found.ensures) (Shrinks-at c.loop-piece.signed c.loop-piece.rest.now)
 
 pub loop-piece-preserved : goal.loop-piece-preserved
-loop-piece-preserved c = rw (c.in_ok-push_piece.ensures, c.may_sign-signed.ensures) (Leaves-found c.loop-piece.invariant c.in-Found.ensures)
+loop-piece-preserved c = rw (c.in_ok-push_piece.ensures.ok, c.may_sign-signed.ensures) (Leaves-found c.loop-piece.invariant c.in-Found.ensures)
 
 pub returns : goal.returns
 returns c =
@@ -19,5 +19,6 @@ returns c =
     let has = c.requires.lexes in
     record {
       ok = all;
+      err = tt;
       fits = omega (arith, ap length (all has.texts has.lexes), length-append c.args.out.now (joined has.texts), joined-fits c.args.line.now has.texts has.lexes);
     }

@@ -1,4 +1,4 @@
-use Rattle.std.proofs.Common.{◌≡◌, ℕ, take, get_or, slice_get, Some, length, arith, sym, ◌∙◌, ap, subst}
+use Rattle.std.proofs.Common.{◌≡◌, ℕ, get_or, slice_get, Some, length, arith, sym, ◌∙◌, ap, subst}
 use Rattle.std.proofs.lemmas.Option.{slice_get_within, slice_get-get_or}
 use Rattle.std.proofs.lemmas.Option.{same_Some}
 use Rattle.expr_eval.specs.LetOrders.{Uses}
@@ -9,15 +9,15 @@ use Rattle.expr_eval.proofs.cycle.cycle_from.Goals as goal
 pub returns-then-place-eq0 : goal.returns-then-place-eq0
 returns-then-place-eq0 c =
     let found = c.args.found.now in
-    let next : (j : ℕ) × (slice_get (take c.loop-place.bound found) c.in-Some.place ≡ Some j) × Uses c.args.base c.args.lets.now c.loop-place.user j = c.in-Some.ensures in
-    let at : slice_get found 0 ≡ Some next.0 = ap (λ (z : ℕ). slice_get found z) (sym c.if-place-eq0.true) ∙ take_place found c.loop-place.bound c.in-Some.place next.0 next.1 in
-    descent_closed c.args.base c.args.lets.now c.args.target found c.loop-place.bound c.loop-place.cycle c.loop-place.user next.0 c.requires.lead c.loop-place.invariant at next.2
+    let next = c.in-Some.ensures in
+    let at : slice_get found 0 ≡ Some next.used = ap (λ (z : ℕ). slice_get found z) (sym c.if-place-eq0.true) ∙ take_place found c.loop-place.bound c.in-Some.place next.used next.is in
+    descent_closed c.args.base c.args.lets.now c.args.target found c.loop-place.bound c.loop-place.cycle c.loop-place.user next.used c.requires.lead c.loop-place.invariant at next.uses
 
 pub bounds-found-place : goal.bounds-found-place
 bounds-found-place c =
     let found = c.args.found.now in
-    let next : (j : ℕ) × (slice_get (take c.loop-place.bound found) c.in-Some.place ≡ Some j) × Uses c.args.base c.args.lets.now c.loop-place.user j = c.in-Some.ensures in
-    slice_get_within found c.in-Some.place next.0 (take_place found c.loop-place.bound c.in-Some.place next.0 next.1)
+    let next = c.in-Some.ensures in
+    slice_get_within found c.in-Some.place next.used (take_place found c.loop-place.bound c.in-Some.place next.used next.is)
 
 pub push-requires-in-Some : goal.push-requires-in-Some
 push-requires-in-Some c =
@@ -26,21 +26,21 @@ push-requires-in-Some c =
 
 pub loop-place-smaller : goal.loop-place-smaller
 loop-place-smaller c =
-    let next : (j : ℕ) × (slice_get (take c.loop-place.bound c.args.found.now) c.in-Some.place ≡ Some j) × Uses c.args.base c.args.lets.now c.loop-place.user j = c.in-Some.ensures in
-    take_below c.args.found.now c.loop-place.bound c.in-Some.place next.0 next.1
+    let next = c.in-Some.ensures in
+    take_below c.args.found.now c.loop-place.bound c.in-Some.place next.used next.is
 
 pub loop-place-preserved : goal.loop-place-preserved
 loop-place-preserved c =
     let found = c.args.found.now in
     let place : ℕ = c.in-Some.place in
-    let next : (j : ℕ) × (slice_get (take c.loop-place.bound found) place ≡ Some j) × Uses c.args.base c.args.lets.now c.loop-place.user j = c.in-Some.ensures in
-    let there : slice_get found place ≡ Some next.0 = take_place found c.loop-place.bound place next.0 next.1 in
-    let at : slice_get found place ≡ Some (get_or found place 0) = slice_get-get_or found place 0 (slice_get_within found place next.0 there) in
+    let next = c.in-Some.ensures in
+    let there : slice_get found place ≡ Some next.used = take_place found c.loop-place.bound place next.used next.is in
+    let at : slice_get found place ≡ Some (get_or found place 0) = slice_get-get_or found place 0 (slice_get_within found place next.used there) in
     let used : Uses c.args.base c.args.lets.now c.loop-place.user (get_or found place 0) =
-    subst (λ (z : ℕ). Uses c.args.base c.args.lets.now c.loop-place.user z) (same_Some next.0 (get_or found place 0) (sym there ∙ at)) next.2 in
+    subst (λ (z : ℕ). Uses c.args.base c.args.lets.now c.loop-place.user z) (same_Some next.used (get_or found place 0) (sym there ∙ at)) next.uses in
     rw c.in_ok-push-2.ensures.ok
     (descent_more c.args.base c.args.lets.now c.args.target found c.loop-place.bound c.loop-place.cycle c.loop-place.user place (get_or found place 0)
-    c.requires.lead c.loop-place.invariant (omega arith) (take_below found c.loop-place.bound place next.0 next.1) at used)
+    c.requires.lead c.loop-place.invariant (omega arith) (take_below found c.loop-place.bound place next.used next.is) at used)
 
 pub returns : goal.returns
 returns c =
