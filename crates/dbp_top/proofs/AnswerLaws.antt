@@ -13,8 +13,9 @@ use Rattle.trace_io.specs.declared.code.Code.{Code}
 use Rattle.trace_io.specs.declared.code.Code.TheVariants.{Reading, Checking, Tracing}
 use Rattle.trace_io.specs.Lines.{lines_of}
 use Rattle.trace_io.specs.Texts.{Accepts, Refuses, IsSameCode}
-use Rattle.dbp_top.specs.Answer.{Answers, mean_of_a_plan, mean_of_a_fault, form_of_a_document, form_of_a_fault}
+use Rattle.dbp_top.specs.Answer.{Answers, mean_of_a_plan, mean_of_a_fault, form_of_a_document, form_of_a_fault, slots_of_a_plan, slots_of_a_fault}
 use Rattle.dbp_top.specs.Refusals.{check_name, code_text, refusal_line}
+use Rattle.dbp_top.specs.SlotLines.{slot_lines}
 use Rattle.dbp_top.specs.declared.command.Command.{Command}
 use Rattle.dbp_top.specs.declared.status.Status.{Status}
 
@@ -63,3 +64,10 @@ module _
     one-answer input command s t text other (form_of_a_fault k c fault) (form_of_a_fault l d again) =
         let same = one-first-fault input k l c d fault again in
         (refl, cc (same.0, same.1))
+    one-answer input command s t text other (slots_of_a_plan p accepted) (slots_of_a_plan q also) =
+        (refl, ap (λ (x : Plan). slot_lines x.diagram) (one_plan input p q accepted also))
+    one-answer input command s t text other (slots_of_a_plan p accepted) (slots_of_a_fault l c fault) = absurd (no_fault input p l c accepted fault)
+    one-answer input command s t text other (slots_of_a_fault l c fault) (slots_of_a_plan p accepted) = absurd (no_fault input p l c accepted fault)
+    one-answer input command s t text other (slots_of_a_fault k c fault) (slots_of_a_fault l d again) =
+        let same = one_fault input k l c d fault again in
+        (refl, same-line k l c d same.0 (same-text c d same.1))

@@ -5,7 +5,7 @@ use Rattle.std.proofs.lemmas.List.{get_or-map, length-map}
 use lib.Pointwise.{pointwise}
 use Rattle.dbp_top.specs.Commands.{HasAllCommands, command_list, command_words, commands, listed_words, said_by}
 use Rattle.dbp_top.specs.declared.command.Command.{Command}
-use Rattle.dbp_top.specs.declared.command.Command.TheVariants.{Mean, Form}
+use Rattle.dbp_top.specs.declared.command.Command.TheVariants.{Mean, Form, Plan}
 use Rattle.dbp_top.specs.declared.command.Row.{Row}
 
 abbrev Said : Type 0
@@ -43,6 +43,7 @@ row-words rows k d all below =
 place : (c d : Command) → (k : ℕ) × (k < length commands) × (get_or commands k d ≡ c)
 place Mean d = (0, lit< tt, refl)
 place Form d = (1, lit< tt, refl)
+place Plan d = (2, lit< tt, refl)
 
 -- each command has a row
 pub row-of : (rows : List Row) (c : Command) (d : Row) → HasAllCommands rows → (k : ℕ) × (k < length rows) × ((get_or rows k d).command ≡ c)
@@ -59,6 +60,7 @@ first-with words (c ∷ cs) = if pointwise (pointwise eqb) words (command_words 
 found : (c : Command) → first-with (command_words c) commands ≡ Some c
 found Mean = refl
 found Form = refl
+found Plan = refl
 
 pub one-command : (c d : Command) → command_words c ≡ command_words d → c ≡ d
 one-command c d same =

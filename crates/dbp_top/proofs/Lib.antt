@@ -3,3 +3,4 @@ pub mod Endings
 pub mod AnswerLaws
 pub mod StopLaws
 pub mod Streams
+pub mod SlotLineLaws

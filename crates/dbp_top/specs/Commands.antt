@@ -4,17 +4,18 @@ use Rattle.std.specs.List.{flat_map}
 use Rattle.std.specs.declared.alloc.Global.{Global}
 use Rattle.std.specs.declared.string.String.{String}
 use Rattle.dbp_top.specs.declared.command.Command.{Command}
-use Rattle.dbp_top.specs.declared.command.Command.TheVariants.{Mean, Form}
+use Rattle.dbp_top.specs.declared.command.Command.TheVariants.{Mean, Form, Plan}
 use Rattle.dbp_top.specs.declared.command.Row.{Row}
 
 -- all commands, in the order in which they are listed
 abbrev pub commands : List Command
-commands = Mean ∷ Form ∷ []
+commands = Mean ∷ Form ∷ Plan ∷ []
 
 -- the words of each command
 abbrev pub command_words : Command → List (List ℕ)
 command_words Mean = codes "mean" ∷ []
 command_words Form = codes "form" ∷ []
+command_words Plan = codes "plan" ∷ []
 
 -- the words and the command of a row
 abbrev pub said_by : Row → List (List ℕ) × Command

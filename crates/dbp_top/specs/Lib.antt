@@ -3,4 +3,5 @@ pub mod Commands
 pub mod Ends
 pub mod Outside
 pub mod Refusals
+pub mod SlotLines
 pub mod Stops

@@ -2,12 +2,13 @@ ghost use Rattle.std.specs.Prelude.{◌≡◌, ◌≤◌, length, IfOk};
 ghost use Rattle.sync_meaning.specs.SomeMeaning.{meaning_of};
 ghost use Rattle.trace_io.specs.Lines.{lines_of};
 ghost use Rattle.dbp_top.specs.Answer.{Answers};
-ghost use Rattle.dbp_top.specs.declared.command.Command.TheVariants.{Mean, Form};
+ghost use Rattle.dbp_top.specs.declared.command.Command.TheVariants.{Mean, Form, Plan as Slots};
 
 use crate::Status;
 use crate::command::Command;
 use crate::plan::plan_of;
 use crate::refusal::refusal_line;
+use crate::slot_lines::slot_lines;
 use crate::stop::Stop;
 use dbp_plan::{NoMemory, Plan};
 use dia_read::{ReadFail, print_doc, read_doc};
@@ -27,6 +28,7 @@ pub(crate) fn answer(
     match command {
         Command::Mean => mean_of(alloc, input),
         Command::Form => form_of(alloc, input),
+        Command::Plan => slots_of(alloc, input),
     }
 }
 
@@ -67,5 +69,19 @@ fn form_of(alloc: Global, input: &[u8]) -> Result<(Status, Vec<u8>), NoMemory>
             ))
         }
         Err(ReadFail::NoMemory) => Err(NoMemory),
+    }
+}
+
+// The slots of the tasks of the input's plan.
+fn slots_of(alloc: Global, input: &[u8]) -> Result<(Status, Vec<u8>), NoMemory>
+    requires { length input.now ≤ 2000000000 }
+    ensures { IfOk result (λ (status, text). Answers input.now Slots status text.items) }
+{
+    match plan_of(alloc, input) {
+        Ok(plan) => Ok((Status::Ok, slot_lines(alloc, &plan.diagram)?)),
+        Err(Stop::Refused { line, code }) => {
+            Ok((Status::Refused, refusal_line(alloc, line, &code)?))
+        }
+        Err(Stop::NoMemory) => Err(NoMemory),
     }
 }

@@ -14,6 +14,8 @@ pub(crate) enum Command {
     Mean,
     /// Writes the canonical text.
     Form,
+    /// Writes the slots of each task.
+    Plan,
 }
 
 // A command, and the words that name it.
@@ -23,7 +25,7 @@ struct Row {
 }
 
 // All commands. What a user is told of them is made of this table too.
-static ROWS: [Row; 2] = [
+static ROWS: [Row; 3] = [
     Row {
         words: &["mean"],
         command: Command::Mean,
@@ -31,6 +33,10 @@ static ROWS: [Row; 2] = [
     Row {
         words: &["form"],
         command: Command::Form,
+    },
+    Row {
+        words: &["plan"],
+        command: Command::Plan,
     },
 ];
 

@@ -7,6 +7,7 @@ mod laws;
 mod outside;
 mod plan;
 mod refusal;
+mod slot_lines;
 mod status;
 mod stop;
 #[cfg(test)]

@@ -7,4 +7,6 @@ mod documents;
 mod faults;
 mod limits;
 mod refusals;
+mod slots;
+mod steps;
 mod traces;

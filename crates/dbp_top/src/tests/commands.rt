@@ -5,7 +5,11 @@ use crate::command::{Command, command_of};
 use crate::{Status, command_lines};
 use std::test::Fail;
 
-static COMMANDS: [(&[&str], Command); 2] = [(&["mean"], Command::Mean), (&["form"], Command::Form)];
+static COMMANDS: [(&[&str], Command); 3] = [
+    (&["mean"], Command::Mean),
+    (&["form"], Command::Form),
+    (&["plan"], Command::Plan),
+];
 
 static NO_COMMANDS: [&[&str]; 14] = [
     &[],
@@ -33,7 +37,10 @@ fn words_name_commands(rt: HostRuntime) -> Result<(), Fail> {
         }
         assert_eq!(rt; command_of(&all), Some(*command));
     }
-    assert_eq!(rt; command_lines(rt.alloc())?.as_str(), "  mean\n  form\n");
+    assert_eq!(rt;
+        command_lines(rt.alloc())?.as_str(),
+        "  mean\n  form\n  plan\n"
+    );
     Ok(())
 }
 

@@ -1,0 +1,16 @@
+pub mod Keeping
+pub mod Computing
+pub mod Searches
+pub mod InputValues
+pub mod Allowed
+pub mod Counted
+pub mod Frames
+pub mod TaskKept
+pub mod StateKept
+pub mod StartShape
+pub mod AddedTimes
+pub mod IntoTask
+pub mod Numbered
+pub mod Turns
+pub mod WiringParts
+pub mod Wirings

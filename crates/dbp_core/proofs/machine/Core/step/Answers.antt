@@ -1,0 +1,10 @@
+use Rattle.dbp_core.proofs.StateKept.{asked_kept}
+use Rattle.dbp_core.proofs.machine.Core.step.Goals as goal
+
+pub invariant_of-self : goal.invariant_of-self
+invariant_of-self c =
+    let old = c.args.self.now in
+    record {
+      wired = old.wired;
+      shape = asked_kept old.plan old.wiring old.state c.advance.new.state c.args.step c.advance.result old.shape c.requires c.advance.ensures;
+    }

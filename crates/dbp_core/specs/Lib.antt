@@ -1,0 +1,9 @@
+pub mod Cores
+pub mod Moves
+pub mod Places
+pub mod Rules
+pub mod Sensed
+pub mod Shapes
+pub mod Start
+pub mod Wired
+pub mod Work

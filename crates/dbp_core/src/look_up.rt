@@ -1,0 +1,44 @@
+// What stands at a place of the state.
+
+ghost use Rattle.std.specs.Prelude.{◌≡◌, ◌<◌, length};
+ghost use Rattle.dbp_core.specs.Places.{declared, link_entry, task, task_entry, wired};
+
+use crate::parts::{LinkEntry, TaskEntry};
+use crate::state::{State, TaskState};
+use crate::wiring::{TaskWiring, Wiring};
+use dbp_plan::{Plan, Task};
+
+pub(crate) fn task_at(state: &State, i: u32) -> &TaskState
+    requires { i < length state.now.tasks }
+    ensures { result.now ≡ task state.now i }
+{
+    &state.tasks.items()[i as usize]
+}
+
+pub(crate) fn entry_at(state: &State, i: u32) -> &TaskEntry
+    requires { i < length state.now.releaser.tasks }
+    ensures { result.now ≡ task_entry state.now i }
+{
+    &state.releaser.tasks.items()[i as usize]
+}
+
+pub(crate) fn claim_at(state: &State, k: u32) -> LinkEntry
+    requires { k < length state.now.releaser.links }
+    ensures { result ≡ link_entry state.now k }
+{
+    state.releaser.links.items()[k as usize]
+}
+
+pub(crate) fn wired_at(wiring: &Wiring, i: u32) -> &TaskWiring
+    requires { i < length wiring.now.tasks }
+    ensures { result.now ≡ wired wiring.now i }
+{
+    &wiring.tasks.items()[i as usize]
+}
+
+pub(crate) fn declared_at(plan: &Plan, i: u32) -> &Task
+    requires { i < length plan.now.diagram.tasks }
+    ensures { result.now ≡ declared plan.now i }
+{
+    &plan.diagram.tasks.items()[i as usize]
+}

@@ -1,0 +1,75 @@
+// The core of a plan, as one value.
+
+ghost use Rattle.std.specs.Prelude.{◌≡◌};
+ghost use Rattle.dbp_core.specs.Shapes.{IsShape};
+ghost use Rattle.dbp_core.specs.Wired.{wiring_of};
+
+use crate::arms::advance;
+use crate::start::start;
+use crate::state::State;
+use crate::step::{Count, Heard, Illegal, Step};
+use crate::wire::wire;
+use crate::wiring::Wiring;
+use dbp_plan::{NoMemory, Plan, Row};
+use std::alloc::Global;
+
+/// The protocol of a plan, from the first step on: the words that the releaser and the tasks share, and what each has
+/// for itself. It changes by steps alone.
+#[derive(Drop)]
+pub struct Core {
+    plan: Plan,
+    wiring: Wiring,
+    state: State,
+    ghost wired: { wiring ≡ wiring_of plan wiring.count },
+    ghost shape: { IsShape plan wiring state },
+}
+
+impl Core {
+    ghost use Rattle.std.specs.Prelude.{◌≡◌, ◌<◌, length, IfOk};
+    ghost use Rattle.dbp_core.specs.Cores.{count_in, plan_in, state_in};
+    ghost use Rattle.dbp_core.specs.Places.{task as state_of};
+    ghost use Rattle.dbp_core.specs.Rules.{IsNamed, IsStep};
+    ghost use Rattle.dbp_core.specs.Start.{start_of};
+
+    /// The core before the first step. Where memory runs out the plan is given up.
+    pub fn new(alloc: Global, plan: Plan, count: Count) -> Result<Core, NoMemory>
+        ensures plan { IfOk result (λ core. plan_in core ≡ plan) }
+        ensures count { IfOk result (λ core. count_in core ≡ count) }
+        ensures start { IfOk result (λ core. state_in core ≡ start_of plan (wiring_of plan count)) }
+    {
+        let wiring = wire(alloc, &plan, count)?;
+        let state = start(alloc, &plan, &wiring)?;
+        Ok(Core {
+            plan,
+            wiring,
+            state,
+        })
+    }
+
+    /// One step. Where it isn't allowed nothing changes, and the answer says which condition is the first broken one.
+    /// The task or the link that the step names is one of the diagram's; a slot, a read or a port may be any number.
+    /// It takes no memory.
+    pub fn step(&mut self, step: Step) -> Result<Heard, Illegal>
+        requires { IsNamed (plan_in self.old).diagram step }
+        ensures plan { plan_in self.new ≡ plan_in self.old }
+        ensures count { count_in self.new ≡ count_in self.old }
+        ensures step { IsStep (plan_in self.old) (wiring_of (plan_in self.old) (count_in self.old)) (state_in self.old) step result (state_in self.new) }
+    {
+        advance(&self.plan, &self.wiring, &mut self.state, step)
+    }
+
+    /// The plan.
+    pub fn plan(&self) -> &Plan
+        ensures { result.now ≡ plan_in self.now }
+    {
+        &self.plan
+    }
+
+    /// The row of the task's last `Shut`, or the first values of its outs.
+    pub fn row(&self, task: u32) -> &Row
+        requires { task < length (plan_in self.now).diagram.tasks }
+        ensures { result.now ≡ (state_of (state_in self.now) task).work.row }
+    {
+        self.state.tasks.items()[task as usize].work.row()
+    }
+}

@@ -1,0 +1,108 @@
+// What the releaser's steps make of the state.
+
+ghost use Rattle.std.specs.Prelude.{◌≡◌, ◌+◌, ◌<◌, ◌∷◌, ◌^◌, length, take, slice_index_or};
+ghost use Rattle.dbp_core.specs.Moves as move;
+ghost use Rattle.dbp_core.specs.Places.{line, task, task_entry};
+ghost use Rattle.dbp_core.specs.Rules.{further, with_claim, with_entry, with_task};
+
+use crate::look_up::{entry_at, task_at};
+use crate::parts::{LinkEntry, Order, TaskEntry};
+use crate::state::State;
+use crate::wiring::Wiring;
+use dbp_plan::List;
+
+pub(crate) fn see(state: &mut State, i: u32) -> u32
+    requires entries { i < length state.old.releaser.tasks }
+    requires tasks { i < length state.old.tasks }
+    ensures ended { result ≡ (task state.old i).words.ended }
+    ensures next { state.new ≡ with_entry state.old i (move.seen (task_entry state.old i) (task state.old i).words.ended) }
+{
+    let ended = task_at(state, i).words.ended;
+    let entry = &mut state.releaser.tasks.items_mut()[i as usize];
+    entry.known = ended;
+    ended
+}
+
+pub(crate) fn open(state: &mut State, i: u32)
+    requires entries { i < length state.old.releaser.tasks }
+    requires tasks { i < length state.old.tasks }
+    requires place { state.old.releaser.place + 1 < 2 ^ 32 }
+    ensures { state.new ≡ further (with_task state.old i (record (task state.old i) { words = move.opened (task state.old i).words (task_entry state.old i).aimed })) }
+{
+    let aimed = entry_at(state, i).aimed;
+    let task = &mut state.tasks.items_mut()[i as usize];
+    task.words.gate = aimed;
+    state.releaser.place += 1;
+}
+
+// Puts the slot in front of the kept ones, and drops the last of these.
+fn keep(kept: &mut List<u32>, slot: u32)
+    ensures { kept.new ≡ take (length kept.old) (slot ∷ kept.old) }
+{
+    let kept = kept.items_mut();
+    if !kept.is_empty() {
+        kept.rotate_right(1);
+        kept[0] = slot;
+    }
+}
+
+fn aim_entry(entry: &mut TaskEntry, slot: u32)
+    requires { entry.old.aimed + 1 < 2 ^ 32 }
+    ensures { entry.new ≡ move.aimed entry.old slot }
+{
+    entry.aimed += 1;
+    keep(&mut entry.kept, entry.current);
+    entry.current = slot;
+}
+
+pub(crate) fn aim(state: &mut State, i: u32, slot: u32)
+    requires entries { i < length state.old.releaser.tasks }
+    requires tasks { i < length state.old.tasks }
+    requires aimed { (task_entry state.old i).aimed + 1 < 2 ^ 32 }
+    requires place { state.old.releaser.place + 1 < 2 ^ 32 }
+    ensures { state.new ≡ further (with_task (with_entry state.old i (move.aimed (task_entry state.old i) slot)) i (record (task state.old i) { words = move.aimed_words (task state.old i).words (move.aimed (task_entry state.old i) slot) })) }
+{
+    let entry = &mut state.releaser.tasks.items_mut()[i as usize];
+    aim_entry(entry, slot);
+    let number = entry.aimed;
+    let task = &mut state.tasks.items_mut()[i as usize];
+    task.words.aim = Order { slot, number };
+    state.releaser.place += 1;
+}
+
+// The slot that a claim takes over a link of this delay.
+fn claimed_slot(writer: &TaskEntry, delay: u32) -> u32
+    requires { delay < length writer.now.kept + 1 }
+    ensures { result ≡ move.claimed_slot delay writer.now.current writer.now.kept }
+{
+    if delay == 0 {
+        writer.current
+    } else {
+        writer.kept.items()[delay as usize - 1]
+    }
+}
+
+pub(crate) fn claim(wiring: &Wiring, state: &mut State, k: u32)
+    requires line { k < length wiring.now.links }
+    requires claims { k < length state.old.releaser.links }
+    requires orders { k < length state.old.orders }
+    requires writer { (line wiring.now k).writer < length state.old.releaser.tasks }
+    requires reader { (line wiring.now k).reader < length state.old.releaser.tasks }
+    requires kept { (line wiring.now k).delay < length (task_entry state.old (line wiring.now k).writer).kept + 1 }
+    requires place { state.old.releaser.place + 1 < 2 ^ 32 }
+    ensures { state.new ≡ further (with_claim state.old k (move.claimed (line wiring.now k).delay (task_entry state.old (line wiring.now k).writer) (task_entry state.old (line wiring.now k).reader))) }
+{
+    let line = wiring.links.items()[k as usize];
+    let writer = entry_at(state, line.writer);
+    let claim = LinkEntry {
+        slot: claimed_slot(writer, line.delay),
+        number: writer.aimed.saturating_sub(line.delay),
+        instance: entry_at(state, line.reader).aimed,
+    };
+    state.releaser.links.items_mut()[k as usize] = claim;
+    state.orders.items_mut()[k as usize] = Order {
+        slot: claim.slot,
+        number: claim.number,
+    };
+    state.releaser.place += 1;
+}

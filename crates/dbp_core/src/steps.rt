@@ -1,0 +1,270 @@
+// What the tasks' steps make of the state.
+
+ghost use Rattle.std.specs.Prelude.{◌≡◌, ◌+◌, ◌-◌, ◌<◌, ◌≤◌, ◌^◌, ℕ, length, map, pos, slice_index, slice_index_or, if◌then◌else◌};
+ghost use Rattle.dbp_plan.specs.Closed.{IsClosedTask, place_count};
+ghost use Rattle.dbp_plan.specs.Samples.{input_value};
+ghost use Rattle.dbp_core.specs.Moves as move;
+ghost use Rattle.dbp_core.specs.Places.{declared, line, order, read_at, slot_at, task, wired};
+ghost use Rattle.dbp_core.specs.Rules as rule;
+ghost use Rattle.dbp_core.specs.Rules.{with_part, with_task};
+ghost use Rattle.dbp_core.specs.Shapes.{HasSamples};
+
+use crate::conditions::own_time;
+use crate::look_up::{declared_at, task_at, wired_at};
+use crate::parts::{Order, Place};
+use crate::sensing::sense;
+use crate::state::{Slot, State};
+use crate::wiring::{TaskWiring, Wiring};
+use crate::work::Work;
+use dbp_plan::{Plan, Task};
+
+pub(crate) fn is_open(state: &State, i: u32) -> bool
+    requires task { i < length state.now.tasks }
+    requires ended { (task state.now i).part.ended + 1 < 2 ^ 32 }
+    ensures { result ≡ rule.is_open state.now i }
+{
+    let task = task_at(state, i);
+    task.words.gate == task.part.ended + 1
+}
+
+pub(crate) fn start(state: &mut State, i: u32)
+    requires { i < length state.old.tasks }
+    ensures { state.new ≡ with_part state.old i (move.at_place (task state.old i).part (Place.Hear 0)) }
+{
+    let task = &mut state.tasks.items_mut()[i as usize];
+    task.part.place = Place::Hear(0);
+}
+
+// Where a task goes behind so many of its reads.
+fn read_place(reads: u32, n: u32) -> Place
+    ensures { result ≡ move.read_place reads n }
+{
+    if n < reads {
+        Place::Look(n)
+    } else {
+        Place::Shut
+    }
+}
+
+// Where a task goes behind so many of its orders.
+fn hear_place(wired: &TaskWiring, n: u32) -> Place
+    requires { 1 + length wired.now.links < 2 ^ 32 }
+    ensures { result ≡ move.hear_place wired.now n }
+{
+    if n < 1 + wired.links.len() {
+        Place::Hear(n)
+    } else {
+        read_place(wired.reads.len(), 0)
+    }
+}
+
+// Where a task goes behind so many of its puts.
+fn put_place(ports: u32, p: u32) -> Place
+    ensures { result ≡ move.put_place ports p }
+{
+    if p < ports {
+        Place::Put(p)
+    } else {
+        Place::Done
+    }
+}
+
+// The order that the task hears at this place.
+pub(crate) fn order_word(wiring: &Wiring, state: &State, i: u32, n: u32) -> Order
+    requires wired { i < length wiring.now.tasks }
+    requires task { i < length state.now.tasks }
+    requires links { n ≤ length (wired wiring.now i).links }
+    requires orders { (j : ℕ) → j < length (wired wiring.now i).links → slice_index (wired wiring.now i).links j < length state.now.orders }
+    ensures { result ≡ rule.order_word wiring.now state.now i n }
+{
+    if n == 0 {
+        task_at(state, i).words.aim
+    } else {
+        let link = wired_at(wiring, i).links.items()[n as usize - 1];
+        state.orders.items()[link as usize]
+    }
+}
+
+pub(crate) fn hear(wiring: &Wiring, state: &mut State, i: u32, n: u32) -> Order
+    requires wired { i < length wiring.now.tasks }
+    requires task { i < length state.old.tasks }
+    requires links { n ≤ length (wired wiring.now i).links }
+    requires orders { (j : ℕ) → j < length (wired wiring.now i).links → slice_index (wired wiring.now i).links j < length state.old.orders }
+    requires room { length (task state.old i).part.heard.items < 17 }
+    requires few { 1 + length (wired wiring.now i).links < 2 ^ 32 }
+    requires small { n + 1 < 2 ^ 32 }
+    ensures order { result ≡ rule.order_word wiring.now state.old i n }
+    ensures next { state.new ≡ with_part state.old i (move.heard (wired wiring.now i) (task state.old i).part n (rule.order_word wiring.now state.old i n)) }
+{
+    let order = order_word(wiring, state, i, n);
+    let place = hear_place(wired_at(wiring, i), n + 1);
+    let task = &mut state.tasks.items_mut()[i as usize];
+    task.part.heard.push(order);
+    task.part.place = place;
+    order
+}
+
+// The slot that the task heard for the read of this turn.
+pub(crate) fn read_slot<'a>(wiring: &Wiring, state: &'a State, i: u32, n: u32) -> &'a Slot
+    requires wired { i < length wiring.now.tasks }
+    requires task { i < length state.now.tasks }
+    requires read { n < length (wired wiring.now i).reads }
+    requires heard { (read_at (wired wiring.now i) n).order < length (task state.now i).part.heard.items }
+    requires writer { (read_at (wired wiring.now i) n).writer < length state.now.tasks }
+    requires slot { (rule.read_order wiring.now state.now i n).slot < length (task state.now (read_at (wired wiring.now i) n).writer).words.slots }
+    ensures { result.now ≡ rule.read_slot wiring.now state.now i n }
+{
+    let read = wired_at(wiring, i).reads.items()[n as usize];
+    let order = task_at(state, i).part.heard.as_slice()[read.order as usize];
+    &task_at(state, read.writer).words.slots.items()[order.slot as usize]
+}
+
+pub(crate) fn is_ready(wiring: &Wiring, state: &State, i: u32, n: u32) -> bool
+    requires wired { i < length wiring.now.tasks }
+    requires task { i < length state.now.tasks }
+    requires read { n < length (wired wiring.now i).reads }
+    requires heard { (read_at (wired wiring.now i) n).order < length (task state.now i).part.heard.items }
+    requires writer { (read_at (wired wiring.now i) n).writer < length state.now.tasks }
+    requires slot { (rule.read_order wiring.now state.now i n).slot < length (task state.now (read_at (wired wiring.now i) n).writer).words.slots }
+    requires number { (rule.read_order wiring.now state.now i n).number + 1 < 2 ^ 32 }
+    ensures { result ≡ rule.is_ready wiring.now state.now i n }
+{
+    let read = wired_at(wiring, i).reads.items()[n as usize];
+    let order = task_at(state, i).part.heard.as_slice()[read.order as usize];
+    read_slot(wiring, state, i, n).stamp == order.number + 1
+}
+
+pub(crate) fn read_word(wiring: &Wiring, state: &State, i: u32, n: u32) -> i64
+    requires wired { i < length wiring.now.tasks }
+    requires task { i < length state.now.tasks }
+    requires read { n < length (wired wiring.now i).reads }
+    requires heard { (read_at (wired wiring.now i) n).order < length (task state.now i).part.heard.items }
+    requires writer { (read_at (wired wiring.now i) n).writer < length state.now.tasks }
+    requires slot { (rule.read_order wiring.now state.now i n).slot < length (task state.now (read_at (wired wiring.now i) n).writer).words.slots }
+    requires port { (read_at (wired wiring.now i) n).port < length (rule.read_slot wiring.now state.now i n).words }
+    ensures { result ≡ rule.read_word wiring.now state.now i n }
+{
+    let port = wired_at(wiring, i).reads.items()[n as usize].port;
+    read_slot(wiring, state, i, n).words.items()[port as usize]
+}
+
+// The slot of the read is ready.
+pub(crate) fn look(state: &mut State, i: u32, n: u32)
+    requires { i < length state.old.tasks }
+    ensures { state.new ≡ with_part state.old i (move.at_place (task state.old i).part (Place.Take n)) }
+{
+    let task = &mut state.tasks.items_mut()[i as usize];
+    task.part.place = Place::Take(n);
+}
+
+// The task takes the word, which is kept at this place of its environment.
+pub(crate) fn take(wiring: &Wiring, state: &mut State, i: u32, n: u32, kept: usize, word: i64)
+    requires wired { i < length wiring.now.tasks }
+    requires task { i < length state.old.tasks }
+    requires kept { kept < length (task state.old i).work.now }
+    requires small { n + 1 < 2 ^ 32 }
+    ensures { state.new ≡ with_task state.old i (record { words = (task state.old i).words; part = move.took (wired wiring.now i) (task state.old i).part n; work = move.with_now (task state.old i).work kept word }) }
+{
+    let place = read_place(wired_at(wiring, i).reads.len(), n + 1);
+    let task = &mut state.tasks.items_mut()[i as usize];
+    task.work.set(kept, word);
+    task.part.place = place;
+}
+
+pub(crate) fn put(wiring: &Wiring, state: &mut State, i: u32, port: u32)
+    requires wired { i < length wiring.now.tasks }
+    requires task { i < length state.old.tasks }
+    requires heard { 0 < length (task state.old i).part.heard.items }
+    requires slot { move.own_slot (task state.old i).part < length (task state.old i).words.slots }
+    requires word { port < length (slot_at (task state.old i).words.slots (move.own_slot (task state.old i).part)).words }
+    requires out { port < length (task state.old i).work.row }
+    requires small { port + 1 < 2 ^ 32 }
+    ensures { state.new ≡ with_task state.old i (record {
+      words = move.with_word (task state.old i).words (move.own_slot (task state.old i).part) port (slice_index_or (task state.old i).work.row port (pos 0));
+      part = move.at_place (task state.old i).part (move.put_place (wired wiring.now i).ports (port + 1));
+      work = (task state.old i).work;
+    }) }
+{
+    let place = put_place(wired_at(wiring, i).ports, port + 1);
+    let task = &mut state.tasks.items_mut()[i as usize];
+    let own = task.part.heard.as_slice()[0].slot;
+    let word = task.work.row().words()[port as usize];
+    let slot = &mut task.words.slots.items_mut()[own as usize];
+    slot.words.items_mut()[port as usize] = word;
+    task.part.place = place;
+}
+
+// The task's slot holds the outs of its running instance.
+pub(crate) fn finish(state: &mut State, i: u32)
+    requires task { i < length state.old.tasks }
+    requires heard { 0 < length (task state.old i).part.heard.items }
+    requires slot { move.own_slot (task state.old i).part < length (task state.old i).words.slots }
+    requires ended { (task state.old i).part.ended + 2 < 2 ^ 32 }
+    ensures { state.new ≡ with_task state.old i (record {
+      words = move.stamped (task state.old i).words (move.own_slot (task state.old i).part) ((task state.old i).part.ended + 2);
+      part = move.at_place (task state.old i).part Place.End;
+      work = (task state.old i).work;
+    }) }
+{
+    let task = &mut state.tasks.items_mut()[i as usize];
+    let own = task.part.heard.as_slice()[0].slot;
+    let slot = &mut task.words.slots.items_mut()[own as usize];
+    slot.stamp = task.part.ended + 2;
+    task.part.place = Place::End;
+}
+
+pub(crate) fn end(state: &mut State, i: u32)
+    requires task { i < length state.old.tasks }
+    requires ended { (task state.old i).part.ended + 1 < 2 ^ 32 }
+    ensures { state.new ≡ with_task state.old i (record {
+      words = move.with_ended (task state.old i).words ((task state.old i).part.ended + 1);
+      part = move.ended (task state.old i).part;
+      work = move.advanced (task state.old i).work;
+    }) }
+{
+    let task = &mut state.tasks.items_mut()[i as usize];
+    task.part.ended += 1;
+    task.words.ended = task.part.ended;
+    task.part.heard.clear();
+    task.part.place = Place::Idle;
+    task.work.advance();
+}
+
+// The task computes from its states, its senses at the time and what it has read, and marks its slot as unfinished.
+pub(crate) fn shut(plan: &Plan, wiring: &Wiring, state: &mut State, i: u32)
+    requires task { i < length state.old.tasks }
+    requires wired { i < length wiring.now.tasks }
+    requires declared { i < length plan.now.diagram.tasks }
+    requires closed { IsClosedTask (length plan.now.diagram.inputs) (length plan.now.diagram.events) (length plan.now.diagram.links) (declared plan.now i) }
+    requires samples { HasSamples plan.now wiring.now.samples }
+    requires heard { 0 < length (task state.old i).part.heard.items }
+    requires slot { move.own_slot (task state.old i).part < length (task state.old i).words.slots }
+    requires now { length (task state.old i).work.now ≡ place_count (declared plan.now i) }
+    requires later { length (task state.old i).work.later ≡ length (declared plan.now i).states }
+    ensures { state.new ≡ with_task state.old i (record {
+      words = move.stamped (task state.old i).words (move.own_slot (task state.old i).part) 0;
+      part = move.at_place (task state.old i).part (Place.Put 0);
+      work = move.worked (declared plan.now i) (rule.sensed plan.now wiring.now state.old i) (task state.old i).work;
+    }) }
+{
+    let time = own_time(wiring, state, i);
+    let declared = declared_at(plan, i);
+    let task = &mut state.tasks.items_mut()[i as usize];
+    let own = task.part.heard.as_slice()[0].slot;
+    let slot = &mut task.words.slots.items_mut()[own as usize];
+    slot.stamp = 0;
+    work_on(plan, wiring, declared, &mut task.work, time);
+    task.part.place = Place::Put(0);
+}
+
+// One instance at the time.
+fn work_on(plan: &Plan, wiring: &Wiring, task: &Task, work: &mut Work, time: u64)
+    requires closed { IsClosedTask (length plan.now.diagram.inputs) (length plan.now.diagram.events) (length plan.now.diagram.links) task.now }
+    requires samples { HasSamples plan.now wiring.now.samples }
+    requires now { length work.old.now ≡ place_count task.now }
+    requires later { length work.old.later ≡ length task.now.states }
+    ensures { work.new ≡ move.worked task.now (map (λ x. input_value plan.now.diagram.inputs plan.now.samples x.input time) task.now.senses) work.old }
+{
+    sense(plan, wiring, task, work, time);
+    work.compute(task);
+}

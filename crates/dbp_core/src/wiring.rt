@@ -1,0 +1,46 @@
+// What the steps look up in a plan, made once.
+
+use crate::Count;
+use dbp_plan::{Link, List, Sample};
+use release_list::Release;
+
+/// A read of a task, at its turn.
+#[derive(Clone, Copy, Debug, PartialEq, Eq)]
+pub struct ReadWiring {
+    /// Its number among the task's reads.
+    pub read: u32,
+    /// The place of its link's order among those that the task hears.
+    pub order: u32,
+    /// The task that it reads.
+    pub writer: u32,
+    /// The writer's out.
+    pub port: u32,
+}
+
+/// A task, as the steps see it.
+#[derive(Drop)]
+pub struct TaskWiring {
+    pub ports: u32,
+    pub slots: u32,
+    /// How many slots before the current one are kept: the longest delay of its links.
+    pub kept: u32,
+    pub rank: u32,
+    /// The times of its instances.
+    pub times: List<u64>,
+    /// The links into it.
+    pub links: List<u32>,
+    /// Its reads in the order of their turns: by the tick of the task's service, then by declaration.
+    pub reads: List<ReadWiring>,
+}
+
+/// What the steps look up in a plan.
+#[derive(Drop)]
+pub struct Wiring {
+    pub count: Count,
+    pub tasks: List<TaskWiring>,
+    pub links: List<Link>,
+    /// The releaser's actions, in order.
+    pub releases: List<Release>,
+    /// The samples of each input.
+    pub samples: List<List<Sample>>,
+}

@@ -1,0 +1,5 @@
+pub mod Blocks
+pub mod Fillings
+pub mod FreeSlots
+pub mod Links
+pub mod Seats

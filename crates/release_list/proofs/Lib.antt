@@ -1,0 +1,7 @@
+pub mod BatchParts
+pub mod Counts
+pub mod IntoLinks
+pub mod Located
+pub mod Room
+pub mod Schedules
+pub mod TaskTimes

@@ -1,0 +1,30 @@
+-- The releaser's actions, in order.
+use Rattle.std.specs.Prelude.{ℕ, ◌==◌, List, ◌++◌, length, map, filter}
+use Rattle.std.specs.List.{flat_map, range_with_len}
+use Rattle.dbp_plan.specs.declared.diagram.Link.{Link}
+use Rattle.dbp_plan.specs.declared.schedule.Batch.{Batch}
+use Rattle.release_list.specs.declared.release.Release.{Release}
+use Rattle.release_list.specs.declared.release.Release.TheVariants.{Aim, Claim, Open}
+use Rattle.release_list.specs.Links.{link_at}
+
+-- the numbers of the links into the task among the first so many links, and among all, in order
+abbrev pub into_among : List Link → ℕ → ℕ → List ℕ
+into_among links task count = filter (λ k. (link_at links k).reader == task) (range_with_len 0 count)
+
+abbrev pub links_into : List Link → ℕ → List ℕ
+links_into links task = into_among links task (length links)
+
+-- the claims for the task's next instance, and for those of all these tasks
+abbrev pub claims_into : List Link → ℕ → List Release
+claims_into links task = map Claim (links_into links task)
+
+abbrev pub claims_of : List Link → List ℕ → List Release
+claims_of links tasks = flat_map (claims_into links) tasks
+
+-- a batch: all aims, then all claims, then all gates
+abbrev pub releases_at : List Link → Batch → List Release
+releases_at links batch = map Aim batch.tasks ++ (claims_of links batch.tasks ++ map Open batch.tasks)
+
+-- the whole plan, batch by batch
+abbrev pub releases_of : List Link → List Batch → List Release
+releases_of links batches = flat_map (releases_at links) batches
