@@ -3,7 +3,7 @@ use Rattle.std.proofs.Common.{◌≡◌, ℕ, Bool, true, false, Option, Some, N
 use Rattle.std.specs.Prelude.{◌==◌, if◌then◌else◌}
 use Rattle.std.proofs.lemmas.Bool.{cases_Bool, eqb-true}
 use Rattle.release_list.specs.declared.release.Release.{Release}
-use Rattle.release_list.specs.declared.release.Release.TheVariants.{Aim, Claim, Open}
+use Rattle.release_list.specs.declared.release.Release.TheVariants.{Aim, Claim, OpenGate}
 use Rattle.dbp_core.specs.Rules.{is_next, or_else, place_kind, release_kind, unless}
 use Rattle.dbp_core.specs.Shapes.{place_number}
 use Rattle.dbp_core.specs.declared.parts.Place.{Place}
@@ -32,19 +32,19 @@ pub at_aim : (o : Option Release) (i : ℕ) → (release_kind o).0 ≡ 2 → (re
 at_aim None i kind is = absurd (omega arith)
 at_aim (Some (Aim j)) i kind is = ap (λ n. Some (Aim n)) is
 at_aim (Some (Claim j)) i kind is = absurd (omega arith)
-at_aim (Some (Open j)) i kind is = absurd (omega arith)
+at_aim (Some (OpenGate j)) i kind is = absurd (omega arith)
 
 pub at_claim : (o : Option Release) (k : ℕ) → (release_kind o).0 ≡ 3 → (release_kind o).1 ≡ k → o ≡ Some (Claim k)
 at_claim None k kind is = absurd (omega arith)
 at_claim (Some (Aim j)) k kind is = absurd (omega arith)
 at_claim (Some (Claim j)) k kind is = ap (λ n. Some (Claim n)) is
-at_claim (Some (Open j)) k kind is = absurd (omega arith)
+at_claim (Some (OpenGate j)) k kind is = absurd (omega arith)
 
-pub at_open : (o : Option Release) (i : ℕ) → (release_kind o).0 ≡ 4 → (release_kind o).1 ≡ i → o ≡ Some (Open i)
+pub at_open : (o : Option Release) (i : ℕ) → (release_kind o).0 ≡ 4 → (release_kind o).1 ≡ i → o ≡ Some (OpenGate i)
 at_open None i kind is = absurd (omega arith)
 at_open (Some (Aim j)) i kind is = absurd (omega arith)
 at_open (Some (Claim j)) i kind is = absurd (omega arith)
-at_open (Some (Open j)) i kind is = ap (λ n. Some (Open n)) is
+at_open (Some (OpenGate j)) i kind is = ap (λ n. Some (OpenGate n)) is
 
 -- the place of this kind with this number
 abbrev pub place_of : ℕ → ℕ → Place

@@ -6,7 +6,7 @@ use Rattle.std.proofs.lemmas.List.Sums.{count_by_more_no, count_by_more_yes}
 use Rattle.std.proofs.lemmas.Option.{get_or_from_slice_get, slice_get_within}
 use Rattle.release_list.specs.Schedule.{aims, is_aim}
 use Rattle.release_list.specs.declared.release.Release.{Release}
-use Rattle.release_list.specs.declared.release.Release.TheVariants.{Aim, Claim, Open}
+use Rattle.release_list.specs.declared.release.Release.TheVariants.{Aim, Claim, OpenGate}
 
 -- a count of what stands before a place, one place further
 pub count_more : {X : Type 0} (test : X → Bool) (xs : List X) (n : ℕ) (x : X) → slice_get xs n ≡ Some x → count_by test (take (n + 1) xs) ≡ count_by test (take n xs) + cond (test x) 1 0
@@ -27,5 +27,5 @@ aims_other rs n i j here other = count_more (is_aim j) rs n (Aim i) here ∙ rw 
 pub aims_claim : (rs : List Release) (n k j : ℕ) → slice_get rs n ≡ Some (Claim k) → aims rs (n + 1) j ≡ aims rs n j
 aims_claim rs n k j here = count_more (is_aim j) rs n (Claim k) here ∙ omega arith
 
-pub aims_open : (rs : List Release) (n i j : ℕ) → slice_get rs n ≡ Some (Open i) → aims rs (n + 1) j ≡ aims rs n j
-aims_open rs n i j here = count_more (is_aim j) rs n (Open i) here ∙ omega arith
+pub aims_open : (rs : List Release) (n i j : ℕ) → slice_get rs n ≡ Some (OpenGate i) → aims rs (n + 1) j ≡ aims rs n j
+aims_open rs n i j here = count_more (is_aim j) rs n (OpenGate i) here ∙ omega arith

@@ -6,7 +6,7 @@ use Rattle.std.proofs.lemmas.List.FromFn.{get_or-map-range_with_len, length-rang
 use Rattle.std.proofs.Math.ListN.{get_or-map}
 use Rattle.dbp_plan.specs.declared.plan.Plan.{Plan}
 use Rattle.dbp_plan.specs.Closed.{place_count}
-use Rattle.dbp_core.specs.Places.{declared, line, no_link_entry, no_order, no_slot, no_task, no_task_wiring, slot_at, task, task_entry, wired}
+use Rattle.dbp_core.specs.Places.{declared, link, no_link_entry, no_order, no_slot, no_task, no_task_wiring, slot_at, task, task_entry, wired}
 use Rattle.dbp_core.specs.Shapes.{EntryShape, IsShape, IsTaskWired, IsWired, SlotsFit, TaskShape}
 use Rattle.dbp_core.specs.Start.{first_row, first_states, start_entry, start_of, start_slots, start_task}
 use Rattle.dbp_core.specs.declared.state.Slot.{Slot}
@@ -67,6 +67,6 @@ start_shape p w whole =
       each_entry = λ i below. rw (entries i below) (entry_shape (wired w i) (whole.each_task i below).some_slot);
       each_task = λ i below. rw (entries i below, tasks i below) (task_shape p w i (whole.each_task i below));
       each_link = λ k below.
-          let some : 0 < (wired w (line w k).writer).slots = (whole.each_task (line w k).writer (whole.writer k below)).some_slot in
+          let some : 0 < (wired w (link w k).writer).slots = (whole.each_task (link w k).writer (whole.writer k below)).some_slot in
           rw (repeated (length w.links) k no_link_entry, repeated (length w.links) k no_order) (record { claim = (some, omega arith); order = (some, omega arith) });
     }

@@ -10,7 +10,7 @@ use Rattle.dbp_plan.specs.Closed.{let_base}
 use Rattle.release_list.specs.Schedule.{aims}
 use Rattle.release_list.specs.declared.release.Release.TheVariants as release
 use Rattle.dbp_core.specs.Moves as move
-use Rattle.dbp_core.specs.Places.{declared, line, task, task_entry, wired}
+use Rattle.dbp_core.specs.Places.{declared, link, task, task_entry, wired}
 use Rattle.dbp_core.specs.Rules as rule
 use Rattle.dbp_core.specs.Shapes.{EntryShape, IsShape, IsTaskWired, OrderFits, PlaceIn, TaskShape, heard_by, link_in, place_number, running, slot_owner}
 use Rattle.dbp_core.specs.Work.{WorkWords}
@@ -93,18 +93,18 @@ module _ (p : Plan) (w : Wiring) (s : State) (shape : IsShape p w s) where
   claim_kept k below free =
       let next = next_none broken.Place (rule.release_kind (slice_get w.releases s.releaser.place)) 3 k free in
       let here : slice_get w.releases s.releaser.place ≡ Some (release.Claim k) = at_claim (slice_get w.releases s.releaser.place) k next.0 next.1 in
-      let writer : (line w k).writer < length w.tasks = shape.wiring.writer k below in
-      let e : EntryShape (wired w (line w k).writer) (task_entry s (line w k).writer) = shape.each_entry (line w k).writer writer in
-      let slot : move.claimed_slot (line w k).delay (task_entry s (line w k).writer).current (task_entry s (line w k).writer).kept < (wired w (line w k).writer).slots =
-      claimed_fits (wired w (line w k).writer).slots (wired w (line w k).writer).kept (line w k).delay (task_entry s (line w k).writer) e.current e.kept_slots (shape.wiring.delay k below) in
-      let number : (task_entry s (line w k).writer).aimed - (line w k).delay ≤ MAX_OCCURRENCES = omega (arith, aimed_few (line w k).writer writer) in
-      let c = move.claimed (line w k).delay (task_entry s (line w k).writer) (task_entry s (line w k).reader) in
+      let writer : (link w k).writer < length w.tasks = shape.wiring.writer k below in
+      let e : EntryShape (wired w (link w k).writer) (task_entry s (link w k).writer) = shape.each_entry (link w k).writer writer in
+      let slot : move.claimed_slot (link w k).delay (task_entry s (link w k).writer).current (task_entry s (link w k).writer).kept < (wired w (link w k).writer).slots =
+      claimed_fits (wired w (link w k).writer).slots (wired w (link w k).writer).kept (link w k).delay (task_entry s (link w k).writer) e.current e.kept_slots (shape.wiring.delay k below) in
+      let number : (task_entry s (link w k).writer).aimed - (link w k).delay ≤ MAX_OCCURRENCES = omega (arith, aimed_few (link w k).writer writer) in
+      let c = move.claimed (link w k).delay (task_entry s (link w k).writer) (task_entry s (link w k).reader) in
       further_on p w (rule.with_claim s k c) (claim_changes p w s k c shape below (record { claim = (slot, number); order = (slot, number) })) (λ j. aims_claim w.releases s.releaser.place k j here)
 
   open_kept : (i : ℕ) → i < length w.tasks → rule.refusal w s (OpenGate i) ≡ None → IsShape p w (rule.next p w s (OpenGate i))
   open_kept i below free =
       let next = next_none broken.Place (rule.release_kind (slice_get w.releases s.releaser.place)) 4 i free in
-      let here : slice_get w.releases s.releaser.place ≡ Some (release.Open i) = at_open (slice_get w.releases s.releaser.place) i next.0 next.1 in
+      let here : slice_get w.releases s.releaser.place ≡ Some (release.OpenGate i) = at_open (slice_get w.releases s.releaser.place) i next.0 next.1 in
       let ok : TaskShape w (declared p i) i (task_entry s i).aimed (task s i) = shape.each_task i below in
       let t = record (task s i) { words = move.opened (task s i).words (task_entry s i).aimed } in
       further_on p w (rule.with_task s i t) (task_changes p w s i t shape below (record {
@@ -227,7 +227,7 @@ module _ (p : Plan) (w : Wiring) (s : State) (shape : IsShape p w s) where
   step_kept (End i) named free = end_on i (there i named) (at_step i 12 0 _ free)
 
 -- so does a step that is asked for, allowed or not
-answers_kept : (why : Option Illegal) (p : Plan) (w : Wiring) (s new : State) (e : Step) (result : Result Heard Illegal) → IsShape p w s → (why ≡ None → IsShape p w (rule.next p w s e)) → rule.Answers why p w s e result new → IsShape p w new
+answers_kept : (why : Option Illegal) (p : Plan) (w : Wiring) (s new : State) (e : Step) (result : Result Heard Illegal) → IsShape p w s → (why ≡ None → IsShape p w (rule.next p w s e)) → rule.IsAnswer why p w s e result new → IsShape p w new
 answers_kept None p w s new e result shape go is = subst (λ (x : State). IsShape p w x) (sym is.1) (go refl)
 answers_kept (Some x) p w s new e result shape go is = subst (λ (x : State). IsShape p w x) (sym is.1) shape
 

@@ -16,7 +16,7 @@ use Rattle.dbp_core.specs.declared.step.Count.{Count}
 use Rattle.dbp_core.specs.declared.step.Count.TheVariants.{Ranked, All}
 use Rattle.dbp_core.specs.declared.wiring.TaskWiring.{TaskWiring}
 use Rattle.dbp_core.specs.declared.wiring.Wiring.{Wiring}
-use Rattle.dbp_core.specs.Places.{declared, line, no_declared, no_read_wiring, read_at, wired}
+use Rattle.dbp_core.specs.Places.{declared, link, no_declared, no_read_wiring, read_at, wired}
 use Rattle.dbp_core.specs.Shapes.{IsReadWired, IsTaskWired, IsWired, link_in, slot_owner}
 use Rattle.dbp_core.specs.Wired.{in_turn, no_read, read_wiring, slot_count, task_wiring, wiring_of}
 use Rattle.dbp_core.proofs.IntoTask.{into_below, into_no_more, link_below, link_place, link_there}
@@ -71,7 +71,7 @@ module _ (p : Plan) (count : Count) where
       linked = link_below d closed i t here m r at
 
       owner : slot_owner w i (suc place) ≡ (link_at d.links r.link).writer
-      owner = ap (λ (x : TaskWiring). (line w (link_in x place)).writer) is ∙ ap (λ k. (link_at d.links k).writer) (link_there d closed i t here m r at)
+      owner = ap (λ (x : TaskWiring). (link w (link_in x place)).writer) is ∙ ap (λ k. (link_at d.links k).writer) (link_there d closed i t here m r at)
 
       next : suc place ≡ 1 + place
       next = omega arith
@@ -121,7 +121,7 @@ module _ (p : Plan) (count : Count) where
     task_wired : IsTaskWired p w i (wired w i)
     task_wired = rw is made_wired
 
-  delay : (k : ℕ) → k < length d.links → (line w k).delay ≤ (wired w (line w k).writer).kept
+  delay : (k : ℕ) → k < length d.links → (link w k).delay ≤ (wired w (link w k).writer).kept
   delay k below = rw (wired_is p count (link_at d.links k).writer (writer_below k below)) (delay_kept d.links k below)
 
 pub wiring-whole : (p : Plan) (count : Count) → IsWired p (wiring_of p count)

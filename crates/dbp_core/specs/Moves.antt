@@ -21,7 +21,7 @@ use Rattle.dbp_core.specs.Places.{no_order, slot_at}
 abbrev pub seen : TaskEntry → ℕ → TaskEntry
 seen t ended = record t { known = ended }
 
--- the next instance is to fill the slot: the current one becomes the first of those that are kept, the last is dropped
+-- one instance more is aimed, at the slot: the current slot becomes the first kept one, and the last kept one is dropped
 abbrev pub aimed : TaskEntry → ℕ → TaskEntry
 aimed t slot = record { known = t.known; aimed = t.aimed + 1; current = slot; kept = take (length t.kept) (t.current ∷ t.kept) }
 
@@ -30,7 +30,7 @@ abbrev pub claimed_slot : ℕ → ℕ → List ℕ → ℕ
 claimed_slot zero current kept = current
 claimed_slot (suc d) current kept = slice_index_or kept d 0
 
--- the next instance of the reader is to read what the writer's last instance fills, or so many before that one
+-- the reader's last aimed instance is to read the row of the writer's last aimed one, less the delay
 abbrev pub claimed : ℕ → TaskEntry → TaskEntry → LinkEntry
 claimed delay writer reader = record { slot = claimed_slot delay writer.current writer.kept; number = writer.aimed - delay; instance = reader.aimed }
 
@@ -38,6 +38,7 @@ claimed delay writer reader = record { slot = claimed_slot delay writer.current 
 abbrev pub ordered : LinkEntry → Order
 ordered c = record { slot = c.slot; number = c.number }
 
+-- the words of a task that was aimed, and of one whose gate was opened for this instance
 abbrev pub aimed_words : TaskWords → TaskEntry → TaskWords
 aimed_words w t = record w { aim = record { slot = t.current; number = t.aimed } }
 
@@ -67,6 +68,7 @@ at_place t p = record t { place = p }
 abbrev pub started : TaskPart → Bool → TaskPart
 started t open_ = if open_ then at_place t (place.Hear 0) else t
 
+-- it has heard the order with this number
 abbrev pub heard : TaskWiring → TaskPart → ℕ → Order → TaskPart
 heard w t n o = record { ended = t.ended; place = hear_place w (n + 1); heard = record { items = t.heard.items ++ o ∷ [] } }
 
@@ -74,9 +76,11 @@ heard w t n o = record { ended = t.ended; place = hear_place w (n + 1); heard = 
 abbrev pub looked : TaskPart → ℕ → Bool → TaskPart
 looked t n ready = if ready then at_place t (place.Take n) else t
 
+-- it has taken the word of this turn
 abbrev pub took : TaskWiring → TaskPart → ℕ → TaskPart
 took w t n = at_place t (read_place (length w.reads) (n + 1))
 
+-- its instance has ended, and what it heard is dropped
 abbrev pub ended : TaskPart → TaskPart
 ended t = record { ended = t.ended + 1; place = place.Idle; heard = record { items = [] } }
 
@@ -122,6 +126,6 @@ with_senses task senses w = record w { now = take (length task.states) w.now ++ 
 abbrev pub worked : Task → List ℤ → WorkWords → WorkWords
 worked task senses w = computed task (take (let_base task) (with_senses task senses w).now)
 
--- the states after the instance become those before the next one
+-- the states after the instance become those before the next one; the other words and the row stay, and are written over
 abbrev pub advanced : WorkWords → WorkWords
 advanced w = record w { now = w.later ++ drop (length w.later) w.now }

@@ -73,8 +73,8 @@ declared p i = slice_index_or p.diagram.tasks i no_declared
 abbrev pub wired : Wiring → ℕ → TaskWiring
 wired w i = slice_index_or w.tasks i no_task_wiring
 
-abbrev pub line : Wiring → ℕ → Link
-line w k = link_at w.links k
+abbrev pub link : Wiring → ℕ → Link
+link w k = link_at w.links k
 
 -- the read whose turn this is
 abbrev pub read_at : TaskWiring → ℕ → ReadWiring
@@ -85,9 +85,9 @@ abbrev pub time : TaskWiring → ℕ → ℕ
 time t n = slice_index_or t.times (n - 1) 0
 
 -- a link from a writer of this rank to a reader of that one keeps the writer from a slot
-abbrev pub counts : Count → ℕ → ℕ → Bool
-counts All writer reader = true
-counts Ranked writer reader = nat_lt writer reader
+abbrev pub counts_link : Count → ℕ → ℕ → Bool
+counts_link All writer reader = true
+counts_link Ranked writer reader = nat_lt writer reader
 
 abbrev pub is_counted : Wiring → ℕ → Bool
-is_counted w k = counts w.count (wired w (line w k).writer).rank (wired w (line w k).reader).rank
+is_counted w k = counts_link w.count (wired w (link w k).writer).rank (wired w (link w k).reader).rank

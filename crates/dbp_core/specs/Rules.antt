@@ -8,7 +8,7 @@ use Rattle.dbp_plan.specs.Samples.{input_value}
 use Rattle.release_list.specs.declared.release.Release.{Release}
 use Rattle.release_list.specs.declared.release.Release.TheVariants as release
 use Rattle.dbp_core.specs.Moves as move
-use Rattle.dbp_core.specs.Places.{declared, task, task_entry, link_entry, order, slot_at, wired, line, read_at, time, is_counted}
+use Rattle.dbp_core.specs.Places.{declared, task, task_entry, link_entry, order, slot_at, wired, link, read_at, time, is_counted}
 use Rattle.dbp_core.specs.declared.parts.LinkEntry.{LinkEntry}
 use Rattle.dbp_core.specs.declared.parts.Order.{Order}
 use Rattle.dbp_core.specs.declared.parts.Place.{Place}
@@ -47,10 +47,12 @@ with_claim s k c = record { releaser = record s.releaser { links = slice_set s.r
 
 -- ---- conditions, each with the two values that it compares
 
+-- the first of two broken conditions
 abbrev pub or_else : Option Illegal → Option Illegal → Option Illegal
 or_else (Some x) y = Some x
 or_else None y = y
 
+-- broken where the test fails, with these values
 abbrev pub unless : Bool → Broken → ℕ → ℕ → Option Illegal
 unless true b l r = None
 unless false b l r = Some (record { broken = b; left = l; right = r })
@@ -67,7 +69,7 @@ abbrev pub release_kind : Option Release → ℕ × ℕ
 release_kind None = (0, 0)
 release_kind (Some (release.Aim i)) = (2, i)
 release_kind (Some (release.Claim k)) = (3, k)
-release_kind (Some (release.Open i)) = (4, i)
+release_kind (Some (release.OpenGate i)) = (4, i)
 
 -- the kind of a task's next step and its read or port
 abbrev pub place_kind : TaskWiring → Place → ℕ × ℕ
@@ -84,13 +86,14 @@ place_kind t place.End = (12, 0)
 abbrev pub is_next : Broken → ℕ × ℕ → ℕ → ℕ → Option Illegal
 is_next b next kind operand = if next.0 == kind then unless (next.1 == operand) b next.0 13 else unless false b next.0 kind
 
+-- of the releaser, and of a task
 abbrev pub releases_next : Wiring → State → ℕ → ℕ → Option Illegal
 releases_next w s kind operand = is_next broken.Place (release_kind (slice_get w.releases s.releaser.place)) kind operand
 
 abbrev pub steps_next : Wiring → State → ℕ → ℕ → ℕ → Option Illegal
 steps_next w s i kind operand = is_next broken.TaskPlace (place_kind (wired w i) (task s i).part.place) kind operand
 
--- the slots that stay kept when the task is aimed
+-- the slots that are kept behind an aim of the task: what was current, and the kept ones but the last
 abbrev pub staying : TaskEntry → List ℕ
 staying t = take (length t.kept) (t.current ∷ t.kept)
 
@@ -99,18 +102,18 @@ stays_kept t slot = list_any (λ k. k == slot) (staying t)
 
 -- a counted link from the task claims the slot for an instance that isn't known to have ended
 abbrev pub claims_slot : Wiring → State → ℕ → ℕ → ℕ → Bool
-claims_slot w s i slot k = ((line w k).writer == i) && (is_counted w k && (nat_lt (task_entry s (line w k).reader).known (link_entry s k).instance && ((link_entry s k).slot == slot)))
+claims_slot w s i slot k = ((link w k).writer == i) && (is_counted w k && (nat_lt (task_entry s (link w k).reader).known (link_entry s k).instance && ((link_entry s k).slot == slot)))
 
 -- the least number below n that passes
 abbrev pub least : (ℕ → Bool) → ℕ → Option ℕ
 least f zero = None
 least f (suc n) = option_or (least f n) (if f n then Some n else None)
 
--- the time of the task's instance that is unfinished, or of its next one; 0 behind the last
+-- the time of the task's first instance that hasn't ended; 0 where all have
 abbrev pub own_time : Wiring → State → ℕ → ℕ
 own_time w s i = time (wired w i) ((task s i).part.ended + 1)
 
--- task r is ranked above task i, and has an unfinished instance that was released no later than that of i
+-- task r is ranked above task i, and has an instance that hasn't ended and that was aimed no later than that of i
 abbrev pub blocks : Wiring → State → ℕ → ℕ → Bool
 blocks w s i r = nat_lt (wired w r).rank (wired w i).rank && (nat_lt (task s r).part.ended (task_entry s r).aimed && nat_le (own_time w s r) (own_time w s i))
 
@@ -131,6 +134,7 @@ unblocked count.Ranked w s i = none_of (highest w (blocks w s i) (length w.tasks
 
 -- ---- what is loaded
 
+-- the gate is open for the task's next instance
 abbrev pub is_open : State → ℕ → Bool
 is_open s i = (task s i).words.gate == (task s i).part.ended + 1
 
@@ -158,9 +162,11 @@ read_order w s i n = move.heard_order (task s i).part (read_at (wired w i) n).or
 abbrev pub read_slot : Wiring → State → ℕ → ℕ → Slot
 read_slot w s i n = slot_at (task s (read_at (wired w i) n).writer).words.slots (read_order w s i n).slot
 
+-- the slot holds the row that was ordered
 abbrev pub is_ready : Wiring → State → ℕ → ℕ → Bool
 is_ready w s i n = (read_slot w s i n).stamp == (read_order w s i n).number + 1
 
+-- the word of the read's port in it
 abbrev pub read_word : Wiring → State → ℕ → ℕ → ℤ
 read_word w s i n = slice_index_or (read_slot w s i n).words (read_at (wired w i) n).port (pos 0)
 
@@ -209,7 +215,7 @@ next p w s (Seen i) = with_entry s i (move.seen (task_entry s i) (task s i).word
 next p w s (Aim i slot) =
     let t = move.aimed (task_entry s i) slot in
     further (with_task (with_entry s i t) i (record (task s i) { words = move.aimed_words (task s i).words t }))
-next p w s (Claim k) = further (with_claim s k (move.claimed (line w k).delay (task_entry s (line w k).writer) (task_entry s (line w k).reader)))
+next p w s (Claim k) = further (with_claim s k (move.claimed (link w k).delay (task_entry s (link w k).writer) (task_entry s (link w k).reader)))
 next p w s (OpenGate i) = further (with_task s i (record (task s i) { words = move.opened (task s i).words (task_entry s i).aimed }))
 next p w s (Start i) = with_part s i (move.started (task s i).part (is_open s i))
 next p w s (Hear i) = let n = hears_at (task s i).part.place in with_part s i (move.heard (wired w i) (task s i).part n (order_word w s i n))
@@ -238,13 +244,14 @@ next p w s (End i) = with_task s i (record {
   work = move.advanced (task s i).work;
 })
 
-abbrev pub Answers : Option Illegal → Plan → Wiring → State → Step → Result Heard Illegal → State → Type 0
-Answers None p w s e result new = (result ≡ Ok (hears w s e)) × (new ≡ next p w s e)
-Answers (Some why) p w s e result new = (result ≡ Err why) × (new ≡ s)
+-- a step that is allowed, and one that is refused
+abbrev pub IsAnswer : Option Illegal → Plan → Wiring → State → Step → Result Heard Illegal → State → Type 0
+IsAnswer None p w s e result new = (result ≡ Ok (hears w s e)) × (new ≡ next p w s e)
+IsAnswer (Some why) p w s e result new = (result ≡ Err why) × (new ≡ s)
 
 -- one step: what is heard and the next state, or the first broken condition and the same state
 abbrev pub IsStep : Plan → Wiring → State → Step → Result Heard Illegal → State → Type 0
-IsStep p w s e result new = Answers (refusal w s e) p w s e result new
+IsStep p w s e result new = IsAnswer (refusal w s e) p w s e result new
 
 -- the task or the link that a step names is there
 abbrev pub IsNamed : Diagram → Step → Type 0

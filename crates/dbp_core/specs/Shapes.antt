@@ -8,7 +8,7 @@ use Rattle.dbp_plan.specs.Closed.{IsClosedTask, place_count}
 use Rattle.dbp_plan.specs.Occurrences.{times_of}
 use Rattle.release_list.specs.Schedule.{IsSchedule, aims}
 use Rattle.dbp_core.specs.Moves.{heard_order}
-use Rattle.dbp_core.specs.Places.{declared, line, link_entry, order, read_at, slot_at, task, task_entry, wired}
+use Rattle.dbp_core.specs.Places.{declared, link, link_entry, order, read_at, slot_at, task, task_entry, wired}
 use Rattle.dbp_core.specs.declared.parts.LinkEntry.{LinkEntry}
 use Rattle.dbp_core.specs.declared.parts.Order.{Order}
 use Rattle.dbp_core.specs.declared.parts.Place.{Place}
@@ -35,7 +35,7 @@ link_in t n = slice_index_or t.links n 0
 -- the task whose slot the order at this place names: the task itself, then the writer of each link
 abbrev pub slot_owner : Wiring → ℕ → ℕ → ℕ
 slot_owner w i zero = i
-slot_owner w i (suc n) = (line w (link_in (wired w i) n)).writer
+slot_owner w i (suc n) = (link w (link_in (wired w i) n)).writer
 
 -- a read's order is one that its task hears over a link, and its port is one of the writer's
 pub record IsReadWired (w : Wiring) (reads i : ℕ) (r : ReadWiring) : Type 0 where
@@ -45,6 +45,7 @@ pub record IsReadWired (w : Wiring) (reads i : ℕ) (r : ReadWiring) : Type 0 wh
   pub writer : r.writer < length w.tasks
   pub port : r.port < (wired w r.writer).ports
 
+-- the wiring of a task is that of the plan, and what it names is there
 pub record IsTaskWired (p : Plan) (w : Wiring) (i : ℕ) (t : TaskWiring) : Type 0 where
   pub closed : IsClosedTask (length p.diagram.inputs) (length p.diagram.events) (length p.diagram.links) (declared p i)
   pub times : t.times ≡ times_of p.batches i
@@ -61,9 +62,9 @@ pub record IsTaskWired (p : Plan) (w : Wiring) (i : ℕ) (t : TaskWiring) : Type
 pub record IsWired (p : Plan) (w : Wiring) : Type 0 where
   pub tasks : length w.tasks ≡ length p.diagram.tasks
   pub links : w.links ≡ p.diagram.links
-  pub writer : (k : ℕ) → k < length w.links → (line w k).writer < length w.tasks
-  pub reader : (k : ℕ) → k < length w.links → (line w k).reader < length w.tasks
-  pub delay : (k : ℕ) → k < length w.links → (line w k).delay ≤ (wired w (line w k).writer).kept
+  pub writer : (k : ℕ) → k < length w.links → (link w k).writer < length w.tasks
+  pub reader : (k : ℕ) → k < length w.links → (link w k).reader < length w.tasks
+  pub delay : (k : ℕ) → k < length w.links → (link w k).delay ≤ (wired w (link w k).writer).kept
   pub each_task : (i : ℕ) → i < length w.tasks → IsTaskWired p w i (wired w i)
   pub samples : HasSamples p w.samples
   pub releases : IsSchedule p.diagram p.batches w.releases
@@ -71,7 +72,7 @@ pub record IsWired (p : Plan) (w : Wiring) : Type 0 where
 
 -- ---- of a state
 
--- the number of an order, a turn or a port at a place, and how many the task has there
+-- the number of an order, a turn or a port at a place
 abbrev pub place_number : Place → ℕ
 place_number Idle = 0
 place_number (Hear n) = n
@@ -82,6 +83,7 @@ place_number (Put p) = p
 place_number Done = 0
 place_number End = 0
 
+-- how many of them the task has there
 abbrev pub place_count_at : TaskWiring → Place → ℕ
 place_count_at t Idle = 1
 place_count_at t (Hear n) = 1 + length t.links
@@ -96,7 +98,7 @@ place_count_at t End = 1
 abbrev pub PlaceIn : TaskWiring → Place → Type 0
 PlaceIn t q = place_number q < place_count_at t q
 
--- 1 where the task has an instance that hasn't ended
+-- 1 where the task has started an instance that hasn't ended
 abbrev pub running : Place → ℕ
 running Idle = 0
 running (Hear n) = 1
@@ -126,11 +128,13 @@ OrderFits t o = (o.slot < t.slots) × (o.number ≤ MAX_OCCURRENCES)
 abbrev pub SlotsFit : TaskWiring → List Slot → Type 0
 SlotsFit t slots = (length slots ≡ t.slots) × ((n : ℕ) → n < t.slots → length (slot_at slots n).words ≡ t.ports)
 
+-- the releaser's slots of a task are among its slots
 pub record EntryShape (t : TaskWiring) (e : TaskEntry) : Type 0 where
   pub current : e.current < t.slots
   pub kept : length e.kept ≡ t.kept
   pub kept_slots : (j : ℕ) → j < t.kept → slice_index_or e.kept j 0 < t.slots
 
+-- the task's last aimed instance is this one
 pub record TaskShape (w : Wiring) (d : Task) (i last : ℕ) (s : TaskState) : Type 0 where
   pub gate : s.part.ended + running s.part.place ≤ s.words.gate
   pub aimed : s.words.gate ≤ last
@@ -145,9 +149,10 @@ pub record TaskShape (w : Wiring) (d : Task) (i last : ℕ) (s : TaskState) : Ty
 
 -- what is claimed over the link, and the word that orders it, are of its writer
 pub record LinkShape (w : Wiring) (k : ℕ) (c : LinkEntry) (o : Order) : Type 0 where
-  pub claim : (c.slot < (wired w (line w k).writer).slots) × (c.number ≤ MAX_OCCURRENCES)
-  pub order : OrderFits (wired w (line w k).writer) o
+  pub claim : (c.slot < (wired w (link w k).writer).slots) × (c.number ≤ MAX_OCCURRENCES)
+  pub order : OrderFits (wired w (link w k).writer) o
 
+-- the wiring and the state are whole
 pub record IsShape (p : Plan) (w : Wiring) (s : State) : Type 0 where
   pub wiring : IsWired p w
   pub entries : length s.releaser.tasks ≡ length w.tasks

@@ -24,6 +24,7 @@ first_states d = map (λ s. s.first) d.states
 abbrev pub start_slots : TaskWiring → List ℤ → List Slot
 start_slots t row = record { stamp = 1; words = row } ∷ replicate (t.slots - 1) (record { stamp = 0; words = replicate t.ports (pos 0) })
 
+-- nothing is released; the states have their first values, and what it computes with is else 0
 abbrev pub start_task : TaskWiring → Task → TaskState
 start_task t d = record {
   words = record { gate = 0; ended = 0; aim = no_order; slots = start_slots t (first_row d) };
@@ -31,10 +32,11 @@ start_task t d = record {
   work = record { now = first_states d ++ replicate (place_count d - length d.states) (pos 0); later = first_states d; row = first_row d };
 }
 
--- no instance is aimed; slot 0 is the current one, and all that is kept
+-- no instance is aimed; slot 0 is the current one and each of the kept ones
 abbrev pub start_entry : TaskWiring → TaskEntry
 start_entry t = record { known = 0; aimed = 0; current = 0; kept = replicate t.kept 0 }
 
+-- the state of the plan before the first step
 abbrev pub start_of : Plan → Wiring → State
 start_of p w = record {
   releaser = record { place = 0; tasks = map start_entry w.tasks; links = replicate (length w.links) no_link_entry };

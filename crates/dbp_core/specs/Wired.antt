@@ -26,7 +26,7 @@ turn_of reads r = count_by (λ q. is_sooner q r) (enumerate_from 0 reads)
 
 -- the numbers of the reads in the order of their turns
 abbrev pub in_turn : List Read → List ℕ
-in_turn reads = map (λ n. position_or_len (λ r. turn_of reads r == n.0) (enumerate_from 0 reads)) (enumerate_from 0 reads)
+in_turn reads = map (λ (turn, _). position_or_len (λ r. turn_of reads r == turn) (enumerate_from 0 reads)) (enumerate_from 0 reads)
 
 abbrev pub no_read : Read
 no_read = record { name = []; link = 0; port = 0; at = 0 }
@@ -42,6 +42,7 @@ abbrev pub slot_count : Count → Plan → ℕ → ℕ
 slot_count Ranked p i = (counts_of p.diagram i).sim
 slot_count All p i = (counts_of p.diagram i).run
 
+-- a task with its number
 abbrev pub task_wiring : Plan → Count → ℕ × Task → TaskWiring
 task_wiring p count (i, task) = record {
   ports = length task.outs;
@@ -57,6 +58,7 @@ task_wiring p count (i, task) = record {
 abbrev pub timed : List Batch → ℕ × TaskWiring → TaskWiring
 timed batches (i, t) = record t { times = t.times ++ times_of batches i }
 
+-- the plan under the count
 abbrev pub wiring_of : Plan → Count → Wiring
 wiring_of p count = record {
   count = count;

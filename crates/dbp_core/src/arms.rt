@@ -1,7 +1,7 @@
 // One step: why it isn't allowed, or what it makes of the state.
 
 ghost use Rattle.std.specs.Prelude.{◌≡◌, ◌<◌, ℕ, length};
-ghost use Rattle.dbp_core.specs.Places.{line, task, wired};
+ghost use Rattle.dbp_core.specs.Places.{link, task, wired};
 ghost use Rattle.dbp_core.specs.Rules as rule;
 ghost use Rattle.dbp_core.specs.Rules.{IsNamed, IsStep};
 ghost use Rattle.dbp_core.specs.Shapes.{IsShape, PlaceIn};
@@ -70,8 +70,8 @@ fn not_aimed(wiring: &Wiring, state: &State, i: u32, slot: u32) -> Option<Illega
     requires wired { i < length wiring.now.tasks }
     requires entries { length state.now.releaser.tasks ≡ length wiring.now.tasks }
     requires claims { length state.now.releaser.links ≡ length wiring.now.links }
-    requires writers { (k : ℕ) → k < length wiring.now.links → (line wiring.now k).writer < length wiring.now.tasks }
-    requires readers { (k : ℕ) → k < length wiring.now.links → (line wiring.now k).reader < length wiring.now.tasks }
+    requires writers { (k : ℕ) → k < length wiring.now.links → (link wiring.now k).writer < length wiring.now.tasks }
+    requires readers { (k : ℕ) → k < length wiring.now.links → (link wiring.now k).reader < length wiring.now.tasks }
     ensures { result ≡ rule.refusal wiring.now state.now (Step.Aim i slot) }
 {
     let kind = Kind {

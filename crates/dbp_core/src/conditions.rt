@@ -1,7 +1,7 @@
 // The conditions of the steps, each with the two values that it compares.
 
 ghost use Rattle.std.specs.Prelude.{◌≡◌, ◌+◌, ◌<◌, ◌≤◌, ◌^◌, ℕ, length, IfSome};
-ghost use Rattle.dbp_core.specs.Places.{is_counted, line, read_at, task, task_entry, time, wired};
+ghost use Rattle.dbp_core.specs.Places.{is_counted, link, read_at, task, task_entry, time, wired};
 ghost use Rattle.dbp_core.specs.Rules as rule;
 ghost use Rattle.dbp_core.specs.Shapes.{PlaceIn};
 
@@ -56,7 +56,7 @@ fn release_kind(release: Option<Release>) -> Kind
             number: 3,
             operand: link,
         },
-        Some(Release::Open { task }) => Kind {
+        Some(Release::OpenGate { task }) => Kind {
             number: 4,
             operand: task,
         },
@@ -97,7 +97,7 @@ pub(crate) fn not_next_step(wiring: &Wiring, state: &State, i: u32, kind: Kind) 
     misplaced(Broken::TaskPlace, next, kind)
 }
 
-// Whether the slot stays kept when the task is aimed.
+// Whether the slot is one of those that are kept behind an aim of the task.
 pub(crate) fn stays_kept(entry: &TaskEntry, slot: u32) -> bool
     ensures { result ≡ rule.stays_kept entry.now slot }
 {
@@ -108,42 +108,42 @@ pub(crate) fn stays_kept(entry: &TaskEntry, slot: u32) -> bool
 }
 
 fn is_counted(wiring: &Wiring, k: u32) -> bool
-    requires line { k < length wiring.now.links }
-    requires writer { (line wiring.now k).writer < length wiring.now.tasks }
-    requires reader { (line wiring.now k).reader < length wiring.now.tasks }
+    requires link { k < length wiring.now.links }
+    requires writer { (link wiring.now k).writer < length wiring.now.tasks }
+    requires reader { (link wiring.now k).reader < length wiring.now.tasks }
     ensures { result ≡ is_counted wiring.now k }
 {
     match wiring.count {
         Count::All => true,
         Count::Ranked => {
-            let line = wiring.links.items()[k as usize];
-            wired_at(wiring, line.writer).rank < wired_at(wiring, line.reader).rank
+            let link = wiring.links.items()[k as usize];
+            wired_at(wiring, link.writer).rank < wired_at(wiring, link.reader).rank
         }
     }
 }
 
 // Whether a counted link from the task claims the slot.
 fn claims_slot(wiring: &Wiring, state: &State, i: u32, slot: u32, k: u32) -> bool
-    requires line { k < length wiring.now.links }
+    requires link { k < length wiring.now.links }
     requires claim { k < length state.now.releaser.links }
-    requires writer { (line wiring.now k).writer < length wiring.now.tasks }
-    requires reader { (line wiring.now k).reader < length wiring.now.tasks }
+    requires writer { (link wiring.now k).writer < length wiring.now.tasks }
+    requires reader { (link wiring.now k).reader < length wiring.now.tasks }
     requires entries { length state.now.releaser.tasks ≡ length wiring.now.tasks }
     ensures { result ≡ rule.claims_slot wiring.now state.now i slot k }
 {
-    let line = wiring.links.items()[k as usize];
+    let link = wiring.links.items()[k as usize];
     let claim = claim_at(state, k);
-    line.writer == i
+    link.writer == i
         && is_counted(wiring, k)
-        && entry_at(state, line.reader).known < claim.instance
+        && entry_at(state, link.reader).known < claim.instance
         && claim.slot == slot
 }
 
 // The least link from the task that claims the slot.
 pub(crate) fn claimed(wiring: &Wiring, state: &State, i: u32, slot: u32) -> Option<u32>
     requires claims { length state.now.releaser.links ≡ length wiring.now.links }
-    requires writers { (k : ℕ) → k < length wiring.now.links → (line wiring.now k).writer < length wiring.now.tasks }
-    requires readers { (k : ℕ) → k < length wiring.now.links → (line wiring.now k).reader < length wiring.now.tasks }
+    requires writers { (k : ℕ) → k < length wiring.now.links → (link wiring.now k).writer < length wiring.now.tasks }
+    requires readers { (k : ℕ) → k < length wiring.now.links → (link wiring.now k).reader < length wiring.now.tasks }
     requires entries { length state.now.releaser.tasks ≡ length wiring.now.tasks }
     ensures { result ≡ rule.least (rule.claims_slot wiring.now state.now i slot) (length wiring.now.links) }
 {
@@ -155,7 +155,7 @@ pub(crate) fn claimed(wiring: &Wiring, state: &State, i: u32, slot: u32) -> Opti
     None
 }
 
-// The time of the task's instance that is unfinished, or of its next one; 0 behind the last.
+// The time of the task's first instance that hasn't ended; 0 where all have.
 pub(crate) fn own_time(wiring: &Wiring, state: &State, i: u32) -> u64
     requires wired { i < length wiring.now.tasks }
     requires task { i < length state.now.tasks }
@@ -166,7 +166,7 @@ pub(crate) fn own_time(wiring: &Wiring, state: &State, i: u32) -> u64
     if next < times.len() { times[next] } else { 0 }
 }
 
-// Whether task r is ranked above task i and has an unfinished instance that was released no later than that of i.
+// Whether task r is ranked above task i and has an instance that hasn't ended and that was aimed no later than that of i.
 fn blocks(wiring: &Wiring, state: &State, i: u32, r: u32) -> bool
     requires wired { i < length wiring.now.tasks }
     requires other { r < length wiring.now.tasks }

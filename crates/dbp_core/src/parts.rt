@@ -6,7 +6,9 @@ use dbp_plan::{List, MAX_READS};
 /// A slot of a writer, and the number of the instance whose outs it is to hold; number 0 are the first values.
 #[derive(Clone, Copy, Debug, Default, PartialEq, Eq)]
 pub struct Order {
+    /// Among the writer's slots.
     pub slot: u32,
+    /// Of the writer's instance.
     pub number: u32,
 }
 
@@ -24,10 +26,13 @@ pub enum Place {
     Look(u32),
     /// It takes the word of the read whose turn this is.
     Take(u32),
+    /// It shuts its slot, and computes.
     Shut,
     /// It puts the out of this port.
     Put(u32),
+    /// It stamps its slot.
     Done,
+    /// It tells that its instance has ended.
     End,
 }
 
@@ -40,7 +45,8 @@ pub struct TaskEntry {
     pub aimed: u32,
     /// That slot.
     pub current: u32,
-    /// The slots of the instances before that one, the latest first, as many as the longest delay of its links.
+    /// The slots of the instances before that one, the latest first, as many as the longest delay of the links that
+    /// leave the task.
     pub kept: List<u32>,
 }
 
@@ -60,9 +66,9 @@ pub struct LinkEntry {
 pub struct ReleaserPart {
     /// The number of its next action in the list of all actions.
     pub place: u32,
-    /// By task.
+    /// What it knows of each task.
     pub tasks: List<TaskEntry>,
-    /// By link.
+    /// Its last claim over each link.
     pub links: List<LinkEntry>,
 }
 
@@ -71,7 +77,8 @@ pub struct ReleaserPart {
 pub struct TaskPart {
     /// How many of its instances have ended.
     pub ended: u32,
+    /// Its next step.
     pub place: Place,
-    /// The orders that the running instance has heard.
+    /// The orders that its instance has heard.
     pub heard: ArrayVec<Order, MAX_ORDERS>,
 }

@@ -2,7 +2,7 @@
 
 ghost use Rattle.std.specs.Prelude.{◌≡◌, ◌+◌, ◌<◌, ◌∷◌, ◌^◌, length, take, slice_index_or};
 ghost use Rattle.dbp_core.specs.Moves as move;
-ghost use Rattle.dbp_core.specs.Places.{line, task, task_entry};
+ghost use Rattle.dbp_core.specs.Places.{link, task, task_entry};
 ghost use Rattle.dbp_core.specs.Rules.{further, with_claim, with_entry, with_task};
 
 use crate::look_up::{entry_at, task_at};
@@ -83,21 +83,21 @@ fn claimed_slot(writer: &TaskEntry, delay: u32) -> u32
 }
 
 pub(crate) fn claim(wiring: &Wiring, state: &mut State, k: u32)
-    requires line { k < length wiring.now.links }
+    requires link { k < length wiring.now.links }
     requires claims { k < length state.old.releaser.links }
     requires orders { k < length state.old.orders }
-    requires writer { (line wiring.now k).writer < length state.old.releaser.tasks }
-    requires reader { (line wiring.now k).reader < length state.old.releaser.tasks }
-    requires kept { (line wiring.now k).delay < length (task_entry state.old (line wiring.now k).writer).kept + 1 }
+    requires writer { (link wiring.now k).writer < length state.old.releaser.tasks }
+    requires reader { (link wiring.now k).reader < length state.old.releaser.tasks }
+    requires kept { (link wiring.now k).delay < length (task_entry state.old (link wiring.now k).writer).kept + 1 }
     requires place { state.old.releaser.place + 1 < 2 ^ 32 }
-    ensures { state.new ≡ further (with_claim state.old k (move.claimed (line wiring.now k).delay (task_entry state.old (line wiring.now k).writer) (task_entry state.old (line wiring.now k).reader))) }
+    ensures { state.new ≡ further (with_claim state.old k (move.claimed (link wiring.now k).delay (task_entry state.old (link wiring.now k).writer) (task_entry state.old (link wiring.now k).reader))) }
 {
-    let line = wiring.links.items()[k as usize];
-    let writer = entry_at(state, line.writer);
+    let link = wiring.links.items()[k as usize];
+    let writer = entry_at(state, link.writer);
     let claim = LinkEntry {
-        slot: claimed_slot(writer, line.delay),
-        number: writer.aimed.saturating_sub(line.delay),
-        instance: entry_at(state, line.reader).aimed,
+        slot: claimed_slot(writer, link.delay),
+        number: writer.aimed.saturating_sub(link.delay),
+        instance: entry_at(state, link.reader).aimed,
     };
     state.releaser.links.items_mut()[k as usize] = claim;
     state.orders.items_mut()[k as usize] = Order {

@@ -7,7 +7,8 @@ use dbp_plan::List;
 /// A slot of a task.
 #[derive(Drop)]
 pub struct Slot {
-    /// 0 while the slot is filled, else 1 more than the number of the instance whose outs it holds.
+    /// 1 more than the number of the row that the slot holds; 0 where it holds none, at first and while it is being
+    /// filled.
     pub stamp: u32,
     /// A word for each port.
     pub words: List<i64>,
@@ -20,22 +21,27 @@ pub struct TaskWords {
     pub gate: u32,
     /// How many instances have ended.
     pub ended: u32,
-    /// The slot that the instance behind the gate is to fill.
+    /// The slot that the task's last aimed instance is to fill.
     pub aim: Order,
+    /// The rows that are current, kept or claimed.
     pub slots: List<Slot>,
 }
 
 /// A task: its shared words, its part of the protocol, and what it computes with.
 #[derive(Drop)]
 pub struct TaskState {
+    /// What it shares.
     pub words: TaskWords,
+    /// How far it has come.
     pub part: TaskPart,
+    /// What it computes with.
     pub work: Work,
 }
 
 /// The state of the protocol.
 #[derive(Drop)]
 pub struct State {
+    /// How far the releaser has come.
     pub releaser: ReleaserPart,
     /// By task.
     pub tasks: List<TaskState>,

@@ -1,17 +1,19 @@
 // The steps of the protocol, what they hear, and why they are refused.
 
-/// Which links of a writer keep it from a slot, and whether tasks step by their ranks.
+/// Which links of a writer keep it from a slot, and so how many slots a task has, and whether tasks step by their ranks.
 #[derive(Clone, Copy, Debug, PartialEq, Eq)]
 pub enum Count {
-    /// The links to lower-ranked readers; a task steps only where no task ranked above it has an unfinished instance
-    /// released before or with its own. For the simulation, where higher ranks preempt lower ones.
+    /// The links to lower-ranked readers; a task has the slots of a simulation. It steps only where no task ranked above
+    /// it has an instance that hasn't ended and that was aimed in the batch of its own instance or in an earlier one; a
+    /// `Start` that finds the gate closed is free of that. For the simulation, where higher ranks preempt lower ones.
     Ranked,
-    /// All links; tasks step in any order. For a run on tasks that may stand still anywhere.
+    /// All links; a task has the slots of a run, and tasks step in any order. For a run on tasks that may stand still
+    /// anywhere.
     All,
 }
 
 /// One step of the releaser or of a task. Each but `Seen`, a `Start` that finds the gate closed and a `Look` that finds
-/// its slot unfinished moves its party to its next place.
+/// another row moves its party to its next place. Kinds have the numbers 1 to 12, in this order.
 #[derive(Clone, Copy, Debug, PartialEq, Eq)]
 pub enum Step {
     /// The releaser loads how many instances of the task have ended.
@@ -30,7 +32,7 @@ pub enum Step {
     Look { task: u32, read: u32 },
     /// The task loads the word of the read's port from that slot.
     Take { task: u32, read: u32 },
-    /// The task marks the slot that it is to fill as unfinished, and computes its outs and its next states.
+    /// The task stamps the slot that it is to fill with 0, and computes its outs and its next states.
     Shut { task: u32 },
     /// The task stores an out into its slot.
     Put { task: u32, port: u32 },
@@ -76,15 +78,17 @@ pub enum Broken {
     SlotClaimed,
     /// The step isn't the task's next one.
     TaskPlace,
-    /// A task ranked above has an unfinished instance.
+    /// A task ranked above has an instance that hasn't ended, aimed in the same batch or in an earlier one.
     HigherUnfinished,
 }
 
-/// Why a step isn't allowed: its first broken condition, and the two values that it compares. docs/PROTOCOL.md has them
-/// as a table.
+/// Why a step isn't allowed. docs/PROTOCOL.md has the conditions and their values as a table.
 #[derive(Clone, Copy, Debug, PartialEq, Eq)]
 pub struct Illegal {
+    /// The first broken condition.
     pub broken: Broken,
+    /// The value that it compares, as the kind of the next step or the number of slots.
     pub left: u64,
+    /// The value that it is compared with, as the kind of the asked step, 13 where only the operand is wrong, or the slot.
     pub right: u64,
 }

@@ -4,7 +4,7 @@ ghost use Rattle.std.specs.Prelude.{◌≡◌, ◌+◌, ◌-◌, ◌<◌, ◌≤
 ghost use Rattle.dbp_plan.specs.Closed.{IsClosedTask, place_count};
 ghost use Rattle.dbp_plan.specs.Samples.{input_value};
 ghost use Rattle.dbp_core.specs.Moves as move;
-ghost use Rattle.dbp_core.specs.Places.{declared, line, order, read_at, slot_at, task, wired};
+ghost use Rattle.dbp_core.specs.Places.{declared, link, order, read_at, slot_at, task, wired};
 ghost use Rattle.dbp_core.specs.Rules as rule;
 ghost use Rattle.dbp_core.specs.Rules.{with_part, with_task};
 ghost use Rattle.dbp_core.specs.Shapes.{HasSamples};
@@ -230,7 +230,7 @@ pub(crate) fn end(state: &mut State, i: u32)
     task.work.advance();
 }
 
-// The task computes from its states, its senses at the time and what it has read, and marks its slot as unfinished.
+// The task computes from its states, its senses at the time and what it has read, and stamps its slot with 0.
 pub(crate) fn shut(plan: &Plan, wiring: &Wiring, state: &mut State, i: u32)
     requires task { i < length state.old.tasks }
     requires wired { i < length wiring.now.tasks }

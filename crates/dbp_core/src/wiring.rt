@@ -20,10 +20,13 @@ pub struct ReadWiring {
 /// A task, as the steps see it.
 #[derive(Drop)]
 pub struct TaskWiring {
+    /// How many outs it has.
     pub ports: u32,
+    /// How many slots it has under the count.
     pub slots: u32,
-    /// How many slots before the current one are kept: the longest delay of its links.
+    /// How many slots before the current one are kept: the longest delay of the links that leave it.
     pub kept: u32,
+    /// 0 is the highest.
     pub rank: u32,
     /// The times of its instances.
     pub times: List<u64>,
@@ -36,8 +39,11 @@ pub struct TaskWiring {
 /// What the steps look up in a plan.
 #[derive(Drop)]
 pub struct Wiring {
+    /// Which links keep a writer from a slot.
     pub count: Count,
+    /// By their numbers.
     pub tasks: List<TaskWiring>,
+    /// The diagram's.
     pub links: List<Link>,
     /// The releaser's actions, in order.
     pub releases: List<Release>,

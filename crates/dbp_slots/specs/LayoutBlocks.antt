@@ -10,7 +10,7 @@ no_block = record { begin = 0; slots = 0; ports = 0 }
 abbrev pub block_sizes : Block → SlotSizes
 block_sizes b = record { slots = b.slots; ports = b.ports }
 
--- the sizes of so many tasks, which the first blocks tell, and of so many links
+-- the sizes that the first so many blocks tell, one for each task, with so many links
 abbrev pub sizes_by : ℕ → ℕ → List Block → Sizes
 sizes_by tasks links blocks = record { tasks = map block_sizes (take tasks blocks); links = links }
 

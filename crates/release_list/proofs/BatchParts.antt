@@ -6,7 +6,7 @@ use Rattle.std.proofs.lemmas.Bool.{eq-eqb}
 use Rattle.dbp_plan.specs.declared.diagram.Link.{Link}
 use Rattle.dbp_plan.specs.declared.schedule.Batch.{Batch}
 use Rattle.release_list.specs.declared.release.Release.{Release}
-use Rattle.release_list.specs.declared.release.Release.TheVariants.{Aim, Claim, Open}
+use Rattle.release_list.specs.declared.release.Release.TheVariants.{Aim, Claim, OpenGate}
 use Rattle.release_list.specs.Links.{link_at}
 use Rattle.release_list.specs.Releases.{links_into, claims_into, claims_of, releases_at}
 use Rattle.release_list.specs.Schedule.{is_aim, is_claim, is_open, aims, claims, opens}
@@ -45,7 +45,7 @@ module _ (links : List Link) (b : Batch) (rises : IsStrictlyIncreasing b.tasks) 
   claim_part = claims_of links b.tasks
 
   abbrev open_part : List Release
-  open_part = map Open b.tasks
+  open_part = map OpenGate b.tasks
 
   -- how much of what each part has
 
@@ -68,13 +68,13 @@ module _ (links : List Link) (b : Batch) (rises : IsStrictlyIncreasing b.tasks) 
   claim_opens i = no_claims (is_open i) links b.tasks (λ ks. count-map (is_open i) Claim ks ∙ count-never ks)
 
   open_aims : (i : ℕ) → count_by (is_aim i) open_part ≡ 0
-  open_aims i = count-map (is_aim i) Open b.tasks ∙ count-never b.tasks
+  open_aims i = count-map (is_aim i) OpenGate b.tasks ∙ count-never b.tasks
 
   open_claims : (k : ℕ) → count_by (is_claim k) open_part ≡ 0
-  open_claims k = count-map (is_claim k) Open b.tasks ∙ count-never b.tasks
+  open_claims k = count-map (is_claim k) OpenGate b.tasks ∙ count-never b.tasks
 
   open_opens : (i : ℕ) → count_by (is_open i) open_part ≡ often i b
-  open_opens i = count-map (is_open i) Open b.tasks ∙ count-often i b rises
+  open_opens i = count-map (is_open i) OpenGate b.tasks ∙ count-often i b rises
 
   parts : (test : Release → Bool) (rest : List Release) → count_by test (aim_part ++ (claim_part ++ rest)) ≡ count_by test aim_part + (count_by test claim_part + count_by test rest)
   parts test rest = count-append test aim_part (claim_part ++ rest) ∙ ap (λ n. count_by test aim_part + n) (count-append test claim_part rest)
@@ -159,12 +159,12 @@ module _ (links : List Link) (b : Batch) (rises : IsStrictlyIncreasing b.tasks) 
         ]
       ]
 
-  pub at_open_part : (place i : ℕ) → slice_get (releases_at links b) place ≡ Some (Open i) → AmongOpens place (Open i)
+  pub at_open_part : (place i : ℕ) → slice_get (releases_at links b) place ≡ Some (OpenGate i) → AmongOpens place (OpenGate i)
   at_open_part place i here =
-      elim (part place (Open i) here) [
-        | inl first ↦ absurd (none_found (is_open i) aim_part first.item.0 (Open i) first.item.1 (eq-eqb i i refl) (aim_opens i))
+      elim (part place (OpenGate i) here) [
+        | inl first ↦ absurd (none_found (is_open i) aim_part first.item.0 (OpenGate i) first.item.1 (eq-eqb i i refl) (aim_opens i))
         | inr rest ↦ elim rest [
-          | inl second ↦ absurd (none_found (is_open i) claim_part second.item.0 (Open i) second.item.1 (eq-eqb i i refl) (claim_opens i))
+          | inl second ↦ absurd (none_found (is_open i) claim_part second.item.0 (OpenGate i) second.item.1 (eq-eqb i i refl) (claim_opens i))
           | inr third ↦ third
         ]
       ]

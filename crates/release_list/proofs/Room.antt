@@ -7,7 +7,7 @@ use Rattle.std.proofs.lemmas.List.Sums.{sum_by-cons, sum_by-le, sum_by_more_le}
 use Rattle.dbp_plan.specs.declared.diagram.Link.{Link}
 use Rattle.dbp_plan.specs.declared.schedule.Batch.{Batch}
 use Rattle.dbp_plan.specs.Occurrences.{occurrence_count}
-use Rattle.release_list.specs.declared.release.Release.TheVariants.{Aim, Claim, Open}
+use Rattle.release_list.specs.declared.release.Release.TheVariants.{Aim, Claim, OpenGate}
 use Rattle.release_list.specs.Releases.{links_into, claims_into, claims_of, releases_at, releases_of}
 use Rattle.release_list.proofs.IntoLinks.{into_few}
 
@@ -19,7 +19,7 @@ claims_few links tasks =
 batch_few : (links : List Link) (b : Batch) → length (releases_at links b) ≤ length b.tasks * (length links + 2)
 batch_few links b =
     omega
-    (arith, length-append (map Aim b.tasks) (claims_of links b.tasks ++ map Open b.tasks), length-append (claims_of links b.tasks) (map Open b.tasks), length-map b.tasks Aim, length-map b.tasks Open, claims_few links b.tasks)
+    (arith, length-append (map Aim b.tasks) (claims_of links b.tasks ++ map OpenGate b.tasks), length-append (claims_of links b.tasks) (map OpenGate b.tasks), length-map b.tasks Aim, length-map b.tasks OpenGate, claims_few links b.tasks)
 
 -- an aim and an open of each occurrence, and at most a claim of each link
 pub released_few : (links : List Link) (bs : List Batch) → length (releases_of links bs) ≤ occurrence_count bs * (length links + 2)

@@ -16,7 +16,7 @@ use Rattle.dbp_plan.specs.Times.{Rises, times-rise}
 use Rattle.dbp_plan.proofs.Numbers.{Rise, rise, number-is}
 use Rattle.dbp_plan.proofs.OccurrenceLemmas.{time_here}
 use Rattle.release_list.specs.declared.release.Release.{Release}
-use Rattle.release_list.specs.declared.release.Release.TheVariants.{Aim, Claim, Open}
+use Rattle.release_list.specs.declared.release.Release.TheVariants.{Aim, Claim, OpenGate}
 use Rattle.release_list.specs.Links.{link_at}
 use Rattle.release_list.specs.Releases.{releases_at, releases_of}
 use Rattle.release_list.specs.Schedule.{AtAim, AtClaim, AtOpen, IsSchedule, aims, claims, opens, is_aim, is_claim, is_open, seen_by, time_of}
@@ -187,21 +187,21 @@ module _ (d : Diagram) (samples : List Sample) (bs : List Batch) (plan : IsPlan 
             omega (arith, aimed place (Aim i) at i, claimed place (Aim i) at k below);
       }
 
-  at_open : (place i : ℕ) → slice_get list place ≡ Some (Open i) → AtOpen d list place i
+  at_open : (place i : ℕ) → slice_get list place ≡ Some (OpenGate i) → AtOpen d list place i
   at_open place i here =
-      let at : Located d.links bs place (Open i) = locate d.links bs place (Open i) here in
+      let at : Located d.links bs place (OpenGate i) = locate d.links bs place (OpenGate i) here in
       let once : IsStrictlyIncreasing at.batch.tasks = rises at.number at.batch at.there in
-      let own : AmongOpens d.links at.batch once at.inside (Open i) = at_open_part d.links at.batch once at.inside i at.item in
+      let own : AmongOpens d.links at.batch once at.inside (OpenGate i) = at_open_part d.links at.batch once at.inside i at.item in
       let some : opens (releases_at d.links at.batch) at.inside i + 1 ≤ often i at.batch =
-      omega (arith, found (is_open i) (releases_at d.links at.batch) at.inside (Open i) at.item (eq-eqb i i refl), whole_opens d.links at.batch once i) in
+      omega (arith, found (is_open i) (releases_at d.links at.batch) at.inside (OpenGate i) at.item (eq-eqb i i refl), whole_opens d.links at.batch once i) in
       let one : often i at.batch ≤ 1 = often_one i at.batch in
       record {
-        named = named place (Open i) at i (omega arith);
-        aimed = omega (arith, aimed place (Open i) at i, opened place (Open i) at i, own.aimed i);
+        named = named place (OpenGate i) at i (omega arith);
+        aimed = omega (arith, aimed place (OpenGate i) at i, opened place (OpenGate i) at i, own.aimed i);
         claimed = λ k below into.
-            let same : before place (Open i) at (reader k) ≡ before place (Open i) at i = ap (before place (Open i) at) into in
+            let same : before place (OpenGate i) at (reader k) ≡ before place (OpenGate i) at i = ap (before place (OpenGate i) at) into in
             let all : often (reader k) at.batch ≡ often i at.batch = ap (λ r. often r at.batch) into in
-            omega (arith, aimed place (Open i) at i, claimed place (Open i) at k below, own.aimed i, own.claimed k below);
+            omega (arith, aimed place (OpenGate i) at i, claimed place (OpenGate i) at k below, own.aimed i, own.claimed k below);
       }
 
   claim_named : (place k : ℕ) → slice_get list place ≡ Some (Claim k) → k < length d.links

@@ -4,7 +4,7 @@ use Rattle.std.specs.List.{flat_map, range_with_len}
 use Rattle.dbp_plan.specs.declared.diagram.Link.{Link}
 use Rattle.dbp_plan.specs.declared.schedule.Batch.{Batch}
 use Rattle.release_list.specs.declared.release.Release.{Release}
-use Rattle.release_list.specs.declared.release.Release.TheVariants.{Aim, Claim, Open}
+use Rattle.release_list.specs.declared.release.Release.TheVariants.{Aim, Claim, OpenGate}
 use Rattle.release_list.specs.Links.{link_at}
 
 -- the numbers of the links into the task among the first so many links, and among all, in order
@@ -23,7 +23,7 @@ claims_of links tasks = flat_map (claims_into links) tasks
 
 -- a batch: all aims, then all claims, then all gates
 abbrev pub releases_at : List Link → Batch → List Release
-releases_at links batch = map Aim batch.tasks ++ (claims_of links batch.tasks ++ map Open batch.tasks)
+releases_at links batch = map Aim batch.tasks ++ (claims_of links batch.tasks ++ map OpenGate batch.tasks)
 
 -- the whole plan, batch by batch
 abbrev pub releases_of : List Link → List Batch → List Release

@@ -5,24 +5,24 @@ use Rattle.dbp_plan.specs.declared.diagram.Link.{Link}
 use Rattle.dbp_plan.specs.declared.schedule.Batch.{Batch}
 use Rattle.dbp_plan.specs.Occurrences.{times_of, count_until}
 use Rattle.release_list.specs.declared.release.Release.{Release}
-use Rattle.release_list.specs.declared.release.Release.TheVariants.{Aim, Claim, Open}
+use Rattle.release_list.specs.declared.release.Release.TheVariants.{Aim, Claim, OpenGate}
 use Rattle.release_list.specs.Links.{link_at}
 
 -- whether the action aims the task, claims the link, opens the task's gate
 abbrev pub is_aim : ℕ → Release → Bool
 is_aim task (Aim i) = task == i
 is_aim task (Claim k) = false
-is_aim task (Open i) = false
+is_aim task (OpenGate i) = false
 
 abbrev pub is_claim : ℕ → Release → Bool
 is_claim link (Aim i) = false
 is_claim link (Claim k) = link == k
-is_claim link (Open i) = false
+is_claim link (OpenGate i) = false
 
 abbrev pub is_open : ℕ → Release → Bool
 is_open task (Aim i) = false
 is_open task (Claim k) = false
-is_open task (Open i) = task == i
+is_open task (OpenGate i) = task == i
 
 -- how many aims of the task, claims of the link, opens of the task's gate stand before the place
 abbrev pub aims : List Release → ℕ → ℕ → ℕ
@@ -83,4 +83,4 @@ pub record IsSchedule (d : Diagram) (batches : List Batch) (releases : List Rele
       → time_of batches (link_at d.links k).reader a < time_of batches (link_at d.links k).writer n
   pub at_aim : (place i : ℕ) → slice_get releases place ≡ Some (Aim i) → AtAim d releases place i
   pub at_claim : (place k : ℕ) → slice_get releases place ≡ Some (Claim k) → AtClaim d batches releases place k
-  pub at_open : (place i : ℕ) → slice_get releases place ≡ Some (Open i) → AtOpen d releases place i
+  pub at_open : (place i : ℕ) → slice_get releases place ≡ Some (OpenGate i) → AtOpen d releases place i

@@ -7,8 +7,8 @@ ghost use Rattle.dbp_plan.specs.declared.schedule.Sample.{Sample};
 ghost use Rattle.release_list.specs.Releases.{releases_of};
 ghost use Rattle.release_list.specs.Schedule.{IsSchedule};
 
-/// The releaser's list keeps the order of the protocol: before each of its places an instance is aimed before its
-/// links are claimed, these are claimed before its gate is opened, and a claim comes behind all aims of its time.
+/// The releaser's list keeps the order of the protocol: an instance is aimed first, then the links into its task are
+/// claimed for it, then its gate is opened; and a claim stands behind all aims of its time.
 pub fn releases_are_a_schedule()
     ensures { (d : Diagram) (samples : Items Sample) (batches : Items Batch) → IsPlan d samples batches → IsSchedule d batches (releases_of d.links batches) }
 {}

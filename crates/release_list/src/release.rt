@@ -1,7 +1,7 @@
 // The list of the releaser's actions.
 ghost use Rattle.std.specs.Prelude.{◌≡◌, ◌+◌, ◌*◌, ◌<◌, ◌^◌, ◌++◌, IfOk, OnOk, length, map};
 ghost use Rattle.release_list.specs.Releases.{claims_into, claims_of, releases_at, releases_of};
-ghost use Rattle.release_list.specs.declared.release.Release.TheVariants.{Aim, Open};
+ghost use Rattle.release_list.specs.declared.release.Release.TheVariants.{Aim, OpenGate};
 
 use dbp_plan::{Batch, Link, List, NoMemory, Plan};
 use std::alloc::Global;
@@ -14,7 +14,7 @@ pub enum Release {
     /// The link's reader is told the slot that its next instance is to read.
     Claim { link: u32 },
     /// The gate of the task's next instance is opened.
-    Open { task: u32 },
+    OpenGate { task: u32 },
 }
 
 /// The releaser's actions of the whole plan, in order. For each batch it aims each task, then claims each link into
@@ -75,10 +75,10 @@ fn push_claims_into(list: &mut List<Release>, links: &List<Link>, task: u32) -> 
 
 fn push_opens(list: &mut List<Release>, tasks: &[u32]) -> Result<(), NoMemory>
     requires { length list.old + length tasks.now < 2 ^ 32 }
-    ensures { OnOk result (list.new ≡ list.old ++ map Open tasks.now) }
+    ensures { OnOk result (list.new ≡ list.old ++ map OpenGate tasks.now) }
 {
     for task in tasks {
-        list.push(Release::Open { task: *task })?;
+        list.push(Release::OpenGate { task: *task })?;
     }
     Ok(())
 }

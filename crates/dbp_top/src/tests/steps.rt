@@ -81,6 +81,42 @@ static DELAYED: [(Step, Heard); 11] = [
     (Step::Seen { task: 2 }, Heard::Ended(1)),
 ];
 
+// Two tasks of one deadline, of which the second reads the first.
+const ONE_DEADLINE: &str = "dbp 1
+policy edf
+until 2
+task u every 2 deadline 2 cost 1
+  out y = 0 then 5
+task v every 2 deadline 2 cost 1
+  read x = u.y
+  out z = 0 then x + 1
+done
+";
+
+// Each is served to its end, the first one first.
+static SERVED: [(Step, Heard); 20] = [
+    (Step::Aim { task: 0, slot: 0 }, Heard::Stored),
+    (Step::Aim { task: 1, slot: 0 }, Heard::Stored),
+    (Step::Claim { link: 0 }, Heard::Stored),
+    (Step::OpenGate { task: 0 }, Heard::Stored),
+    (Step::OpenGate { task: 1 }, Heard::Stored),
+    (Step::Start { task: 0 }, Heard::Started),
+    (Step::Hear { task: 0 }, Heard::Order { slot: 0, number: 1 }),
+    (Step::Shut { task: 0 }, Heard::Stored),
+    (Step::Put { task: 0, port: 0 }, Heard::Stored),
+    (Step::Done { task: 0 }, Heard::Stored),
+    (Step::End { task: 0 }, Heard::Stored),
+    (Step::Start { task: 1 }, Heard::Started),
+    (Step::Hear { task: 1 }, Heard::Order { slot: 0, number: 1 }),
+    (Step::Hear { task: 1 }, Heard::Order { slot: 0, number: 1 }),
+    (Step::Look { task: 1, read: 0 }, Heard::Ready),
+    (Step::Take { task: 1, read: 0 }, Heard::Word(5)),
+    (Step::Shut { task: 1 }, Heard::Stored),
+    (Step::Put { task: 1, port: 0 }, Heard::Stored),
+    (Step::Done { task: 1 }, Heard::Stored),
+    (Step::End { task: 1 }, Heard::Stored),
+];
+
 // A step that is refused behind so many steps of `WAITING`.
 struct Refusal {
     document: &'static str,
@@ -275,6 +311,14 @@ fn a_delayed_reader_takes_what_stood_before(rt: HostRuntime) -> Result<(), Fail>
     make(&rt, &mut core, &RELEASED)?;
     make(&rt, &mut core, &DELAYED)?;
     assert_eq!(rt; word_of(&core, 2)?, 0);
+    Ok(())
+}
+
+#[test]
+fn tasks_step_by_their_ranks(rt: HostRuntime) -> Result<(), Fail> {
+    let mut core = core_of(rt.alloc(), ONE_DEADLINE, Count::Ranked)?;
+    make(&rt, &mut core, &SERVED)?;
+    assert_eq!(rt; word_of(&core, 1)?, 6);
     Ok(())
 }
 
