@@ -4,9 +4,10 @@
   bench/bench.py [PROGRAM]      the program that ./dbp has built, where none is named
 """
 
-import resource
+import os
 import subprocess
 import sys
+import tempfile
 import time
 from pathlib import Path
 
@@ -16,6 +17,13 @@ TOP = Path(__file__).resolve().parent.parent
 def one_task(occurrences: int) -> str:
     return (f"dbp 1\npolicy fp\nuntil {occurrences}\ntask k every 1 from 0 prio 1 cost 1\n"
             "  state n = 0\n  next n = n + 1\n  out y = 0 then n + 1\ndone\n")
+
+
+def wide_rows(occurrences: int) -> str:
+    """Lines of 170 bytes: eight outs of 19 digits and a sign."""
+    outs = [f"  out y{place} = 0 then -1234567890123456789 - n" for place in range(8)]
+    lines = ["dbp 1", "policy fp", f"until {occurrences}", "task k every 1 from 0 prio 1 cost 1", "  state n = 0", "  next n = n + 1"]
+    return "\n".join(lines + outs + ["done"]) + "\n"
 
 
 def many_tasks(occurrences: int) -> str:
@@ -69,32 +77,40 @@ def many_lines(line: str) -> str:
     return head + line * ((1_048_576 - len(head) - 5) // len(line)) + "done\n"
 
 
-def measured(program: str, command: str, text: str) -> tuple[float, float, int]:
-    before = resource.getrusage(resource.RUSAGE_CHILDREN)
-    start = time.perf_counter()
-    done = subprocess.run([program, command], input=text.encode(), stdout=subprocess.PIPE, check=False)
-    wall = time.perf_counter() - start
-    after = resource.getrusage(resource.RUSAGE_CHILDREN)
-    assert done.returncode == 0, done
-    return wall, after.ru_utime + after.ru_stime - before.ru_utime - before.ru_stime, after.ru_maxrss
+def measured(program: str, command: str, text: str) -> tuple[float, float, float]:
+    """Seconds, processor seconds and peak memory in MB of one run from a file into a file. The memory is told by
+    Debian's `time`, since a child of this script begins with the script's own."""
+    with tempfile.TemporaryFile() as document, tempfile.TemporaryFile() as lines, tempfile.NamedTemporaryFile() as peak:
+        document.write(text.encode())
+        document.seek(0)
+        start = time.perf_counter()
+        timed = ["/usr/bin/time", "-f", "%M", "-o", peak.name, program, command]
+        running = subprocess.Popen(timed, stdin=document, stdout=lines)
+        _, status, used = os.wait4(running.pid, 0)
+        wall = time.perf_counter() - start
+        kilobytes = int(peak.read())
+    assert status == 0, status
+    return wall, used.ru_utime + used.ru_stime, kilobytes / 1024
 
 
 def main() -> None:
     program = sys.argv[1] if len(sys.argv) > 1 else str(TOP / "crates/dbp/out/dbp")
-    print(f"{'document':<37}{'wall s':>9}{'cpu s':>9}{'peak MB so far':>16}")
+    print(f"{'document':<37}{'wall s':>9}{'cpu s':>9}{'peak MB':>10}")
     for command, name, text in [
         *(("mean", f"1 task, {n} occurrences", one_task(n)) for n in (12_500, 25_000, 50_000, 100_000)),
         *(("mean", f"32 tasks of 63 nodes, {n}", many_tasks(n)) for n in (12_000, 24_000, 48_000, 96_000)),
+        *(("mean", f"{n} lines of 170 bytes", wide_rows(n)) for n in (25_000, 50_000, 100_000)),
         ("mean", "0.9 MB of expressions", expressions()),
         *(("mean", f"{n} rows of 12 columns", trace(n, 6, 6)) for n in (12_500, 25_000, 50_000)),
         ("mean", "25000 rows of 32 columns", trace(25_000, 16, 16)),
+        ("plan", "0.9 MB of expressions", expressions()),
         ("form", "0.9 MB of expressions", expressions()),
         ("form", "1,000,000 blank lines", many_lines("\n")),
         ("form", "500,000 steps of a letter", many_lines("a\n")),
         ("form", "a step of 500,000 names", many_lines("a " * 523_000 + "\n")),
     ]:
         wall, cpu, peak = measured(program, command, text)
-        print(f"{command} {name:<32}{wall:>9.3f}{cpu:>9.3f}{peak / 1024:>16.1f}")
+        print(f"{command} {name:<32}{wall:>9.3f}{cpu:>9.3f}{peak:>10.1f}")
 
 
 if __name__ == "__main__":
