@@ -14,3 +14,16 @@ pub mod Numbered
 pub mod Turns
 pub mod WiringParts
 pub mod Wirings
+pub mod SoundCounts
+pub mod SoundOwn
+pub mod SoundFrame
+pub mod SoundGoes
+pub mod SoundReleaser
+pub mod SoundReading
+pub mod SoundStart
+pub mod SoundLooks
+pub mod SoundWriting
+pub mod SoundComputing
+pub mod SoundKept
+pub mod SoundAnswers
+pub mod SoundRuns

@@ -91,7 +91,7 @@ module _ (p : Plan) (count : Count) where
         port = port;
       }
 
-    turn : (n : ℕ) → n < length t.reads → read_at (task_wiring p count (i, t)) n ≡ read_wiring d.links into t.reads (get_or (in_turn t.reads) n 0)
+    pub turn : (n : ℕ) → n < length t.reads → read_at (task_wiring p count (i, t)) n ≡ read_wiring d.links into t.reads (get_or (in_turn t.reads) n 0)
     turn n inside =
         let turns : List ℕ = in_turn t.reads in
         let number : slice_get turns n ≡ Some (get_or turns n 0) = slice_get-get_or turns n 0 (omega (arith, length-in_turn t.reads)) in

@@ -7,3 +7,6 @@ pub mod Shapes
 pub mod Start
 pub mod Wired
 pub mod Work
+pub mod SoundParts
+pub mod Sound
+pub mod Lawful

@@ -4,6 +4,7 @@
 
 mod arms;
 mod conditions;
+mod laws;
 mod look_up;
 mod machine;
 mod parts;
@@ -17,6 +18,7 @@ mod wire;
 mod wiring;
 mod work;
 
+pub use laws::{a_delayed_look_is_ready, a_ranked_look_is_ready, a_take_hears_the_meaning};
 pub use machine::Core;
 pub use parts::{LinkEntry, MAX_ORDERS, Order, Place, ReleaserPart, TaskEntry, TaskPart};
 pub use state::{Slot, State, TaskState, TaskWords};
