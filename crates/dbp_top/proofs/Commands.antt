@@ -1,11 +1,11 @@
 -- The rows of the table of commands, and that no two commands have the same words.
-use Rattle.std.proofs.Common.{◌≡◌, ℕ, ◌<◌, eqb, if◌then◌else◌, Option, Some, None, List, [], ◌∷◌, ◌++◌, length, map, get_or, refl, sym, ap, ◌∙◌, arith, lit<}
+use Rattle.std.proofs.Common.{◌≡◌, ℕ, ◌<◌, true, false, eqb, if◌then◌else◌, Option, Some, None, List, [], ◌∷◌, ◌++◌, length, map, get_or, refl, sym, ap, ◌∙◌, arith, lit<}
 use Rattle.std.specs.List.{flat_map}
 use Rattle.std.proofs.lemmas.List.{get_or-map, length-map}
 use lib.Pointwise.{pointwise}
 use Rattle.dbp_top.specs.Commands.{HasAllCommands, command_list, command_words, commands, listed_words, said_by}
 use Rattle.dbp_top.specs.declared.command.Command.{Command}
-use Rattle.dbp_top.specs.declared.command.Command.TheVariants.{Mean, Form, Plan}
+use Rattle.dbp_top.specs.declared.command.Command.TheVariants.{Mean, Form, Plan, Replay}
 use Rattle.dbp_top.specs.declared.command.Row.{Row}
 
 abbrev Said : Type 0
@@ -44,6 +44,8 @@ place : (c d : Command) → (k : ℕ) × (k < length commands) × (get_or comman
 place Mean d = (0, lit< tt, refl)
 place Form d = (1, lit< tt, refl)
 place Plan d = (2, lit< tt, refl)
+place (Replay false) d = (3, lit< tt, refl)
+place (Replay true) d = (4, lit< tt, refl)
 
 -- each command has a row
 pub row-of : (rows : List Row) (c : Command) (d : Row) → HasAllCommands rows → (k : ℕ) × (k < length rows) × ((get_or rows k d).command ≡ c)
@@ -61,6 +63,8 @@ found : (c : Command) → first-with (command_words c) commands ≡ Some c
 found Mean = refl
 found Form = refl
 found Plan = refl
+found (Replay false) = refl
+found (Replay true) = refl
 
 pub one-command : (c d : Command) → command_words c ≡ command_words d → c ≡ d
 one-command c d same =

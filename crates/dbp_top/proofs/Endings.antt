@@ -3,12 +3,11 @@ use Rattle.std.proofs.Common.{ℕ, ◌++◌, List, Option, Some, None, sym, ◌�
 use Rattle.std.specs.Prelude.{IfSome}
 use Rattle.std.proofs.lemmas.List.{append-nil}
 use Rattle.std.specs.Io.KnownBytes.{Consumes, IsAtEnd}
-use Rattle.dbp_top.specs.Answer.{Answers, mean_of_a_plan, mean_of_a_fault, form_of_a_document, form_of_a_fault, slots_of_a_plan, slots_of_a_fault}
+use Rattle.dbp_top.specs.Answer.{Answers, made, refused}
 use Rattle.dbp_top.specs.Commands.{Names}
 use Rattle.dbp_plan.specs.Faults.{Rose}
 use Rattle.dbp_top.specs.Ends.{Ends, WroteWhole, Answered, no_command, too_large, no_memory, whole}
 use Rattle.dbp_top.specs.declared.command.Command.{Command}
-use Rattle.dbp_top.specs.declared.command.Command.TheVariants.{Mean, Form, Plan}
 use Rattle.dbp_top.specs.declared.status.Status.{Status}
 use Rattle.dbp_top.specs.declared.status.Status.TheVariants.{Ok, Refused, Usage, ReadFault, WriteFault, NoMemory, TooLarge}
 
@@ -21,12 +20,8 @@ whole-input (Some xs) None bytes P consumes end holds = absurd consumes
 pub ends-whole : {S K : Type 0} (left : S → Option (List ℕ)) (source_faults : S → ℕ) (written : K → Option (List ℕ)) (sink_faults : K → ℕ) (words : List (String Global)) (source new_source : S) (sink new_sink : K)
     (input : List ℕ) (command : Command) (status : Status) (text : List ℕ) → Names words command → Answers input command status text
     → WroteWhole left source_faults written sink_faults source new_source sink new_sink command status → Ends left source_faults written sink_faults words source new_source sink new_sink status
-ends-whole left sf written kf words s t k l input command status text named (mean_of_a_plan plan table is meaning) wrote = (Mean, named, wrote)
-ends-whole left sf written kf words s t k l input command status text named (mean_of_a_fault line code fault) wrote = (Mean, named, wrote)
-ends-whole left sf written kf words s t k l input command status text named (form_of_a_document doc spelled) wrote = (Form, named, wrote)
-ends-whole left sf written kf words s t k l input command status text named (form_of_a_fault line code fault) wrote = (Form, named, wrote)
-ends-whole left sf written kf words s t k l input command status text named (slots_of_a_plan plan is) wrote = (Plan, named, wrote)
-ends-whole left sf written kf words s t k l input command status text named (slots_of_a_fault line code fault) wrote = (Plan, named, wrote)
+ends-whole left sf written kf words s t k l input command status text named (made made_text makes) wrote = (command, named, wrote)
+ends-whole left sf written kf words s t k l input command status text named (refused refusal is) wrote = (command, named, wrote)
 
 -- where nothing failed, the call was answered
 pub answered-without-faults : {S K : Type 0} (left : S → Option (List ℕ)) (source_faults : S → ℕ) (written : K → Option (List ℕ)) (sink_faults : K → ℕ) (words : List (String Global)) (source new_source : S) (sink new_sink : K) (status : Status)

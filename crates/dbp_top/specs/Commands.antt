@@ -1,21 +1,23 @@
 -- The commands, and the words that name them.
-use Rattle.std.specs.Prelude.{◌≡◌, ℕ, List, [], ◌∷◌, ◌++◌, map, codes, string_bytes}
+use Rattle.std.specs.Prelude.{◌≡◌, ℕ, true, false, List, [], ◌∷◌, ◌++◌, map, codes, string_bytes}
 use Rattle.std.specs.List.{flat_map}
 use Rattle.std.specs.declared.alloc.Global.{Global}
 use Rattle.std.specs.declared.string.String.{String}
 use Rattle.dbp_top.specs.declared.command.Command.{Command}
-use Rattle.dbp_top.specs.declared.command.Command.TheVariants.{Mean, Form, Plan}
+use Rattle.dbp_top.specs.declared.command.Command.TheVariants.{Mean, Form, Plan, Replay}
 use Rattle.dbp_top.specs.declared.command.Row.{Row}
 
 -- all commands, in the order in which they are listed
 abbrev pub commands : List Command
-commands = Mean ∷ Form ∷ Plan ∷ []
+commands = Mean ∷ Form ∷ Plan ∷ Replay false ∷ Replay true ∷ []
 
 -- the words of each command
 abbrev pub command_words : Command → List (List ℕ)
 command_words Mean = codes "mean" ∷ []
 command_words Form = codes "form" ∷ []
 command_words Plan = codes "plan" ∷ []
+command_words (Replay false) = codes "replay" ∷ []
+command_words (Replay true) = codes "replay" ∷ codes "--ranked" ∷ []
 
 -- the words and the command of a row
 abbrev pub said_by : Row → List (List ℕ) × Command

@@ -1,6 +1,10 @@
--- The line that says why a text is refused.
+-- The line that says why a text is refused, or why its script can't be replayed.
 use Rattle.std.specs.Prelude.{ℕ, List, [], ◌∷◌, ◌++◌, codes}
 use Rattle.std.specs.Fmt.{decimal}
+use Rattle.dbp_core.specs.declared.step.Broken.{Broken}
+use Rattle.dbp_core.specs.declared.step.Broken.TheVariants.{Place, LastNotEnded, SlotRange, SlotKept, SlotClaimed, TaskPlace, HigherUnfinished}
+use Rattle.dbp_replay.specs.declared.fail.ScriptCode.{ScriptCode}
+use Rattle.dbp_replay.specs.declared.fail.ScriptCode.TheVariants.{BadStep, StepName, NoScript}
 use Rattle.dia_check.specs.declared.fail.CheckCode.{CheckCode}
 use Rattle.dia_check.specs.declared.fail.CheckCode.TheVariants.{Duplicate, Unknown, SelfLink, LetCycle, MissingPrio, MissingDeadline, ReadPastCost, NoOut, UndelayedUpward}
 use Rattle.dia_lines.specs.declared.fault.Limit.{Limit}
@@ -9,6 +13,8 @@ use Rattle.dia_lines.specs.declared.fault.ReadCode.{ReadCode}
 use Rattle.dia_lines.specs.declared.fault.ReadCode.TheVariants.{BadByte, BadToken, BadLine, NumberTooWide, NameTooLong, LimitHit, MissingDone, MissingHeader, DepthHit}
 use Rattle.trace_io.specs.declared.code.Code.{Code}
 use Rattle.trace_io.specs.declared.code.Code.TheVariants.{Reading, Checking, Tracing}
+use Rattle.dbp_top.specs.declared.refusal.Refusal.{Refusal}
+use Rattle.dbp_top.specs.declared.refusal.Refusal.TheVariants.{Document, Script, Illegal}
 use Rattle.trace_io.specs.Traces.{TraceCode, BadHeader, BadRow, BadCell, TimeNotRising, TimePastEnd, TooManyOccurrences, TooManyRows}
 
 -- the word of a limit
@@ -67,6 +73,28 @@ code_text (Reading code) = code_name code ++ limit_behind code
 code_text (Checking code) = check_name code
 code_text (Tracing code) = trace_name code
 
--- `refused: line L: CODE NAME`, ended by LF (10)
-abbrev pub refusal_line : ℕ → Code → List ℕ
-refusal_line line code = codes "refused: line " ++ decimal line ++ codes ": " ++ code_text code ++ 10 ∷ []
+-- the number and the name of a code of the script
+abbrev pub script_name : ScriptCode → List ℕ
+script_name BadStep = codes "27 BadStep"
+script_name StepName = codes "28 StepName"
+script_name NoScript = codes "29 NoScript"
+
+-- why a step isn't allowed
+abbrev pub broken_text : Broken → List ℕ
+broken_text Place = codes "not the next release step"
+broken_text LastNotEnded = codes "last instance not known to have ended"
+broken_text SlotRange = codes "no such slot"
+broken_text SlotKept = codes "slot kept"
+broken_text SlotClaimed = codes "slot claimed"
+broken_text TaskPlace = codes "not the next step of the task"
+broken_text HigherUnfinished = codes "higher rank unfinished"
+
+-- `refused: line L: CODE NAME`, or `illegal step K: TEXT`
+abbrev pub refusal_text : Refusal → List ℕ
+refusal_text (Document line code) = codes "refused: line " ++ decimal line ++ codes ": " ++ code_text code
+refusal_text (Script line code) = codes "refused: line " ++ decimal line ++ codes ": " ++ script_name code
+refusal_text (Illegal step why) = codes "illegal step " ++ decimal step ++ codes ": " ++ broken_text why.broken
+
+-- ended by LF (10)
+abbrev pub refusal_line : Refusal → List ℕ
+refusal_line refusal = refusal_text refusal ++ 10 ∷ []

@@ -1,5 +1,9 @@
--- Why an input has no plan.
+-- Why a command makes no text of an input.
 use Rattle.std.specs.Prelude.{ℕ, List}
+use Rattle.dbp_replay.specs.declared.fail.ReplayFail.{ReplayFail}
+use Rattle.dbp_replay.specs.declared.fail.ReplayFail.TheVariants as replay
+use Rattle.dbp_replay.specs.declared.fail.ScriptFail.{ScriptFail}
+use Rattle.dbp_replay.specs.declared.fail.ScriptFail.TheVariants as script
 use Rattle.dia_check.specs.declared.fail.CheckFail.{CheckFail}
 use Rattle.dia_check.specs.declared.fail.CheckFail.TheVariants as check
 use Rattle.dia_read.specs.declared.fault.ReadFail.{ReadFail}
@@ -8,22 +12,39 @@ use Rattle.trace_io.specs.declared.code.Code.TheVariants.{Reading, Checking, Tra
 use Rattle.trace_io.specs.Traces.{TraceFail}
 use Rattle.trace_io.specs.Traces as trace
 use Rattle.trace_io.specs.Texts.{Refuses}
+use Rattle.dbp_top.specs.Answer.{IsRefused}
+use Rattle.dbp_top.specs.declared.command.Command.{Command}
+use Rattle.dbp_top.specs.declared.refusal.Refusal.TheVariants.{Document, Script, Illegal}
 use Rattle.dbp_top.specs.declared.stop.Stop.{Stop}
 use Rattle.dbp_top.specs.declared.stop.Stop.TheVariants.{Refused, NoMemory}
 
 abbrev pub stop_of_reading : ReadFail → Stop
-stop_of_reading (read.Refused line code) = Refused line (Reading code)
+stop_of_reading (read.Refused line code) = Refused (Document line (Reading code))
 stop_of_reading read.NoMemory = NoMemory
 
 abbrev pub stop_of_checking : CheckFail → Stop
-stop_of_checking (check.Refused line code) = Refused line (Checking code)
+stop_of_checking (check.Refused line code) = Refused (Document line (Checking code))
 stop_of_checking check.NoMemory = NoMemory
 
 abbrev pub stop_of_tracing : TraceFail → Stop
-stop_of_tracing (trace.Refused line code) = Refused line (Tracing code)
+stop_of_tracing (trace.Refused line code) = Refused (Document line (Tracing code))
 stop_of_tracing trace.NoMemory = NoMemory
 
--- what a stop tells of the input; want of memory tells nothing
-abbrev pub IsStopOf : List ℕ → Stop → Type 0
-IsStopOf input (Refused line code) = Refuses input line code
-IsStopOf input NoMemory = Unit {0}
+abbrev pub stop_of_script : ScriptFail → Stop
+stop_of_script (script.Refused line code) = Refused (Script line code)
+stop_of_script script.NoMemory = NoMemory
+
+abbrev pub stop_of_replay : ReplayFail → Stop
+stop_of_replay (replay.Illegal step why) = Refused (Illegal step why)
+stop_of_replay replay.NoMemory = NoMemory
+
+-- the stop tells the first fault of the text's document; want of memory tells nothing
+abbrev pub IsFaultOf : List ℕ → Stop → Type 0
+IsFaultOf input (Refused (Document line code)) = Refuses input line code
+IsFaultOf input (Refused _) = ⊥
+IsFaultOf input NoMemory = Unit {0}
+
+-- what a stop tells of the input and the command; want of memory tells nothing
+abbrev pub IsStopOf : List ℕ → Command → Stop → Type 0
+IsStopOf input command (Refused refusal) = IsRefused input command refusal
+IsStopOf input command NoMemory = Unit {0}

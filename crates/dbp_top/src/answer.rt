@@ -1,22 +1,25 @@
-ghost use Rattle.std.specs.Prelude.{◌≡◌, ◌≤◌, length, IfOk};
-ghost use Rattle.sync_meaning.specs.SomeMeaning.{meaning_of};
-ghost use Rattle.trace_io.specs.Lines.{lines_of};
-ghost use Rattle.dbp_top.specs.Answer.{Answers};
-ghost use Rattle.dbp_top.specs.declared.command.Command.TheVariants.{Mean, Form, Plan as Slots};
+// What a command makes of an input.
+
+ghost use Rattle.std.specs.Prelude.{◌≡◌, ◌≤◌, length, IfErr, IfOk};
+ghost use Rattle.dbp_top.specs.Answer.{Answers, Makes, count_of};
+ghost use Rattle.dbp_top.specs.Stops.{IsStopOf};
+ghost use Rattle.dbp_top.specs.declared.command.Command.TheVariants.{Mean, Form, Plan as Slots, Replay};
 
 use crate::Status;
 use crate::command::Command;
-use crate::plan::plan_of;
+use crate::plan::{accepted, plan_of};
 use crate::refusal::refusal_line;
 use crate::slot_lines::slot_lines;
 use crate::stop::Stop;
-use dbp_plan::{NoMemory, Plan};
-use dia_read::{ReadFail, print_doc, read_doc};
+use dbp_core::Count;
+use dbp_plan::NoMemory;
+use dbp_replay::{read_script, replay};
+use dia_read::{print_doc, read_doc};
 use std::alloc::Global;
 use sync_meaning::mean;
-use trace_io::{Code, lines};
+use trace_io::lines;
 
-// The status and the text that the command gives to an input that isn't too large.
+/// The status and the text that the command gives to an input that isn't too large.
 pub(crate) fn answer(
     alloc: Global,
     command: Command,
@@ -25,63 +28,73 @@ pub(crate) fn answer(
     requires { length input.now ≤ 2000000000 }
     ensures { IfOk result (λ (status, text). Answers input.now command status text.items) }
 {
-    match command {
-        Command::Mean => mean_of(alloc, input),
-        Command::Form => form_of(alloc, input),
-        Command::Plan => slots_of(alloc, input),
-    }
-}
-
-// The lines of the meaning of the input's plan.
-fn mean_of(alloc: Global, input: &[u8]) -> Result<(Status, Vec<u8>), NoMemory>
-    requires { length input.now ≤ 2000000000 }
-    ensures { IfOk result (λ (status, text). Answers input.now Mean status text.items) }
-{
-    match plan_of(alloc, input) {
-        Ok(plan) => Ok((Status::Ok, meaning(alloc, &plan)?)),
-        Err(Stop::Refused { line, code }) => {
-            Ok((Status::Refused, refusal_line(alloc, line, &code)?))
-        }
+    match text_of(alloc, command, input) {
+        Ok(text) => Ok((Status::Ok, text)),
+        Err(Stop::Refused(refusal)) => Ok((Status::Refused, refusal_line(alloc, &refusal)?)),
         Err(Stop::NoMemory) => Err(NoMemory),
     }
 }
 
-// The lines of the plan's table.
-fn meaning(alloc: Global, plan: &Plan) -> Result<Vec<u8>, NoMemory>
-    ensures { IfOk result (λ text. text.items ≡ lines_of plan.now.diagram plan.now.batches (meaning_of plan.now)) }
+/// The text that the command makes of the input, or why it makes none.
+fn text_of(alloc: Global, command: Command, input: &[u8]) -> Result<Vec<u8>, Stop>
+    requires { length input.now ≤ 2000000000 }
+    ensures text { IfOk result (λ text. Makes input.now command text.items) }
+    ensures stop { IfErr result (λ stop. IsStopOf input.now command stop) }
 {
-    let table = mean(alloc, plan)?;
-    let text = lines(alloc, plan, &table)?;
+    match command {
+        Command::Mean => meaning_of(alloc, input),
+        Command::Form => form_of(alloc, input),
+        Command::Plan => slots_of(alloc, input),
+        Command::Replay { ranked } => replay_of(alloc, ranked, input),
+    }
+}
+
+/// The lines of the meaning of the input's plan.
+fn meaning_of(alloc: Global, input: &[u8]) -> Result<Vec<u8>, Stop>
+    requires { length input.now ≤ 2000000000 }
+    ensures text { IfOk result (λ text. Makes input.now Mean text.items) }
+    ensures stop { IfErr result (λ stop. IsStopOf input.now Mean stop) }
+{
+    let plan = plan_of(alloc, input)?;
+    let table = mean(alloc, &plan)?;
+    Ok(lines(alloc, &plan, &table)?)
+}
+
+/// The canonical text of the input's document.
+fn form_of(alloc: Global, input: &[u8]) -> Result<Vec<u8>, Stop>
+    requires { length input.now ≤ 2000000000 }
+    ensures text { IfOk result (λ text. Makes input.now Form text.items) }
+    ensures stop { IfErr result (λ stop. IsStopOf input.now Form stop) }
+{
+    let doc = read_doc(alloc, input)?;
+    Ok(print_doc(alloc, &doc.body)?)
+}
+
+/// The slots of the tasks of the input's plan.
+fn slots_of(alloc: Global, input: &[u8]) -> Result<Vec<u8>, Stop>
+    requires { length input.now ≤ 2000000000 }
+    ensures text { IfOk result (λ text. Makes input.now Slots text.items) }
+    ensures stop { IfErr result (λ stop. IsStopOf input.now Slots stop) }
+{
+    let plan = plan_of(alloc, input)?;
+    Ok(slot_lines(alloc, &plan.diagram)?)
+}
+
+/// The steps of the input's script, with what they hear.
+fn replay_of(alloc: Global, ranked: bool, input: &[u8]) -> Result<Vec<u8>, Stop>
+    requires { length input.now ≤ 2000000000 }
+    ensures text { IfOk result (λ text. Makes input.now (Replay ranked) text.items) }
+    ensures stop { IfErr result (λ stop. IsStopOf input.now (Replay ranked) stop) }
+{
+    let (doc, plan) = accepted(alloc, input)?;
+    let steps = read_script(alloc, &plan.diagram, &doc)?;
+    let text = replay(alloc, &plan, count_of(ranked), &steps)?;
     Ok(text)
 }
 
-// The canonical text of the input's document.
-fn form_of(alloc: Global, input: &[u8]) -> Result<(Status, Vec<u8>), NoMemory>
-    requires { length input.now ≤ 2000000000 }
-    ensures { IfOk result (λ (status, text). Answers input.now Form status text.items) }
+/// By which slots and in which order the steps of a replay are taken.
+fn count_of(ranked: bool) -> Count
+    ensures { result ≡ count_of ranked }
 {
-    match read_doc(alloc, input) {
-        Ok(doc) => Ok((Status::Ok, print_doc(alloc, &doc.body)?)),
-        Err(ReadFail::Refused { line, code }) => {
-            Ok((
-                Status::Refused,
-                refusal_line(alloc, line, &Code::Reading(code))?,
-            ))
-        }
-        Err(ReadFail::NoMemory) => Err(NoMemory),
-    }
-}
-
-// The slots of the tasks of the input's plan.
-fn slots_of(alloc: Global, input: &[u8]) -> Result<(Status, Vec<u8>), NoMemory>
-    requires { length input.now ≤ 2000000000 }
-    ensures { IfOk result (λ (status, text). Answers input.now Slots status text.items) }
-{
-    match plan_of(alloc, input) {
-        Ok(plan) => Ok((Status::Ok, slot_lines(alloc, &plan.diagram)?)),
-        Err(Stop::Refused { line, code }) => {
-            Ok((Status::Refused, refusal_line(alloc, line, &code)?))
-        }
-        Err(Stop::NoMemory) => Err(NoMemory),
-    }
+    if ranked { Count::Ranked } else { Count::All }
 }

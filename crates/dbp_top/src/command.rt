@@ -16,6 +16,8 @@ pub(crate) enum Command {
     Form,
     /// Writes the slots of each task.
     Plan,
+    /// Takes the steps of the script, and writes what each hears: in any order of the tasks, or by their ranks.
+    Replay { ranked: bool },
 }
 
 // A command, and the words that name it.
@@ -25,7 +27,7 @@ struct Row {
 }
 
 // All commands. What a user is told of them is made of this table too.
-static ROWS: [Row; 3] = [
+static ROWS: [Row; 5] = [
     Row {
         words: &["mean"],
         command: Command::Mean,
@@ -37,6 +39,14 @@ static ROWS: [Row; 3] = [
     Row {
         words: &["plan"],
         command: Command::Plan,
+    },
+    Row {
+        words: &["replay"],
+        command: Command::Replay { ranked: false },
+    },
+    Row {
+        words: &["replay", "--ranked"],
+        command: Command::Replay { ranked: true },
     },
 ];
 

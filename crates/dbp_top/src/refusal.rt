@@ -1,25 +1,72 @@
-// The line that says why a text is refused.
+// The line that says why a text is refused, or why its script can't be replayed.
 
 ghost use Rattle.std.specs.Prelude.{◌≡◌, ◌++◌, codes, decimal, IfOk, OnOk};
-ghost use Rattle.dbp_top.specs.Refusals.{check_name, code_name, code_text, limit_behind, limit_word, refusal_line, trace_name};
+ghost use Rattle.dbp_top.specs.Refusals.{broken_text, check_name, code_name, code_text, limit_behind, limit_word, refusal_line, refusal_text, script_name, trace_name};
 
+use dbp_core::{Broken, Illegal};
 use dbp_plan::NoMemory;
+use dbp_replay::ScriptCode;
 use dia_check::CheckCode;
 use dia_read::{Limit, ReadCode};
 use itoa::Buffer;
 use std::alloc::Global;
 use trace_io::{Code, TraceCode};
 
-/// The line `refused: line L: CODE NAME`, with the limit's word behind a passed limit.
-pub(crate) fn refusal_line(alloc: Global, line: u32, code: &Code) -> Result<Vec<u8>, NoMemory>
-    ensures { IfOk result (λ text. text.items ≡ refusal_line line code.now) }
+/// Why a command refuses an input. Lines and steps are counted from 1.
+#[derive(Drop)]
+pub(crate) enum Refusal {
+    /// The first fault of the diagram or its trace.
+    Document { line: u32, code: Code },
+    /// The first fault of the script.
+    Script { line: u32, code: ScriptCode },
+    /// The first step of the script that isn't allowed.
+    Illegal { step: u32, why: Illegal },
+}
+
+/// The line `refused: line L: CODE NAME`, with the limit's word behind a passed limit, or `illegal step K: TEXT`.
+pub(crate) fn refusal_line(alloc: Global, refusal: &Refusal) -> Result<Vec<u8>, NoMemory>
+    ensures { IfOk result (λ text. text.items ≡ refusal_line refusal.now) }
 {
-    let mut text = Vec::from_slice(alloc, b"refused: line ")?;
-    text.extend_from_slice(Buffer::new().format(line).as_bytes())?;
-    text.extend_from_slice(b": ")?;
-    push_code(&mut text, code)?;
+    let mut text = Vec::new(alloc);
+    push_refusal(&mut text, refusal)?;
     text.push(b'\n')?;
     Ok(text)
+}
+
+fn push_refusal(text: &mut Vec<u8>, refusal: &Refusal) -> Result<(), NoMemory>
+    ensures { OnOk result (text.new.items ≡ text.old.items ++ refusal_text refusal.now) }
+{
+    match refusal {
+        Refusal::Document { line, code } => {
+            push_line_number(text, *line)?;
+            push_code(text, code)
+        }
+        Refusal::Script { line, code } => {
+            push_line_number(text, *line)?;
+            Ok(text.extend_from_slice(script_name(*code).as_bytes())?)
+        }
+        Refusal::Illegal { step, why } => {
+            push_numbered(text, "illegal step ", *step)?;
+            Ok(text.extend_from_slice(broken_text(why.broken).as_bytes())?)
+        }
+    }
+}
+
+// Adds `refused: line L: `.
+fn push_line_number(text: &mut Vec<u8>, line: u32) -> Result<(), NoMemory>
+    ensures { OnOk result (text.new.items ≡ text.old.items ++ codes "refused: line " ++ decimal line ++ codes ": ") }
+{
+    push_numbered(text, "refused: line ", line)
+}
+
+// Adds the words and the number behind them, and a colon and a space.
+fn push_numbered(text: &mut Vec<u8>, words: &str, number: u32) -> Result<(), NoMemory>
+    ensures { OnOk result (text.new.items ≡ text.old.items ++ words.now ++ decimal number ++ codes ": ") }
+{
+    text.extend_from_slice(words.as_bytes())?;
+    text.extend_from_slice(Buffer::new().format(number).as_bytes())?;
+    text.extend_from_slice(b": ")?;
+    Ok(())
 }
 
 fn push_code(text: &mut Vec<u8>, code: &Code) -> Result<(), NoMemory>
@@ -73,6 +120,32 @@ fn trace_name(code: TraceCode) -> &'static str
         TraceCode::TimePastEnd => "24 TimePastEnd",
         TraceCode::TooManyOccurrences => "25 TooManyOccurrences",
         TraceCode::TooManyRows => "26 TooManyRows",
+    }
+}
+
+// The number and the name of a code of the script.
+fn script_name(code: ScriptCode) -> &'static str
+    ensures { result.now ≡ script_name code }
+{
+    match code {
+        ScriptCode::BadStep => "27 BadStep",
+        ScriptCode::StepName => "28 StepName",
+        ScriptCode::NoScript => "29 NoScript",
+    }
+}
+
+// Why a step isn't allowed.
+fn broken_text(broken: Broken) -> &'static str
+    ensures { result.now ≡ broken_text broken }
+{
+    match broken {
+        Broken::Place => "not the next release step",
+        Broken::LastNotEnded => "last instance not known to have ended",
+        Broken::SlotRange => "no such slot",
+        Broken::SlotKept => "slot kept",
+        Broken::SlotClaimed => "slot claimed",
+        Broken::TaskPlace => "not the next step of the task",
+        Broken::HigherUnfinished => "higher rank unfinished",
     }
 }
 

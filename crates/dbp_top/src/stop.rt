@@ -1,17 +1,19 @@
-// Why an input has no plan.
+// Why a command makes no text of an input.
 
 ghost use Rattle.std.specs.Prelude.{◌≡◌};
 
+use crate::refusal::Refusal;
 use dbp_plan::NoMemory;
+use dbp_replay::{ReplayFail, ScriptFail};
 use dia_check::CheckFail;
 use dia_read::ReadFail;
 use trace_io::{Code, TraceFail};
 
-/// Why an input has no plan.
+/// Why a command makes no text of an input.
 #[derive(Drop)]
 pub(crate) enum Stop {
-    /// The first fault, at a line, counted from 1.
-    Refused { line: u32, code: Code },
+    /// The input is refused.
+    Refused(Refusal),
     /// Memory ran out.
     NoMemory,
 }
@@ -33,10 +35,10 @@ impl From<ReadFail> for Stop {
 
     fn from(fail: ReadFail) -> Self {
         match fail {
-            ReadFail::Refused { line, code } => Stop::Refused {
+            ReadFail::Refused { line, code } => Stop::Refused(Refusal::Document {
                 line,
                 code: Code::Reading(code),
-            },
+            }),
             ReadFail::NoMemory => Stop::NoMemory,
         }
     }
@@ -49,10 +51,10 @@ impl From<CheckFail> for Stop {
 
     fn from(fail: CheckFail) -> Self {
         match fail {
-            CheckFail::Refused { line, code } => Stop::Refused {
+            CheckFail::Refused { line, code } => Stop::Refused(Refusal::Document {
                 line,
                 code: Code::Checking(code),
-            },
+            }),
             CheckFail::NoMemory => Stop::NoMemory,
         }
     }
@@ -65,11 +67,37 @@ impl From<TraceFail> for Stop {
 
     fn from(fail: TraceFail) -> Self {
         match fail {
-            TraceFail::Refused { line, code } => Stop::Refused {
+            TraceFail::Refused { line, code } => Stop::Refused(Refusal::Document {
                 line,
                 code: Code::Tracing(code),
-            },
+            }),
             TraceFail::NoMemory => Stop::NoMemory,
+        }
+    }
+}
+
+impl From<ScriptFail> for Stop {
+    ghost use Rattle.dbp_top.specs.Stops.{stop_of_script};
+
+    ghost from_gives = { λ fail stop. stop ≡ stop_of_script fail };
+
+    fn from(fail: ScriptFail) -> Self {
+        match fail {
+            ScriptFail::Refused { line, code } => Stop::Refused(Refusal::Script { line, code }),
+            ScriptFail::NoMemory => Stop::NoMemory,
+        }
+    }
+}
+
+impl From<ReplayFail> for Stop {
+    ghost use Rattle.dbp_top.specs.Stops.{stop_of_replay};
+
+    ghost from_gives = { λ fail stop. stop ≡ stop_of_replay fail };
+
+    fn from(fail: ReplayFail) -> Self {
+        match fail {
+            ReplayFail::Illegal { step, why } => Stop::Refused(Refusal::Illegal { step, why }),
+            ReplayFail::NoMemory => Stop::NoMemory,
         }
     }
 }

@@ -7,6 +7,7 @@ mod documents;
 mod faults;
 mod limits;
 mod refusals;
+mod replays;
 mod slots;
 mod steps;
 mod traces;

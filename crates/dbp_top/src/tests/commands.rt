@@ -5,17 +5,22 @@ use crate::command::{Command, command_of};
 use crate::{Status, command_lines};
 use std::test::Fail;
 
-static COMMANDS: [(&[&str], Command); 3] = [
+static COMMANDS: [(&[&str], Command); 5] = [
     (&["mean"], Command::Mean),
     (&["form"], Command::Form),
     (&["plan"], Command::Plan),
+    (&["replay"], Command::Replay { ranked: false }),
+    (&["replay", "--ranked"], Command::Replay { ranked: true }),
 ];
 
-static NO_COMMANDS: [&[&str]; 14] = [
+static NO_COMMANDS: [&[&str]; 17] = [
     &[],
     &[""],
     &["sim"],
     &["mean", "mean"],
+    &["mean", "--ranked"],
+    &["replay", "ranked"],
+    &["replay", "--ranked", "--ranked"],
     &["mean", "form"],
     &["form", ""],
     &["", "form"],
@@ -39,7 +44,7 @@ fn words_name_commands(rt: HostRuntime) -> Result<(), Fail> {
     }
     assert_eq!(rt;
         command_lines(rt.alloc())?.as_str(),
-        "  mean\n  form\n  plan\n"
+        "  mean\n  form\n  plan\n  replay\n  replay --ranked\n"
     );
     Ok(())
 }

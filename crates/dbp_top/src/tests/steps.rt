@@ -12,7 +12,7 @@ use std::process::Abort;
 use std::test::Fail;
 
 // A third task, ranked above the others, reads `a` through a delay.
-const THREE_RATES: &str = "dbp 1
+pub(super) const THREE_RATES: &str = "dbp 1
 policy fp
 until 6
 task a every 2 from 0 prio 2 cost 1
@@ -82,7 +82,7 @@ static DELAYED: [(Step, Heard); 11] = [
 ];
 
 // Two tasks of one deadline, of which the second reads the first.
-const ONE_DEADLINE: &str = "dbp 1
+pub(super) const ONE_DEADLINE: &str = "dbp 1
 policy edf
 until 2
 task u every 2 deadline 2 cost 1

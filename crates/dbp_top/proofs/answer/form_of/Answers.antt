@@ -1,14 +1,15 @@
-use Rattle.std.proofs.Common.{ℕ, List, sym, subst, rules}
-use Rattle.dbp_top.specs.Answer.{Answers, form_of_a_document, form_of_a_fault}
+use Rattle.std.proofs.Common.{ℕ, List, sym, subst}
+use Rattle.std.proofs.lemmas.Result.{err_from_is_err_and}
+use Rattle.dbp_top.specs.Answer.{Makes, canonical}
 use Rattle.dbp_top.specs.declared.command.Command.TheVariants.{Form}
-use Rattle.dbp_top.specs.declared.status.Status.TheVariants.{Ok, Refused}
+use Rattle.dbp_top.proofs.StopLaws.{form-stop}
 use Rattle.dbp_top.proofs.answer.form_of.Goals as goal
 
-pub returns-in_ok-print_doc-in-Ok : goal.returns-in_ok-print_doc-in-Ok
-returns-in_ok-print_doc-in-Ok c =
-    subst (λ (text : List ℕ). Answers c.args.input.now Form Ok text) (sym c.in_ok-print_doc-in-Ok.ensures.text) (form_of_a_document c.in-Ok.doc c.in-Ok.ensures.found)
+pub returns-in_err-doc-clause-stop : goal.returns-in_err-doc-clause-stop
+returns-in_err-doc-clause-stop c =
+    let p = err_from_is_err_and c.from_residual.result c.from_residual.ensures.1 in
+    rw (p.1, p.2) (form-stop c.args.input.now c.in_err-doc.field-0.0 c.in_err-doc.ensures.fault)
 
-pub returns-in_ok-refusal_line-in-Err-Refused : goal.returns-in_ok-refusal_line-in-Err-Refused
-returns-in_ok-refusal_line-in-Err-Refused c =
-    subst (λ (text : List ℕ). Answers c.args.input.now Form Refused text) (sym c.in_ok-refusal_line-in-Err-Refused.ensures)
-    (form_of_a_fault c.in-Err-Refused.line c.in-Err-Refused.code (search rules))
+pub returns-clause-text : goal.returns-clause-text
+returns-clause-text c =
+    subst (λ (text : List ℕ). Makes c.args.input.now Form text) (sym c.in_ok-print_doc.ensures.text) (canonical c.in_ok-doc.doc c.in_ok-doc.ensures.found)

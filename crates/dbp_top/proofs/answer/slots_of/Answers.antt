@@ -1,14 +1,15 @@
-use Rattle.std.proofs.Common.{ℕ, List, sym, subst, rules}
-use Rattle.dbp_top.specs.Answer.{Answers, slots_of_a_plan, slots_of_a_fault}
+use Rattle.std.proofs.Common.{ℕ, List, sym, subst}
+use Rattle.std.proofs.lemmas.Result.{err_from_is_err_and}
+use Rattle.dbp_top.specs.Answer.{Makes, slots}
 use Rattle.dbp_top.specs.declared.command.Command.TheVariants as command
-use Rattle.dbp_top.specs.declared.status.Status.TheVariants.{Ok, Refused}
+use Rattle.dbp_top.proofs.StopLaws.{slots-stop}
 use Rattle.dbp_top.proofs.answer.slots_of.Goals as goal
 
-pub returns-in_ok-slot_lines-in-Ok : goal.returns-in_ok-slot_lines-in-Ok
-returns-in_ok-slot_lines-in-Ok c =
-    subst (λ (text : List ℕ). Answers c.args.input.now command.Plan Ok text) (sym c.in_ok-slot_lines-in-Ok.ensures) (slots_of_a_plan c.in-Ok.plan c.in-Ok.ensures.plan)
+pub returns-in_err-plan-clause-stop : goal.returns-in_err-plan-clause-stop
+returns-in_err-plan-clause-stop c =
+    let p = err_from_is_err_and c.from_residual.result c.from_residual.ensures.1 in
+    rw (p.1, p.2) (slots-stop c.args.input.now c.in_err-plan.field-0.0 c.in_err-plan.ensures.fault)
 
-pub returns-in_ok-refusal_line-in-Err-Refused : goal.returns-in_ok-refusal_line-in-Err-Refused
-returns-in_ok-refusal_line-in-Err-Refused c =
-    subst (λ (text : List ℕ). Answers c.args.input.now command.Plan Refused text) (sym c.in_ok-refusal_line-in-Err-Refused.ensures)
-    (slots_of_a_fault c.in-Err-Refused.line c.in-Err-Refused.code (search rules))
+pub returns-clause-text : goal.returns-clause-text
+returns-clause-text c =
+    subst (λ (text : List ℕ). Makes c.args.input.now command.Plan text) (sym c.in_ok-slot_lines.ensures) (slots c.in_ok-plan.plan c.in_ok-plan.ensures.plan)

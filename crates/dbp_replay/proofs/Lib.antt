@@ -1,0 +1,10 @@
+pub mod Taken
+pub mod There
+pub mod KeptSteps
+pub mod OneScript
+pub mod OneReplay
+pub mod FirstPlaces
+pub mod StepWords
+pub mod StepTokens
+pub mod PrintedScripts
+pub mod CheckedNames

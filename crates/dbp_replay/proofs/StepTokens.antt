@@ -1,0 +1,143 @@
+-- A printed step spells tokens that name the step.
+use Rattle.std.proofs.Common.{◌≡◌, ℕ, pos, zero, suc, ◌<◌, ◌≤◌, ◌^◌, All, false, List, [], ◌∷◌, ◌++◌, Some, Ok, refl, sym, ap, ◌∙◌, subst, arith}
+use Rattle.std.specs.Fmt.{decimal}
+use Rattle.std.proofs.lemmas.Bool.{lt-ltb}
+use Rattle.std.proofs.lemmas.List.Elements.{All-cons, All-nil}
+use Rattle.dbp_core.specs.declared.step.Step.{Step}
+use Rattle.dbp_core.specs.declared.step.Step.TheVariants as step
+use Rattle.dbp_plan.specs.declared.diagram.Diagram.{Diagram}
+use Rattle.dia_tokens.specs.declared.edge.Edge.TheVariants.{Loose}
+use Rattle.dia_tokens.specs.declared.token.Token.{Token}
+use Rattle.dia_tokens.specs.declared.token.Token.TheVariants as token
+use Rattle.dia_tokens.specs.declared.token.Word.TheVariants.{Pre}
+use Rattle.dia_tokens.specs.KeepsSigns.{KeepsSigns}
+use Rattle.dia_tokens.specs.Line.{Spells}
+use Rattle.dia_tokens.specs.Printable.{IsPrintableName, IsPrintableToken}
+use Rattle.dia_tokens.specs.TokenText.{line_text, text_behind}
+use Rattle.dia_tokens.proofs.LineSpells.{line-spells}
+use Rattle.release_list.specs.Links.{no_link}
+use Rattle.dbp_replay.specs.declared.form.Operand.{Operand}
+use Rattle.dbp_replay.specs.declared.form.Operand.TheVariants as operand
+use Rattle.dbp_replay.specs.declared.kind.Takes.{Takes}
+use Rattle.dbp_replay.specs.declared.kind.Takes.TheVariants.{Nothing, Slot, Writer, Read, Port}
+use Rattle.dbp_replay.specs.Names.{HasNames, HasSlotNumber}
+use Rattle.dbp_replay.specs.Places.{IsThere, link_in, port_name, read_name, task_in, task_of}
+use Rattle.dbp_replay.specs.Scripts.{Says}
+use Rattle.dbp_replay.specs.StepForms.{form_of, named_step, number_of, numbered, of_kind, of_task, operand_of, step_with, with_operand}
+use Rattle.dbp_replay.specs.Texts.{delay_words, kind_of, operand_words, spaced, step_text}
+use Rattle.dbp_replay.proofs.FirstPlaces.{link-place, port-place, port-printable, read-place, read-printable, task-place, task-printable}
+use Rattle.dbp_replay.proofs.StepWords.{first-printable, first-text, first-unsigned, first_token, kind-again}
+
+-- ---- the words behind the task
+
+-- these words are the operand that their kind takes
+record IsOperand (takes : Takes) (words : List (List ℕ)) (o : Operand) : Type 0 where
+  tokens : List Token
+  text : spaced words ≡ text_behind Loose tokens
+  printable : All IsPrintableToken tokens
+  unsigned : KeepsSigns false tokens
+  read : operand_of takes tokens ≡ Some o
+
+-- of a step: and in the diagram the operand is the number that the step has
+record HasOperandWords (d : Diagram) (e : Step) : Type 0 where
+  given : Operand
+  words : IsOperand (form_of (kind_of e)).1 (operand_words d e) given
+  number : ℕ
+  found : number_of d (task_of d e) given ≡ Some number
+  again : step_with (kind_of e) (task_of d e) number ≡ e
+
+nothing : IsOperand Nothing [] operand.Nothing
+nothing = record { tokens = []; text = refl; printable = All-nil IsPrintableToken; unsigned = tt; read = refl }
+
+one-name : (takes : Takes) (n : List ℕ) (o : Operand) → IsPrintableName n → operand_of takes (token.Name n ∷ []) ≡ Some o → IsOperand takes (n ∷ []) o
+one-name takes n o printable read = record {
+  tokens = token.Name n ∷ [];
+  text = refl;
+  printable = All-cons IsPrintableToken (token.Name n) [] printable (All-nil IsPrintableToken);
+  unsigned = (λ _. tt, tt);
+  read = read;
+}
+
+writer : (delay : ℕ) (n : List ℕ) → delay ≤ 1 → IsPrintableName n → IsOperand Writer (delay_words delay ++ n ∷ []) (operand.Link delay n)
+writer zero n short printable = one-name Writer n (operand.Link 0 n) printable refl
+writer (suc zero) n short printable = record {
+  tokens = token.Word Pre ∷ token.Name n ∷ [];
+  text = refl;
+  printable = All-cons IsPrintableToken (token.Word Pre) (token.Name n ∷ []) tt (All-cons IsPrintableToken (token.Name n) [] printable (All-nil IsPrintableToken));
+  unsigned = (λ _. tt, (λ _. tt, tt));
+  read = refl;
+}
+writer (suc (suc delay)) n short printable = absurd (omega (arith, short))
+
+slot-number : (slot : ℕ) → slot < 2 ^ 32 → IsOperand Slot (decimal slot ∷ []) (operand.Slot slot)
+slot-number slot small = record {
+  tokens = token.Number (pos slot) ∷ [];
+  text = refl;
+  printable = All-cons IsPrintableToken (token.Number (pos slot)) [] (omega (arith, small)) (All-nil IsPrintableToken);
+  unsigned = (λ _. tt, tt);
+  read = rw (lt-ltb slot (2 ^ 32) small) refl;
+}
+
+bare : (d : Diagram) (e : Step) → operand_words d e ≡ [] → (form_of (kind_of e)).1 ≡ Nothing → step_with (kind_of e) (task_of d e) 0 ≡ e → HasOperandWords d e
+bare d e none takes again = record {
+  given = operand.Nothing;
+  words = subst (λ ws. IsOperand (form_of (kind_of e)).1 ws operand.Nothing) (sym none) (subst (λ t. IsOperand t [] operand.Nothing) (sym takes) nothing);
+  number = 0;
+  found = refl;
+  again = again;
+}
+
+operand-words : (d : Diagram) (e : Step) → HasNames d → IsThere d e → HasSlotNumber e → HasOperandWords d e
+operand-words d (step.Aim i slot) names there small = record { given = operand.Slot slot; words = slot-number slot small; number = slot; found = refl; again = refl }
+operand-words d (step.Claim k) names there small =
+    let l = link_in d k in
+    record {
+      given = operand.Link l.delay (task_in d l.writer).name;
+      words = writer l.delay (task_in d l.writer).name (names.delays k no_link there.named) (task-printable d names l.writer there.operand);
+      number = k;
+      found = link-place d names k there.named there.operand;
+      again = refl;
+    }
+operand-words d (step.Look i r) names there small = record {
+  given = operand.Read (read_name d i r);
+  words = one-name Read (read_name d i r) (operand.Read (read_name d i r)) (read-printable d names i r there.task there.operand) refl;
+  number = r;
+  found = read-place d names i r there.task there.operand;
+  again = refl;
+}
+operand-words d (step.Take i r) names there small = record {
+  given = operand.Read (read_name d i r);
+  words = one-name Read (read_name d i r) (operand.Read (read_name d i r)) (read-printable d names i r there.task there.operand) refl;
+  number = r;
+  found = read-place d names i r there.task there.operand;
+  again = refl;
+}
+operand-words d (step.Put i p) names there small = record {
+  given = operand.Port (port_name d i p);
+  words = one-name Port (port_name d i p) (operand.Port (port_name d i p)) (port-printable d names i p there.task there.operand) refl;
+  number = p;
+  found = port-place d names i p there.task there.operand;
+  again = refl;
+}
+operand-words d e names there small = bare d e refl refl refl
+
+-- ---- the line
+
+pub says-step : (d : Diagram) (e : Step) → HasNames d → IsThere d e → HasSlotNumber e → Says d (step_text d e) (Ok e)
+says-step d e names there small =
+    let kind = kind_of e in
+    let i = task_of d e in
+    let n = (task_in d i).name in
+    let o = operand-words d e names there small in
+    let rest = token.Name n ∷ o.words.tokens in
+    let tokens = first_token kind ∷ rest in
+    let behind : step_text d e ≡ (form_of kind).0 ++ text_behind Loose rest = ap (λ ws. (form_of kind).0 ++ (32 ∷ n ++ ws)) o.words.text in
+    let text : step_text d e ≡ line_text tokens = behind ∙ first-text kind rest in
+    let printable : All IsPrintableToken tokens =
+    All-cons IsPrintableToken (first_token kind) rest (first-printable kind) (All-cons IsPrintableToken (token.Name n) o.words.tokens (task-printable d names i there.task) o.words.printable) in
+    record {
+      tokens = tokens;
+      spelled = subst (λ line. Spells line tokens) (sym text) (line-spells tokens printable (λ _. first-unsigned kind, (λ _. tt, o.words.unsigned)));
+      says = ap (λ k. named_step d (of_kind k n o.words.tokens)) (kind-again kind) ∙ ap (λ p. named_step d (with_operand kind n p)) o.words.read
+          ∙ ap (of_task d (record { kind = kind; task = n; operand = o.given })) (task-place d names i there.task) ∙ ap (numbered kind i) o.found ∙ ap (λ f. Ok f) o.again;
+    }

@@ -1,0 +1,43 @@
+-- The words that begin the lines of a script, as tokens.
+use Rattle.std.proofs.Common.{◌≡◌, ℕ, ◌≤◌, true, List, ◌∷◌, ◌++◌, length, Some, refl, arith}
+use Rattle.std.specs.List.{list_all}
+use Rattle.std.proofs.lemmas.List.Sums.{AllPass-from_list_all}
+use Rattle.dbp_plan.specs.Name.{BeginsAsName, is_name_byte}
+use Rattle.dia_tokens.specs.declared.edge.Edge.TheVariants.{Loose}
+use Rattle.dia_tokens.specs.declared.token.Token.{Token}
+use Rattle.dia_tokens.specs.declared.token.Token.TheVariants as token
+use Rattle.dia_tokens.specs.declared.token.Word.TheVariants as word
+use Rattle.dia_tokens.specs.KeepsSigns.{IsUnsigned}
+use Rattle.dia_tokens.specs.Pieces.{name}
+use Rattle.dia_tokens.specs.Printable.{IsPrintableName, IsPrintableToken}
+use Rattle.dia_tokens.specs.TokenText.{line_text, text_behind}
+use Rattle.dia_tokens.specs.Words.{word_of}
+use Rattle.dbp_replay.specs.declared.kind.Kind.{Kind}
+use Rattle.dbp_replay.specs.declared.kind.Kind.TheVariants.{Done}
+use Rattle.dbp_replay.specs.StepForms.{form_of, kind_with, spelled}
+
+-- the token of a kind's word: only `done` is a reserved word
+abbrev pub first_token : Kind → Token
+first_token Done = token.Word word.Done
+first_token k = token.Name (form_of k).0
+
+pub first-text : (k : Kind) (ts : List Token) → (form_of k).0 ++ text_behind Loose ts ≡ line_text (first_token k ∷ ts)
+first-text Done ts = refl
+first-text k ts = refl
+
+-- a text that a test finds to be a name
+tested-name : (text : List ℕ) → BeginsAsName text → list_all is_name_byte text ≡ true → length text ≤ 24 → word_of text ≡ name text → IsPrintableName text
+tested-name text begins each fits free = (record { begins = begins; each = AllPass-from_list_all is_name_byte text each; fits = fits }, free)
+
+pub first-printable : (k : Kind) → IsPrintableToken (first_token k)
+unfolding word_of
+first-printable Done = tt
+first-printable k = tested-name (form_of k).0 refl refl (omega arith) refl
+
+pub kind-again : (k : Kind) → kind_with (spelled (first_token k)) ≡ Some k
+kind-again Done = refl
+kind-again k = refl
+
+pub first-unsigned : (k : Kind) → IsUnsigned (first_token k)
+first-unsigned Done = tt
+first-unsigned k = tt

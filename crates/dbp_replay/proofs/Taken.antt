@@ -1,0 +1,89 @@
+-- Steps taken so far.
+use Rattle.std.proofs.Common.{◌≡◌, ℕ, ◌+◌, List, [], ◌∷◌, ◌++◌, take, length, slice_get, Option, Some, None, Result, Ok, Err, refl, sym, ap, ◌∙◌, subst, arith, append_assoc}
+use Rattle.std.proofs.lemmas.List.{append-nil, take_all, take_more}
+use Rattle.std.proofs.lemmas.Option.{get_or_from_slice_get, slice_get_within}
+use Rattle.dbp_core.specs.declared.step.Count.{Count}
+use Rattle.dbp_core.specs.declared.step.Heard.{Heard}
+use Rattle.dbp_core.specs.declared.step.Illegal.{Illegal}
+use Rattle.dbp_core.specs.declared.step.Step.{Step}
+use Rattle.dbp_core.specs.declared.state.State.{State}
+use Rattle.dbp_core.specs.declared.wiring.Wiring.{Wiring}
+use Rattle.dbp_core.specs.Lawful.{Leads}
+use Rattle.dbp_core.specs.Rules.{IsAnswer, IsNamed, IsStep, hears, next, refusal}
+use Rattle.dbp_core.specs.Wired.{wiring_of}
+use Rattle.dbp_plan.specs.declared.plan.Plan.{Plan}
+use Rattle.dbp_replay.specs.Replays.{IsIllegal, IsReplay, first, told}
+use Rattle.dbp_replay.specs.Texts.{heard_line}
+
+-- ---- one step more
+
+-- an allowed step: what it hears, and the next state
+allowed : (o : Option Illegal) (p : Plan) (w : Wiring) (s new : State) (e : Step) (h : Heard) → IsAnswer o p w s e (Ok h) new → (o ≡ None) × (h ≡ hears w s e) × (new ≡ next p w s e)
+allowed None p w s new e h answer = (refl, cc (answer.0), answer.1)
+allowed (Some why) p w s new e h answer = absurd (cc (answer.0))
+
+refused : (o : Option Illegal) (p : Plan) (w : Wiring) (s new : State) (e : Step) (why : Illegal) → IsAnswer o p w s e (Err why) new → o ≡ Some why
+refused None p w s new e why answer = absurd (cc (answer.0))
+refused (Some other) p w s new e why answer = cc (answer.0)
+
+leads-more : (p : Plan) (w : Wiring) (es : List Step) (s t : State) (e : Step) → Leads p w s es t → IsNamed p.diagram e → refusal w t e ≡ None → Leads p w s (es ++ e ∷ []) (next p w t e)
+leads-more p w [] s t e same named free = (named, subst (λ (x : State). refusal w x e ≡ None) same free, ap (λ (x : State). next p w x e) same)
+leads-more p w (f ∷ fs) s t e leads named free = (leads.0, leads.1, leads-more p w fs (next p w s f) t e leads.2 named free)
+
+told-more : (p : Plan) (w : Wiring) (es : List Step) (s t : State) (e : Step) → Leads p w s es t → told p w s (es ++ e ∷ []) ≡ told p w s es ++ heard_line p.diagram e (hears w t e)
+told-more p w [] s t e same = append-nil (heard_line p.diagram e (hears w s e)) ∙ ap (λ (x : State). heard_line p.diagram e (hears w x e)) (sym same)
+told-more p w (f ∷ fs) s t e leads =
+    ap (λ (l : List ℕ). heard_line p.diagram f (hears w s f) ++ l) (told-more p w fs (next p w s f) t e leads.2)
+    ∙ sym (append_assoc (heard_line p.diagram f (hears w s f)) (told p w (next p w s f) fs) (heard_line p.diagram e (hears w t e)))
+
+-- the items up to a place, and the one at it
+pub take-one : {X : Type 0} (xs : List X) (k : ℕ) (x : X) → slice_get xs k ≡ Some x → take (k + 1) xs ≡ take k xs ++ x ∷ []
+take-one xs k x at = take_more xs k x (slice_get_within xs k x at) ∙ ap (λ y. take k xs ++ y ∷ []) (get_or_from_slice_get xs k x x at)
+
+-- ---- the steps before a place were taken, and this is their text
+
+pub record TakenTo (p : Plan) (count : Count) (steps : List Step) (place : ℕ) (s : State) (text : List ℕ) : Type 0 where
+  pub leads : Leads p (wiring_of p count) (first p count) (take place steps) s
+  pub told : text ≡ told p (wiring_of p count) (first p count) (take place steps)
+
+pub taken-none : (p : Plan) (count : Count) (steps : List Step) (s : State) (text : List ℕ) → s ≡ first p count → text ≡ [] → TakenTo p count steps 0 s text
+taken-none p count steps s text start none = record { leads = start; told = none }
+
+pub taken-more : (p : Plan) (count : Count) (steps : List Step) (place : ℕ) (s new : State) (text more : List ℕ) (e : Step) (h : Heard) → TakenTo p count steps place s text
+    → slice_get steps place ≡ Some e → IsNamed p.diagram e → IsStep p (wiring_of p count) s e (Ok h) new → more ≡ text ++ heard_line p.diagram e h
+    → TakenTo p count steps (place + 1) new more
+taken-more p count steps place s new text more e h t here named answer added =
+    let w = wiring_of p count in
+    let is = allowed (refusal w s e) p w s new e h answer in
+    let front = take-one steps place e here in
+    record {
+      leads = subst (λ (es : List Step). Leads p w (first p count) es new) (sym front) (subst (λ (x : State). Leads p w (first p count) (take place steps ++ e ∷ []) x) (sym is.2) (leads-more p w (take place steps) (first p count) s e t.leads named is.0));
+      told = added ∙ ap (λ (l : List ℕ). l ++ heard_line p.diagram e h) t.told ∙ ap (λ (x : Heard). told p w (first p count) (take place steps) ++ heard_line p.diagram e x) is.1
+          ∙ sym (told-more p w (take place steps) (first p count) s e t.leads) ∙ ap (told p w (first p count)) (sym front);
+    }
+
+pub taken-all : (p : Plan) (count : Count) (steps : List Step) (place : ℕ) (s : State) (text : List ℕ) → TakenTo p count steps place s text → place ≡ length steps → IsReplay p count steps text
+taken-all p count steps place s text t end =
+    let whole : take place steps ≡ steps = take_all place steps (omega (arith, end)) in
+    record {
+      state = s;
+      leads = subst (λ (es : List Step). Leads p (wiring_of p count) (first p count) es s) whole t.leads;
+      told = t.told ∙ ap (told p (wiring_of p count) (first p count)) whole;
+    }
+
+-- a step of an equal plan under an equal count
+pub same-step : (p q : Plan) (m n : Count) (s t : State) (e : Step) (r : Result Heard Illegal) → p ≡ q → m ≡ n → IsStep p (wiring_of p m) s e r t → IsStep q (wiring_of q n) s e r t
+same-step p q m n s t e r plan count step =
+    subst (λ (k : Count). IsStep q (wiring_of q k) s e r t) count (subst (λ (x : Plan). IsStep x (wiring_of x m) s e r t) plan step)
+
+pub refused-at : (p : Plan) (count : Count) (steps : List Step) (place : ℕ) (s new : State) (text : List ℕ) (e : Step) (why : Illegal) → TakenTo p count steps place s text
+    → slice_get steps place ≡ Some e → IsStep p (wiring_of p count) s e (Err why) new → IsIllegal p count steps (place + 1) why
+refused-at p count steps place s new text e why t here answer = record {
+  place = place;
+  state = s;
+  leads = t.leads;
+  step = e;
+  stands = here;
+  refused = refused (refusal (wiring_of p count) s e) p (wiring_of p count) s new e why answer;
+  which = refl;
+}

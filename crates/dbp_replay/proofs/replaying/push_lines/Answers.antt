@@ -1,0 +1,46 @@
+use Rattle.std.proofs.Common.{◌≡◌, ◌∙◌, ◌++◌, get_or, slice_get, Some, Ok, Err, ap, refl}
+use Rattle.std.proofs.lemmas.Option.{slice_get-get_or}
+use Rattle.dbp_core.specs.Cores.{count_in, plan_in, state_in}
+use Rattle.dbp_core.specs.declared.step.Step.TheVariants.{Seen}
+use Rattle.dbp_plan.specs.declared.plan.Plan.{Plan}
+use Rattle.dbp_core.specs.Rules.{IsNamed}
+use Rattle.dbp_plan.specs.Places.{all_place}
+use Rattle.dbp_replay.specs.Places.{IsThere}
+use Rattle.dbp_replay.specs.Texts.{heard_line}
+use Rattle.dbp_replay.proofs.Taken.{taken-none, taken-more, refused-at, same-step}
+use Rattle.dbp_replay.proofs.replaying.push_lines.Goals as goal
+
+pub loop-place-init : goal.loop-place-init
+loop-place-init c = record {
+  plan = refl;
+  count = refl;
+  so_far = taken-none (plan_in c.args.core.now) (count_in c.args.core.now) c.args.steps.now (state_in c.args.core.now) c.args.text.now.items c.requires.start c.requires.empty;
+}
+
+pub returns-in-Err-clause-illegal : goal.returns-in-Err-clause-illegal
+returns-in-Err-clause-illegal c =
+    let steps = c.args.steps.now in
+    let e = get_or steps c.loop-place.place (Seen 0) in
+    let i = c.loop-place.invariant in
+    let here : slice_get steps c.loop-place.place ≡ Some e = slice_get-get_or steps c.loop-place.place (Seen 0) c.loop-place-test.true in
+    refused-at (plan_in c.args.core.now) (count_in c.args.core.now) steps c.loop-place.place (state_in c.loop-place.core) (state_in c.step.new.self) c.loop-place.text.items e c.in-Err.why i.so_far here
+    (same-step (plan_in c.loop-place.core) (plan_in c.args.core.now) (count_in c.loop-place.core) (count_in c.args.core.now) (state_in c.loop-place.core) (state_in c.step.new.self) e (Err c.in-Err.why) i.plan i.count c.in-Err.ensures.step)
+
+pub loop-place-preserved : goal.loop-place-preserved
+loop-place-preserved c =
+    let p = plan_in c.args.core.now in
+    let steps = c.args.steps.now in
+    let e = get_or steps c.loop-place.place (Seen 0) in
+    let h = c.in-Ok.heard in
+    let i = c.loop-place.invariant in
+    let here : slice_get steps c.loop-place.place ≡ Some e = slice_get-get_or steps c.loop-place.place (Seen 0) c.loop-place-test.true in
+    let named : IsNamed p.diagram e = (all_place (IsThere p.diagram) steps c.loop-place.place e c.requires.there here).named in
+    let plan : c.plan.result.now ≡ p = c.plan.ensures ∙ c.in-Ok.ensures.plan ∙ i.plan in
+    let told : c.push_line.new.text.items ≡ c.loop-place.text.items ++ heard_line p.diagram e h =
+    c.in_ok-push_line-in-Ok.ensures ∙ ap (λ (q : Plan). c.loop-place.text.items ++ heard_line q.diagram e h) plan in
+    record {
+      plan = c.in-Ok.ensures.plan ∙ i.plan;
+      count = c.in-Ok.ensures.count ∙ i.count;
+      so_far = taken-more p (count_in c.args.core.now) steps c.loop-place.place (state_in c.loop-place.core) (state_in c.step.new.self) c.loop-place.text.items c.push_line.new.text.items e h i.so_far here named
+          (same-step (plan_in c.loop-place.core) (plan_in c.args.core.now) (count_in c.loop-place.core) (count_in c.args.core.now) (state_in c.loop-place.core) (state_in c.step.new.self) e (Ok h) i.plan i.count c.in-Ok.ensures.step) told;
+    }

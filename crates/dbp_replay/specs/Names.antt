@@ -1,0 +1,25 @@
+-- Diagrams in which names tell apart what a step can name.
+use Rattle.std.specs.Prelude.{◌≢◌, ℕ, ◌≤◌, ◌<◌, ◌^◌, All, AllPairs, List}
+use Rattle.dbp_core.specs.declared.step.Step.{Step}
+use Rattle.dbp_core.specs.declared.step.Step.TheVariants.{Aim}
+use Rattle.dbp_plan.specs.declared.diagram.Diagram.{Diagram}
+use Rattle.dia_tokens.specs.Printable.{IsPrintableName}
+
+-- each item has a name of the language, and no two have the same
+pub record AreNamed {X : Type 0} (name : X → List ℕ) (items : List X) : Type 0 where
+  pub each : All (λ x. IsPrintableName (name x)) items
+  pub apart : AllPairs (λ x y. name x ≢ name y) items
+
+-- the diagram's tasks, and the reads and the outs of each, have names, and no two links are the same
+pub record HasNames (d : Diagram) : Type 0 where
+  pub tasks : AreNamed (λ t. t.name) d.tasks
+  pub reads : All (λ t. AreNamed (λ r. r.name) t.reads) d.tasks
+  pub outs : All (λ t. AreNamed (λ o. o.name) t.outs) d.tasks
+  pub links : AllPairs (λ k l. k ≢ l) d.links
+  -- a script has a word for the delays 0 and 1 only
+  pub delays : All (λ l. l.delay ≤ 1) d.links
+
+-- the number of an aim's slot has 32 bits
+abbrev pub HasSlotNumber : Step → Type 0
+HasSlotNumber (Aim i slot) = slot < 2 ^ 32
+HasSlotNumber _ = Unit {0}

@@ -1,0 +1,68 @@
+-- The text of steps, and of what they hear.
+use Rattle.std.specs.Prelude.{ℕ, ◌==◌, if◌then◌else◌, codes, List, [], ◌∷◌, ◌++◌}
+use Rattle.std.specs.Fmt.{decimal, signed_decimal}
+use Rattle.std.specs.List.{flat_map}
+use Rattle.dbp_core.specs.declared.step.Heard.{Heard}
+use Rattle.dbp_core.specs.declared.step.Heard.TheVariants as heard
+use Rattle.dbp_core.specs.declared.step.Step.{Step}
+use Rattle.dbp_core.specs.declared.step.Step.TheVariants as step
+use Rattle.dbp_plan.specs.declared.diagram.Diagram.{Diagram}
+use Rattle.dbp_replay.specs.declared.kind.Kind.{Kind}
+use Rattle.dbp_replay.specs.declared.kind.Kind.TheVariants.{Seen, Aim, Claim, OpenGate, Start, Hear, Look, Take, Shut, Put, Done, End}
+use Rattle.dbp_replay.specs.Places.{link_in, port_name, read_name, task_in, task_of}
+use Rattle.dbp_replay.specs.StepForms.{form_of}
+
+abbrev pub kind_of : Step → Kind
+kind_of (step.Seen i) = Seen
+kind_of (step.Aim i slot) = Aim
+kind_of (step.Claim k) = Claim
+kind_of (step.OpenGate i) = OpenGate
+kind_of (step.Start i) = Start
+kind_of (step.Hear i) = Hear
+kind_of (step.Look i r) = Look
+kind_of (step.Take i r) = Take
+kind_of (step.Shut i) = Shut
+kind_of (step.Put i p) = Put
+kind_of (step.Done i) = Done
+kind_of (step.End i) = End
+
+-- each word behind a space
+abbrev pub spaced : List (List ℕ) → List ℕ
+spaced [] = []
+spaced (w ∷ ws) = 32 ∷ w ++ spaced ws
+
+-- the word before a writer: a delay is at most 1 for now
+abbrev pub delay_words : ℕ → List (List ℕ)
+delay_words delay = if delay == 0 then [] else codes "pre" ∷ []
+
+-- the words behind the task
+abbrev pub operand_words : Diagram → Step → List (List ℕ)
+operand_words d (step.Aim i slot) = decimal slot ∷ []
+operand_words d (step.Claim k) = delay_words (link_in d k).delay ++ (task_in d (link_in d k).writer).name ∷ []
+operand_words d (step.Look i r) = read_name d i r ∷ []
+operand_words d (step.Take i r) = read_name d i r ∷ []
+operand_words d (step.Put i p) = port_name d i p ∷ []
+operand_words d _ = []
+
+-- the words of a step, joined by one space
+abbrev pub step_text : Diagram → Step → List ℕ
+step_text d e = (form_of (kind_of e)).0 ++ spaced ((task_in d (task_of d e)).name ∷ operand_words d e)
+
+-- a line for each step, ended by a line feed
+abbrev pub script_text : Diagram → List Step → List ℕ
+script_text d steps = flat_map (λ e. step_text d e ++ 10 ∷ []) steps
+
+-- the words of what a step heard; a step that stores hears nothing
+abbrev pub heard_words : Heard → List (List ℕ)
+heard_words heard.Stored = []
+heard_words (heard.Ended n) = codes "->" ∷ decimal n ∷ []
+heard_words heard.Started = codes "->" ∷ codes "started" ∷ []
+heard_words heard.Closed = codes "->" ∷ codes "closed" ∷ []
+heard_words (heard.Order slot number) = codes "->" ∷ codes "slot" ∷ decimal slot ∷ codes "number" ∷ decimal number ∷ []
+heard_words heard.Ready = codes "->" ∷ codes "ready" ∷ []
+heard_words heard.NotYet = codes "->" ∷ codes "notyet" ∷ []
+heard_words (heard.Word value) = codes "->" ∷ signed_decimal value ∷ []
+
+-- a step and what it heard, ended by a line feed
+abbrev pub heard_line : Diagram → Step → Heard → List ℕ
+heard_line d e h = step_text d e ++ spaced (heard_words h) ++ 10 ∷ []

@@ -1,0 +1,62 @@
+// Why a document has no script, and why steps can't be replayed.
+
+ghost use Rattle.std.specs.Prelude.{◌≡◌};
+ghost use Rattle.dbp_replay.specs.declared.fail.ReplayFail.TheVariants as replay_fail;
+ghost use Rattle.dbp_replay.specs.declared.fail.ScriptFail.TheVariants as script_fail;
+
+use dbp_core::Illegal;
+use dbp_plan::NoMemory;
+use std::alloc::AllocError;
+
+/// What is wrong with a document's script, in the order of their numbers, from 27 on.
+#[derive(Clone, Copy, Debug, PartialEq, Eq)]
+pub enum ScriptCode {
+    /// The line has no form of a step.
+    BadStep,
+    /// The line names a task, a link, a read or an out that isn't there.
+    StepName,
+    /// The document has no script section.
+    NoScript,
+}
+
+/// Why a document has no script.
+#[derive(Clone, Copy, Debug, PartialEq, Eq)]
+pub enum ScriptFail {
+    /// The first fault, at a line, counted from 1.
+    Refused { line: u32, code: ScriptCode },
+    /// Memory ran out. That may be at any time.
+    NoMemory,
+}
+
+impl From<NoMemory> for ScriptFail {
+    ghost from_gives = { λ _ e. e ≡ script_fail.NoMemory };
+
+    fn from(_: NoMemory) -> ScriptFail {
+        ScriptFail::NoMemory
+    }
+}
+
+/// Why steps can't be replayed.
+#[derive(Clone, Copy, Debug, PartialEq, Eq)]
+pub enum ReplayFail {
+    /// The first step, counted from 1, that isn't allowed behind those before it, and why it isn't.
+    Illegal { step: u32, why: Illegal },
+    /// Memory ran out. That may be at any time.
+    NoMemory,
+}
+
+impl From<NoMemory> for ReplayFail {
+    ghost from_gives = { λ _ e. e ≡ replay_fail.NoMemory };
+
+    fn from(_: NoMemory) -> ReplayFail {
+        ReplayFail::NoMemory
+    }
+}
+
+impl From<AllocError> for ReplayFail {
+    ghost from_gives = { λ _ e. e ≡ replay_fail.NoMemory };
+
+    fn from(_: AllocError) -> ReplayFail {
+        ReplayFail::NoMemory
+    }
+}

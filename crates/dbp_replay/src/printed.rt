@@ -1,0 +1,143 @@
+// Steps as text.
+
+ghost use Rattle.std.specs.Prelude.{◌≡◌, ◌∷◌, ◌++◌, All, IfOk, OnOk};
+ghost use Rattle.dbp_replay.specs.Places.{IsThere};
+ghost use Rattle.dbp_replay.specs.Texts.{delay_words, heard_words, kind_of, operand_words, script_text, spaced, step_text};
+
+use crate::kind::Kind;
+use crate::look_up::{link_at, port_name, read_name, task_name, task_of};
+use dbp_core::{Heard, Step};
+use dbp_plan::{Diagram, List, NoMemory};
+use itoa::{Buffer, Integer};
+use std::alloc::Global;
+
+/// The text of the steps: a line for each, with the names of the diagram, its words joined by one space and ended by LF.
+/// Each step names only what the diagram has.
+pub fn print_script(
+    alloc: Global,
+    diagram: &Diagram,
+    steps: &List<Step>,
+) -> Result<Vec<u8>, NoMemory>
+    requires { All (IsThere diagram.now) steps.now }
+    ensures { IfOk result (λ text. text.items ≡ script_text diagram.now steps.now) }
+{
+    let mut text = Vec::new(alloc);
+    for step in steps.items() {
+        push_step(&mut text, diagram, *step)?;
+        text.push(b'\n')?;
+    }
+    Ok(text)
+}
+
+/// Adds the words of a step.
+pub(crate) fn push_step(text: &mut Vec<u8>, diagram: &Diagram, step: Step) -> Result<(), NoMemory>
+    requires { IsThere diagram.now step }
+    ensures { OnOk result (text.new.items ≡ text.old.items ++ step_text diagram.now step) }
+{
+    text.extend_from_slice(kind_of(step).word())?;
+    push_word(text, task_name(diagram, task_of(diagram, step)))?;
+    push_operand(text, diagram, step)
+}
+
+fn kind_of(step: Step) -> Kind
+    ensures { result ≡ kind_of step }
+{
+    match step {
+        Step::Seen { .. } => Kind::Seen,
+        Step::Aim { .. } => Kind::Aim,
+        Step::Claim { .. } => Kind::Claim,
+        Step::OpenGate { .. } => Kind::OpenGate,
+        Step::Start { .. } => Kind::Start,
+        Step::Hear { .. } => Kind::Hear,
+        Step::Look { .. } => Kind::Look,
+        Step::Take { .. } => Kind::Take,
+        Step::Shut { .. } => Kind::Shut,
+        Step::Put { .. } => Kind::Put,
+        Step::Done { .. } => Kind::Done,
+        Step::End { .. } => Kind::End,
+    }
+}
+
+// Adds the words behind the task.
+fn push_operand(text: &mut Vec<u8>, diagram: &Diagram, step: Step) -> Result<(), NoMemory>
+    requires { IsThere diagram.now step }
+    ensures { OnOk result (text.new.items ≡ text.old.items ++ spaced (operand_words diagram.now step)) }
+{
+    match step {
+        Step::Aim { slot, .. } => push_number(text, slot),
+        Step::Claim { link } => {
+            let link = link_at(diagram, link);
+            push_delay(text, link.delay)?;
+            push_word(text, task_name(diagram, link.writer))
+        }
+        Step::Look { task, read } => push_word(text, read_name(diagram, task, read)),
+        Step::Take { task, read } => push_word(text, read_name(diagram, task, read)),
+        Step::Put { task, port } => push_word(text, port_name(diagram, task, port)),
+        _ => Ok(()),
+    }
+}
+
+// Adds `pre` where the delay isn't 0.
+fn push_delay(text: &mut Vec<u8>, delay: u32) -> Result<(), NoMemory>
+    ensures { OnOk result (text.new.items ≡ text.old.items ++ spaced (delay_words delay)) }
+{
+    if delay == 0 {
+        return Ok(());
+    }
+    push_word(text, b"pre")
+}
+
+/// Adds what a step heard behind ` ->`, and nothing where it stored a word.
+pub(crate) fn push_heard(text: &mut Vec<u8>, heard: Heard) -> Result<(), NoMemory>
+    ensures { OnOk result (text.new.items ≡ text.old.items ++ spaced (heard_words heard)) }
+{
+    match heard {
+        Heard::Stored => Ok(()),
+        Heard::Ended(count) => push_answer(text, count),
+        Heard::Started => push_told(text, b"started"),
+        Heard::Closed => push_told(text, b"closed"),
+        Heard::Order { slot, number } => {
+            push_told(text, b"slot")?;
+            push_number(text, slot)?;
+            push_word(text, b"number")?;
+            push_number(text, number)
+        }
+        Heard::Ready => push_told(text, b"ready"),
+        Heard::NotYet => push_told(text, b"notyet"),
+        Heard::Word(value) => push_answer(text, value),
+    }
+}
+
+// Adds ` ->` and the word.
+fn push_told(text: &mut Vec<u8>, word: &[u8]) -> Result<(), NoMemory>
+    ensures { OnOk result (text.new.items ≡ text.old.items ++ 32 ∷ 45 ∷ 62 ∷ 32 ∷ word.now) }
+{
+    push_word(text, b"->")?;
+    push_word(text, word)
+}
+
+// Adds ` ->` and the number.
+fn push_answer<N: Integer>(text: &mut Vec<u8>, number: N) -> Result<(), NoMemory>
+    ensures { OnOk result (text.new.items ≡ text.old.items ++ 32 ∷ 45 ∷ 62 ∷ 32 ∷ N.text number) }
+{
+    push_word(text, b"->")?;
+    push_number(text, number)
+}
+
+// Adds the word behind a space.
+fn push_word(text: &mut Vec<u8>, word: &[u8]) -> Result<(), NoMemory>
+    ensures { OnOk result (text.new.items ≡ text.old.items ++ 32 ∷ word.now) }
+{
+    text.push(b' ')?;
+    text.extend_from_slice(word)?;
+    Ok(())
+}
+
+// Adds the number in decimal behind a space.
+fn push_number<N: Integer>(text: &mut Vec<u8>, number: N) -> Result<(), NoMemory>
+    ensures { OnOk result (text.new.items ≡ text.old.items ++ 32 ∷ N.text number) }
+{
+    text.push(b' ')?;
+    text.extend_from_slice(Buffer::new().format(number).as_bytes())?;
+    Ok(())
+}

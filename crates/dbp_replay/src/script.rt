@@ -1,0 +1,81 @@
+// The steps of a document's script.
+
+ghost use Rattle.std.specs.Prelude.{◌≡◌, All, IfErr, IfOk};
+ghost use Rattle.dia_lines.specs.Lines.{SaysInScript, step as kept_step};
+ghost use Rattle.dia_tokens.specs.declared.line.LineFail.TheVariants.{NoMemory as OutOfMemory};
+ghost use Rattle.dia_read.specs.Printable.{HasItemLines, IsPrintable};
+ghost use Rattle.dbp_replay.specs.Places.{IsThere};
+ghost use Rattle.dbp_replay.specs.Scripts.{IsScript, IsScriptRefusal, Says};
+
+use crate::fail::{ScriptCode, ScriptFail};
+use crate::naming::step_of;
+use dbp_core::Step;
+use dbp_plan::{Diagram, List, NoMemory};
+use dia_lines::next_line;
+use dia_read::Doc;
+use dia_tokens::{LineFail, tokens};
+use std::alloc::Global;
+
+/// The steps that the lines of the document's script name, in order. Tasks, links, reads and outs are those of the
+/// diagram.
+///
+/// Refused is the first line with a fault: with `BadStep` where its tokens have no form of a step, else with `StepName`
+/// where a name is no task, no link, no read of the task or no out of the task. A document without a script section is
+/// refused with `NoScript` at its line `done`.
+pub fn read_script(alloc: Global, diagram: &Diagram, doc: &Doc) -> Result<List<Step>, ScriptFail>
+    requires printable { IsPrintable doc.now.body }
+    requires lines { HasItemLines doc.now }
+    // The lines name these steps.
+    ensures script { IfOk result (λ steps. IsScript diagram.now doc.now steps) }
+    // The steps name only what the diagram has.
+    ensures there { IfOk result (λ steps. All (IsThere diagram.now) steps) }
+    // It has this first fault, unless memory ran out.
+    ensures fault { IfErr result (λ fail. IsScriptRefusal diagram.now doc.now fail) }
+{
+    let Some(text) = &doc.body.script else {
+        return Err(ScriptFail::Refused {
+            line: doc.lines.done_at,
+            code: ScriptCode::NoScript,
+        });
+    };
+    let lines = doc.lines.script.items();
+    let mut steps = List::new(alloc);
+    let mut rest = text.items();
+    while !rest.is_empty() {
+        let (line, after) = next_line(rest);
+        match step_on(alloc, diagram, line)? {
+            Ok(step) => steps.push(step)?,
+            Err(code) => {
+                let line = lines[steps.len() as usize];
+                return Err(ScriptFail::Refused { line, code });
+            }
+        }
+        rest = after;
+    }
+    Ok(steps)
+}
+
+/// What a kept line says: a step, or a fault.
+fn step_on(
+    alloc: Global,
+    diagram: &Diagram,
+    line: &[u8],
+) -> Result<Result<Step, ScriptCode>, NoMemory>
+    requires { SaysInScript line.now (kept_step line.now) }
+    ensures { IfOk result (λ said. Says diagram.now line.now said) }
+{
+    match tokens(alloc, line) {
+        Ok(tokens) => Ok(step_of(diagram, &tokens)),
+        Err(fail) => Err(want_of_memory(fail)),
+    }
+}
+
+/// Why a line that has tokens gave none.
+fn want_of_memory(fail: LineFail) -> NoMemory
+    requires { fail ≡ OutOfMemory }
+{
+    match fail {
+        LineFail::NoMemory => NoMemory,
+        _ => unreachable!(),
+    }
+}
