@@ -4,7 +4,7 @@ use Rattle.std.specs.Prelude.{◌==◌, if◌then◌else◌}
 use Rattle.std.proofs.lemmas.Bool.{cases_Bool, eqb-true}
 use Rattle.release_list.specs.declared.release.Release.{Release}
 use Rattle.release_list.specs.declared.release.Release.TheVariants.{Aim, Claim, OpenGate}
-use Rattle.dbp_core.specs.Rules.{is_next, or_else, place_kind, release_kind, unless}
+use Rattle.dbp_core.specs.Rules.{is_next, none_of, or_else, place_kind, release_kind, unless}
 use Rattle.dbp_core.specs.Shapes.{place_number}
 use Rattle.dbp_core.specs.declared.parts.Place.{Place}
 use Rattle.dbp_core.specs.declared.parts.Place.TheVariants as place
@@ -19,6 +19,10 @@ or_else_none (Some x) y none = absurd (cc)
 pub unless_none : (b : Bool) (broken : Broken) (l r : ℕ) → unless b broken l r ≡ None → b ≡ true
 unless_none true broken l r none = refl
 unless_none false broken l r none = absurd (cc)
+
+pub none_found : (o : Option ℕ) (b : Broken) (r : ℕ) → none_of o b r ≡ None → o ≡ None
+none_found None b r none = refl
+none_found (Some x) b r none = absurd (cc)
 
 pub next_none : (b : Broken) (next : ℕ × ℕ) (kind operand : ℕ) → is_next b next kind operand ≡ None → (next.0 ≡ kind) × (next.1 ≡ operand)
 next_none b next kind operand none = elim (cases_Bool (eqb next.0 kind)) [

@@ -16,12 +16,16 @@ use Rattle.dbp_plan.specs.Closed.{IsClosed, IsClosedTask}
 use Rattle.dbp_plan.specs.Places.{all_place, read_place}
 use Rattle.release_list.specs.Links.{link_at, no_link}
 use Rattle.release_list.specs.Releases.{links_into}
-use Rattle.release_list.proofs.Counts.{count-cons, count-never}
+use Rattle.dbp_core.specs.Wired.{links_at, task_at_end}
+use Rattle.dbp_core.specs.declared.wire.LinkEnd.{LinkEnd}
+use Rattle.dbp_core.specs.declared.wire.LinkEnd.TheVariants.{Reader}
+use Rattle.dbp_plan.proofs.Counts.{count-cons}
+use Rattle.release_list.proofs.Counts.{count-never}
 use Rattle.release_list.proofs.IntoLinks.{none_into, once_into}
 
 -- counts
 
-count_or : {X : Type 0} (p q : X → Bool) (xs : List X) → count_by (λ x. p x || q x) xs ≤ count_by p xs + count_by q xs
+pub count_or : {X : Type 0} (p q : X → Bool) (xs : List X) → count_by (λ x. p x || q x) xs ≤ count_by p xs + count_by q xs
 count_or p q [] = omega arith
 count_or p q (x ∷ xs) =
     let rest : count_by (λ x. p x || q x) xs ≤ count_by p xs + count_by q xs = count_or p q xs in
@@ -52,11 +56,15 @@ counted_first x (y ∷ xs) some = elim (cases_eq x y) [
 
 -- the links into a task
 
-pub into_below : (links : List Link) (task : ℕ) → All (λ k. k < length links) (links_into links task)
-into_below links task =
-    All-filter (λ k. (link_at links k).reader == task) (λ k. k < length links) (range_with_len 0 (length links)) (λ k d below.
+-- of the links at an end each is there
+pub links_below : (end : LinkEnd) (links : List Link) (task : ℕ) → All (λ k. k < length links) (links_at end links task)
+links_below end links task =
+    All-filter (λ k. task_at_end end (link_at links k) == task) (λ k. k < length links) (range_with_len 0 (length links)) (λ k d below.
     let fits : k < length links = omega (arith, length-range_with_len 0 (length links)) in
     rw (get_or-range_with_len 0 (length links) k d fits) (omega arith))
+
+pub into_below : (links : List Link) (task : ℕ) → All (λ k. k < length links) (links_into links task)
+into_below links task = links_below Reader links task
 
 pub into_reader : (links : List Link) (task : ℕ) → All (λ k. (link_at links k).reader ≡ task) (links_into links task)
 into_reader links task k d below =

@@ -3,6 +3,7 @@ pub mod Computing
 pub mod Searches
 pub mod InputValues
 pub mod Allowed
+pub mod Aims
 pub mod Counted
 pub mod Frames
 pub mod TaskKept
@@ -27,3 +28,8 @@ pub mod SoundComputing
 pub mod SoundKept
 pub mod SoundAnswers
 pub mod SoundRuns
+pub mod InTenParts
+pub mod StoredWords
+pub mod SparedClaims
+pub mod FreeAims
+pub mod TakenWords

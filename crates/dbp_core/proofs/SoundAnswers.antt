@@ -24,7 +24,7 @@ use Rattle.dbp_core.proofs.SoundWriting.{own_current}
 
 module _ (p : Plan) (w : Wiring) (rows : ℕ → ℕ → List ℤ) (s : State) (own : IsOwn p w) (sound : Sound p w rows s) where
   -- the read of the turn is the one that the step names
-  named_read : (i r kind : ℕ) → rule.steps_next w s i kind r ≡ None → (q : Place) → (task s i).part.place ≡ q → (rule.place_kind (wired w i) q).1 ≡ r
+  pub named_read : (i r kind : ℕ) → rule.steps_next w s i kind r ≡ None → (q : Place) → (task s i).part.place ≡ q → (rule.place_kind (wired w i) q).1 ≡ r
   named_read i r kind next q at = ap (λ (x : Place). (rule.place_kind (wired w i) x).1) (sym at) ∙ (next_none broken.TaskPlace (rule.place_kind (wired w i) (task s i).part.place) kind r next).1
 
   -- each allowed take hears the word that the meaning gives the read in the running instance

@@ -1,9 +1,13 @@
 -- Each allowed step keeps a state sound.
-use Rattle.std.proofs.Common.{◌≡◌, ℕ, ℤ, ◌+◌, ◌-◌, ◌<◌, ◌≤◌, List, length, get_or, map, None, refl, sym, ◌∙◌, ap, subst, arith, inl}
+use Rattle.std.proofs.Common.{◌≡◌, ℕ, ℤ, ◌+◌, ◌-◌, ◌<◌, ◌≤◌, List, length, get_or, map, Option, Some, None, refl, sym, ◌∙◌, ap, subst, arith, inl}
 use Rattle.dbp_plan.specs.declared.plan.Plan.{Plan}
 use Rattle.dbp_plan.specs.Occurrences.{times_of}
 use Rattle.dbp_plan.specs.Samples.{input_value}
+use Rattle.std.specs.Prelude.{Result}
+use Rattle.sync_meaning.proofs.OneMeaning.{meaning_solves}
+use Rattle.sync_meaning.specs.SomeMeaning.{meaning_of, meaning_of-is}
 use Rattle.sync_meaning.specs.SomeMeaningRows.{Solves}
+use Rattle.sync_meaning.specs.SomeMeaningTables.{rows_in}
 use Rattle.dbp_core.specs.Moves as move
 use Rattle.dbp_core.specs.Places.{declared, slot_at, task, task_entry, wired}
 use Rattle.dbp_core.specs.Rules as rule
@@ -16,6 +20,8 @@ use Rattle.dbp_core.specs.declared.state.Slot.{Slot}
 use Rattle.dbp_core.specs.declared.state.State.{State}
 use Rattle.dbp_core.specs.declared.step.Broken.TheVariants as broken
 use Rattle.dbp_core.specs.declared.step.Count.{Count}
+use Rattle.dbp_core.specs.declared.step.Heard.{Heard}
+use Rattle.dbp_core.specs.declared.step.Illegal.{Illegal}
 use Rattle.dbp_core.specs.declared.step.Step.{Step}
 use Rattle.dbp_core.specs.declared.step.Step.TheVariants.{Seen, Aim, Claim, OpenGate, Start, Hear, Look, Take, Shut, Put, Done, End}
 use Rattle.dbp_core.specs.declared.wiring.Wiring.{Wiring}
@@ -81,3 +87,15 @@ module _ (p : Plan) (w : Wiring) (rows : ℕ → ℕ → List ℤ) (s : State) (
 pub sound_kept : (p : Plan) (count : Count) (rows : ℕ → ℕ → List ℤ) (s : State) (e : Step) → Solves p.diagram p.samples p.batches rows → Sound p (wiring_of p count) rows s
     → rule.IsNamed p.diagram e → rule.refusal (wiring_of p count) s e ≡ None → Sound p (wiring_of p count) rows (rule.next p (wiring_of p count) s e)
 sound_kept p count rows s e solves sound named free = step_sound p (wiring_of p count) rows s (own_wiring p count) solves sound e named free
+
+-- and by each answer of a step, under a plan's own wiring, where the rows are those of the meaning
+pub asked_sound : (p : Plan) (w : Wiring) (s new : State) (e : Step) (result : Result Heard Illegal) → w ≡ wiring_of p w.count → Sound p w (rows_in (meaning_of p)) s → rule.IsNamed p.diagram e → rule.IsStep p w s e result new
+    → Sound p w (rows_in (meaning_of p)) new
+asked_sound p w s new e result wired sound named is =
+    let solves : Solves p.diagram p.samples p.batches (rows_in (meaning_of p)) = meaning_solves p.diagram p.samples p.batches (meaning_of p) p.rules (meaning_of-is p) in
+    let own : IsOwn p w = subst (λ (x : Wiring). IsOwn p x) (sym wired) (own_wiring p w.count) in
+    answered (rule.refusal w s e) (λ free. step_sound p w (rows_in (meaning_of p)) s own solves sound e named free) is
+  where
+    answered : (o : Option Illegal) → (o ≡ None → Sound p w (rows_in (meaning_of p)) (rule.next p w s e)) → rule.IsAnswer o p w s e result new → Sound p w (rows_in (meaning_of p)) new
+    answered None stepped is = subst (λ (x : State). Sound p w (rows_in (meaning_of p)) x) (sym is.1) (stepped refl)
+    answered (Some why) stepped is = subst (λ (x : State). Sound p w (rows_in (meaning_of p)) x) (sym is.1) sound

@@ -1,5 +1,5 @@
 -- When a look finds its row: over a delayed link always, and under `Ranked` wherever it is allowed. And what an allowed step says of the claims on the task's own slot.
-use Rattle.std.proofs.Common.{◌≡◌, ℕ, zero, suc, ℤ, ◌+◌, ◌-◌, ◌<◌, ◌≤◌, Bool, true, false, List, length, get_or, Option, Some, None, refl, sym, ◌∙◌, ap, subst, arith, inl, inr}
+use Rattle.std.proofs.Common.{◌≡◌, ℕ, zero, suc, ℤ, ◌+◌, ◌-◌, ◌<◌, ◌≤◌, Bool, true, false, List, length, get_or, Some, None, refl, sym, ◌∙◌, ap, subst, arith, inl, inr}
 use Rattle.std.specs.Prelude.{nat_le}
 use Rattle.std.proofs.lemmas.Bool.{cases_Bool, cases_lt, eq-eqb, lt-ltb, ltb-false}
 use Rattle.std.proofs.lemmas.Bool.Decides.{nat_tests}
@@ -20,23 +20,19 @@ use Rattle.dbp_core.specs.declared.parts.Order.{Order}
 use Rattle.dbp_core.specs.declared.parts.Place.{Place}
 use Rattle.dbp_core.specs.declared.parts.Place.TheVariants as place
 use Rattle.dbp_core.specs.declared.state.State.{State}
-use Rattle.dbp_core.specs.declared.step.Broken.{Broken}
 use Rattle.dbp_core.specs.declared.step.Broken.TheVariants as broken
 use Rattle.dbp_core.specs.declared.step.Count.{Count}
 use Rattle.dbp_core.specs.declared.step.Count.TheVariants.{All, Ranked}
 use Rattle.dbp_core.specs.declared.wiring.Wiring.{Wiring}
+use Rattle.dbp_core.proofs.Allowed.{none_found}
 use Rattle.dbp_core.proofs.SoundOwn.{IsOwn, IsOwnRead, claims_aims, seen_aims}
 use Rattle.dbp_core.proofs.SoundReading.{claimed_instance, claimed_number, read_claim, read_from}
 
-passed_below : (b : Bool) (known ended instance : ℕ) → known ≤ ended → ended < instance → passed b known ended < instance
+pub passed_below : (b : Bool) (known ended instance : ℕ) → known ≤ ended → ended < instance → passed b known ended < instance
 passed_below true known ended instance less below = omega arith
 passed_below false known ended instance less below = below
 
 -- ---- the last condition
-
-none_found : (o : Option ℕ) (b : Broken) (r : ℕ) → rule.none_of o b r ≡ None → o ≡ None
-none_found None b r none = refl
-none_found (Some x) b r none = absurd (cc)
 
 highest_none : (w : Wiring) (f : ℕ → Bool) (n k : ℕ) → rule.highest w f n ≡ None → k < n → f k ≡ false
 highest_none w f zero k none below = absurd (omega arith)
@@ -71,7 +67,7 @@ pub own_time_is : (p : Plan) (w : Wiring) (s : State) (i : ℕ) → IsWired p w 
 own_time_is p w s i whole below = ap (λ (ts : List ℕ). get_or ts ((task s i).part.ended + 1 - 1) 0) (whole.each_task i below).times
 
 -- an instance that has come by a time isn't later
-come : (p : Plan) (v n time : ℕ) → n < count_until (times_of p.batches v) time → time_of p.batches v (n + 1) ≤ time
+pub come : (p : Plan) (v n time : ℕ) → n < count_until (times_of p.batches v) time → time_of p.batches v (n + 1) ≤ time
 come p v n time below =
     let rises : Rises (times_of p.batches v) = times-rise p.batches v p.rules.rising in
     let inside : n < length (times_of p.batches v) = omega (arith, count_by-le-length (λ (t : ℕ). nat_le t time) (times_of p.batches v)) in

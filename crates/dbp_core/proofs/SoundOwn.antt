@@ -122,7 +122,7 @@ module _ (p : Plan) (count : Count) where
           port = ap (λ (x : ReadWiring). x.port) read ∙ ap (λ (q : Read). q.port) (sym same);
         }
 
-  rank_is : (i : ℕ) → i < length p.diagram.tasks → (wired o i).rank ≡ get_or p.diagram.ranks i 0
+  pub rank_is : (i : ℕ) → i < length p.diagram.tasks → (wired o i).rank ≡ get_or p.diagram.ranks i 0
   rank_is i below = ap (λ (x : TaskWiring). x.rank) (wired_is p count i below)
 
   rank_at : (i : ℕ) → i < length p.diagram.tasks → slice_get (ranks_of p.diagram.policy p.diagram.tasks) i ≡ Some (get_or p.diagram.ranks i 0)

@@ -41,7 +41,7 @@ take_past (suc n) zero (y ∷ ys) x past = absurd (omega arith)
 take_past (suc n) (suc i) (y ∷ ys) x past = ap (λ zs. y ∷ zs) (take_past n i ys x (omega arith))
 
 -- what an instance sees, by its number less one
-seen_more : (links : List Link) (batches : List Batch) (k n : ℕ) → seen_by links batches k (n + 1) ≡ count_until (times_of batches (link_at links k).writer) (time_of batches (link_at links k).reader (n + 1))
+pub seen_more : (links : List Link) (batches : List Batch) (k n : ℕ) → seen_by links batches k (n + 1) ≡ count_until (times_of batches (link_at links k).writer) (time_of batches (link_at links k).reader (n + 1))
 seen_more links batches k n = let one : n + 1 ≡ suc n = omega arith in rw one refl
 
 module _ (p : Plan) (w : Wiring) (rows : ℕ → ℕ → List ℤ) (s : State) (own : IsOwn p w) (sound : Sound p w rows s) where
@@ -71,7 +71,7 @@ module _ (p : Plan) (w : Wiring) (rows : ℕ → ℕ → List ℤ) (s : State) (
       old)
 
   -- what the task has heard of a link
-  old_orders : (i : ℕ) → (k : ℕ) → k < length w.links → (link w k).reader ≡ i → (j : ℕ) → j + 1 < length (task s i).part.heard.items → link_in (wired w i) j ≡ k → move.heard_order (task s i).part (j + 1) ≡ move.ordered (link_entry s k)
+  pub old_orders : (i : ℕ) → (k : ℕ) → k < length w.links → (link w k).reader ≡ i → (j : ℕ) → j + 1 < length (task s i).part.heard.items → link_in (wired w i) j ≡ k → move.heard_order (task s i).part (j + 1) ≡ move.ordered (link_entry s k)
   old_orders i k fits is j inside here =
       let old : LinkSound p w k (link_entry s k) (task_entry s (link w k).writer) (task s (link w k).writer) (task_entry s (link w k).reader) (task s (link w k).reader) = sound.links k fits in
       subst (λ (x : ℕ). j + 1 < length (task s x).part.heard.items → link_in (wired w x) j ≡ k → move.heard_order (task s x).part (j + 1) ≡ move.ordered (link_entry s k)) is (old.heard j) inside here

@@ -1,9 +1,8 @@
 -- The releaser's steps keep a state sound.
-use Rattle.std.proofs.Common.{◌≡◌, ◌≢◌, ℕ, zero, suc, ℤ, ◌+◌, ◌-◌, ◌<◌, ◌≤◌, ◌⊎◌, Bool, true, false, List, ◌∷◌, length, get_or, take, Option, Some, None, refl, sym, ◌∙◌, ap, arith, inl, inr}
-use Rattle.std.specs.Prelude.{◌==◌, nat_lt, not, slice_get, if◌then◌else◌}
+use Rattle.std.proofs.Common.{◌≡◌, ◌≢◌, ℕ, zero, suc, ℤ, ◌+◌, ◌-◌, ◌<◌, ◌≤◌, ◌⊎◌, true, false, List, ◌∷◌, length, get_or, take, Some, None, refl, sym, ◌∙◌, ap, arith, inl, inr}
+use Rattle.std.specs.Prelude.{◌==◌, slice_get}
 use Rattle.std.specs.List.{list_any}
-use Rattle.std.specs.Option.{option_or}
-use Rattle.std.proofs.lemmas.Bool.{cases_Bool, cases_lt, eq-eqb, eqb-true, lt-ltb}
+use Rattle.std.proofs.lemmas.Bool.{cases_Bool, cases_lt, eq-eqb, lt-ltb}
 use Rattle.std.proofs.lemmas.List.{get_or-take, length-take-le}
 use Rattle.std.proofs.lemmas.List.Folds.{list_any_at}
 use Rattle.std.proofs.lemmas.Option.{slice_get_within}
@@ -21,12 +20,12 @@ use Rattle.dbp_core.specs.declared.parts.Place.TheVariants as place
 use Rattle.dbp_core.specs.declared.parts.TaskEntry.{TaskEntry}
 use Rattle.dbp_core.specs.declared.state.State.{State}
 use Rattle.dbp_core.specs.declared.state.TaskState.{TaskState}
-use Rattle.dbp_core.specs.declared.step.Broken.{Broken}
 use Rattle.dbp_core.specs.declared.step.Broken.TheVariants as broken
 use Rattle.dbp_core.specs.declared.step.Step.TheVariants.{Seen, Aim, Claim, OpenGate}
 use Rattle.dbp_core.specs.declared.wiring.TaskWiring.{TaskWiring}
 use Rattle.dbp_core.specs.declared.wiring.Wiring.{Wiring}
-use Rattle.dbp_core.proofs.Allowed.{at_aim, at_claim, at_open, next_none, or_else_none, unless_none}
+use Rattle.dbp_core.proofs.Aims.{IsAllowedAim, aim_allowed}
+use Rattle.dbp_core.proofs.Allowed.{at_claim, at_open, next_none}
 use Rattle.dbp_core.proofs.SoundCounts.{aim_claims, aim_opens, claim_opens, claims_other, claims_same, open_claims, opens_other, opens_same}
 use Rattle.dbp_core.proofs.SoundFrame.{Changed, changed_both, changed_entry, changed_task, claim_frame, task_frame}
 use Rattle.dbp_core.proofs.SoundGoes.{idle, reader_on}
@@ -34,32 +33,6 @@ use Rattle.dbp_core.proofs.SoundOwn.{ClaimPlace, IsOwn, claim_place, seen_aims}
 use Rattle.dbp_core.proofs.StateKept.{step_kept}
 
 -- ---- conditions
-
-none_found : (o : Option ℕ) (b : Broken) (r : ℕ) → rule.none_of o b r ≡ None → o ≡ None
-none_found None b r none = refl
-none_found (Some x) b r none = absurd (cc)
-
-neither : (x y : Option ℕ) → option_or x y ≡ None → (x ≡ None) × (y ≡ None)
-neither None y none = (refl, none)
-neither (Some x) y none = absurd (cc)
-
-pub least_none : (f : ℕ → Bool) (n k : ℕ) → rule.least f n ≡ None → k < n → f k ≡ false
-least_none f zero k none below = absurd (omega arith)
-least_none f (suc n) k none below =
-    let both = neither (rule.least f n) (if f n then Some n else None) none in
-    elim (cases_lt k n) [
-      | inl less ↦ least_none f n k both.0 less
-      | inr at ↦
-          let same : k ≡ n = omega arith in
-          elim (cases_Bool (f n)) [
-            | inl is ↦ let bad : Some n ≡ None = rw is at both.1 in absurd (cc (bad))
-            | inr isnt ↦ rw same isnt
-          ]
-    ]
-
-not_true : (b : Bool) → not b ≡ true → b ≡ false
-not_true true is = absurd (cc (is))
-not_true false is = refl
 
 -- no item of a list that has no such item
 not_there : (xs : List ℕ) (n j : ℕ) → list_any (λ k. k == n) xs ≡ false → j < length xs → get_or xs j 0 ≢ n
@@ -229,15 +202,8 @@ module _ (p : Plan) (w : Wiring) (rows : ℕ → ℕ → List ℤ) (s : State) (
       let below : i < length w.tasks = there i named in
       let inside : i < length s.tasks = rw sound.shape.tasks below in
       let within : i < length s.releaser.tasks = rw sound.shape.entries below in
-      let first = or_else_none (rule.releases_next w s 2 i) _ free in
-      let second = or_else_none (rule.unless ((task_entry s i).aimed == (task_entry s i).known) broken.LastNotEnded (task_entry s i).aimed (task_entry s i).known) _ first.1 in
-      let third = or_else_none (rule.unless (nat_lt slot (wired w i).slots) broken.SlotRange (wired w i).slots slot) _ second.1 in
-      let fourth = or_else_none (rule.unless (not (rule.stays_kept (task_entry s i) slot)) broken.SlotKept slot slot) _ third.1 in
-      let next = next_none broken.Place (rule.release_kind (slice_get w.releases s.releaser.place)) 2 i first.0 in
-      let here : slice_get w.releases s.releaser.place ≡ Some (release.Aim i) = at_aim (slice_get w.releases s.releaser.place) i next.0 next.1 in
-      let known : (task_entry s i).aimed ≡ (task_entry s i).known = eqb-true (task_entry s i).aimed (task_entry s i).known (unless_none ((task_entry s i).aimed == (task_entry s i).known) broken.LastNotEnded (task_entry s i).aimed (task_entry s i).known second.0) in
-      let fresh : rule.stays_kept (task_entry s i) slot ≡ false = not_true (rule.stays_kept (task_entry s i) slot) (unless_none (not (rule.stays_kept (task_entry s i) slot)) broken.SlotKept slot slot fourth.0) in
-      let none : rule.least (rule.claims_slot w s i slot) (length w.links) ≡ None = none_found (rule.least (rule.claims_slot w s i slot) (length w.links)) broken.SlotClaimed slot fourth.1 in
+      let a : IsAllowedAim w s i slot = aim_allowed w s i slot free in
+      let here : slice_get w.releases s.releaser.place ≡ Some (release.Aim i) = a.here in
       let e : TaskEntry = move.aimed (task_entry s i) slot in
       let t : TaskState = record (task s i) { words = move.aimed_words (task s i).words (move.aimed (task_entry s i) slot) } in
       let ok : TaskSound p w rows i (task_entry s i) (task s i) = sound.tasks i below in
@@ -248,13 +214,13 @@ module _ (p : Plan) (w : Wiring) (rows : ℕ → ℕ → List ℤ) (s : State) (
       (move.aimed (task_entry s i) slot) (record (task s i) { words = move.aimed_words (task s i).words (move.aimed (task_entry s i) slot) })
       (changed_both s i (move.aimed (task_entry s i) slot) (record (task s i) { words = move.aimed_words (task s i).words (move.aimed (task_entry s i) slot) }) within inside))
       (sound.gates i below ∙ sym (aim_opens w.releases s.releaser.place i i here)) (λ j other. aim_opens w.releases s.releaser.place i j here) (λ k. aim_claims w.releases s.releaser.place i k here)
-      (aim_task p w rows i slot (task_entry s i) (task s i) ok shape (sound.shape.each_entry i below) known fresh)
+      (aim_task p w rows i slot (task_entry s i) (task s i) ok shape (sound.shape.each_entry i below) a.known a.fresh)
       (λ k fits is.
       let old : LinkSound p w k (link_entry s k) (task_entry s i) (task s i) (task_entry s (link w k).reader) (task s (link w k).reader) = rw is at (sound.links k fits) in
       let seen : seen_by w.links p.batches k (link_entry s k).instance ≤ aims w.releases s.releaser.place (link w k).writer = rw (sound.claims k fits).instance (seen_aims p w own.whole s.releaser.place k fits) in
       let few : seen_by w.links p.batches k (link_entry s k).instance ≤ (task_entry s i).aimed = omega (arith, seen, sound.shape.aimed i below, ap (aims w.releases s.releaser.place) is) in
-      aim_writes p w rows i k slot (link_entry s k) (task_entry s i) (task s i) (task_entry s (link w k).reader) (task s (link w k).reader) ok shape known
-      (unclaimed i slot k (least_none (rule.claims_slot w s i slot) (length w.links) k none fits) is) few old)
+      aim_writes p w rows i k slot (link_entry s k) (task_entry s i) (task s i) (task_entry s (link w k).reader) (task s (link w k).reader) ok shape a.known
+      (unclaimed i slot k (a.unclaimed k fits) is) few old)
       (λ k fits is. aim_reads p w k slot (link_entry s k) (task_entry s (link w k).writer) (task s (link w k).writer) (task_entry s i) (task s i) (rw is at (sound.links k fits)))
 
   pub claim_sound : (k : ℕ) → k < length p.diagram.links → rule.refusal w s (Claim k) ≡ None → Sound p w rows (rule.next p w s (Claim k))

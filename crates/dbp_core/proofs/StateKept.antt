@@ -1,7 +1,7 @@
 -- Each allowed step keeps what the code needs of the state.
 use Rattle.std.proofs.Common.{◌≡◌, ℕ, zero, suc, ℤ, ◌+◌, ◌-◌, ◌<◌, ◌≤◌, List, ◌∷◌, ◌++◌, length, get_or, take, drop, Option, Some, None, Result, refl, sym, ◌∙◌, ap, subst, arith, inl, inr, length-append, length-drop}
-use Rattle.std.specs.Prelude.{slice_get, nat_lt}
-use Rattle.std.proofs.lemmas.Bool.{cases_Bool, eqb-true, ltb-true}
+use Rattle.std.specs.Prelude.{slice_get}
+use Rattle.std.proofs.lemmas.Bool.{cases_Bool, eqb-true}
 use Rattle.std.proofs.lemmas.List.{get_or-take, length-map, length-set, length-take-le}
 use Rattle.dbp_plan.specs.declared.diagram.Task.{Task}
 use Rattle.dbp_plan.specs.declared.plan.Plan.{Plan}
@@ -25,7 +25,8 @@ use Rattle.dbp_core.specs.declared.step.Step.{Step}
 use Rattle.dbp_core.specs.declared.step.Step.TheVariants.{Seen, Aim, Claim, OpenGate, Start, Hear, Look, Take, Shut, Put, Done, End}
 use Rattle.dbp_core.specs.declared.wiring.TaskWiring.{TaskWiring}
 use Rattle.dbp_core.specs.declared.wiring.Wiring.{Wiring}
-use Rattle.dbp_core.proofs.Allowed.{at_aim, at_claim, at_next, at_open, next_none, or_else_none, place_of, unless_none}
+use Rattle.dbp_core.proofs.Aims.{IsAllowedAim, aim_allowed}
+use Rattle.dbp_core.proofs.Allowed.{at_claim, at_next, at_open, next_none, or_else_none, place_of}
 use Rattle.dbp_core.proofs.Counted.{aims_claim, aims_open, aims_other, aims_same}
 use Rattle.dbp_core.proofs.Frames.{aim_changes, claim_changes, entry_changes, further_on, task_changes}
 use Rattle.dbp_core.proofs.TaskKept.{WorkFits, computed_fits, end_kept, goes_on, goes_to_put, goes_to_read, hear_kept, stamped_fit, start_kept, word_fits}
@@ -53,12 +54,9 @@ module _ (p : Plan) (w : Wiring) (s : State) (shape : IsShape p w s) where
 
   aim_kept : (i slot : ℕ) → i < length w.tasks → rule.refusal w s (Aim i slot) ≡ None → IsShape p w (rule.next p w s (Aim i slot))
   aim_kept i slot below free =
-      let first = or_else_none _ _ free in
-      let second = or_else_none _ _ first.1 in
-      let third = or_else_none _ _ second.1 in
-      let next = next_none broken.Place (rule.release_kind (slice_get w.releases s.releaser.place)) 2 i first.0 in
-      let here : slice_get w.releases s.releaser.place ≡ Some (release.Aim i) = at_aim (slice_get w.releases s.releaser.place) i next.0 next.1 in
-      let fits : slot < (wired w i).slots = ltb-true slot (wired w i).slots (unless_none (nat_lt slot (wired w i).slots) broken.SlotRange (wired w i).slots slot third.0) in
+      let a : IsAllowedAim w s i slot = aim_allowed w s i slot free in
+      let here : slice_get w.releases s.releaser.place ≡ Some (release.Aim i) = a.here in
+      let fits : slot < (wired w i).slots = a.below in
       let e : EntryShape (wired w i) (task_entry s i) = shape.each_entry i below in
       let ok : TaskShape w (declared p i) i (task_entry s i).aimed (task s i) = shape.each_task i below in
       let t : IsTaskWired p w i (wired w i) = shape.wiring.each_task i below in

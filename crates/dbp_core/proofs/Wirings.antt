@@ -114,6 +114,7 @@ module _ (p : Plan) (count : Count) where
       some_slot = slots_some p count i;
       links = omega (arith, into_no_more d closed i t here, (closed.each i no_declared below).reads);
       into = λ n inside. into_below d.links i n 0 inside;
+      leaving = refl;
       reads = reads_size;
       each_read = λ n inside. reads_wired n (omega (arith, reads_size));
     }

@@ -10,3 +10,6 @@ pub mod Work
 pub mod SoundParts
 pub mod Sound
 pub mod Lawful
+pub mod TenParts
+pub mod SharedWords
+pub mod Promises

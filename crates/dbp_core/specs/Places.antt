@@ -41,7 +41,7 @@ abbrev pub no_read_wiring : ReadWiring
 no_read_wiring = record { read = 0; order = 0; writer = 0; port = 0 }
 
 abbrev pub no_task_wiring : TaskWiring
-no_task_wiring = record { ports = 0; slots = 0; kept = 0; rank = 0; times = []; links = []; reads = [] }
+no_task_wiring = record { ports = 0; slots = 0; kept = 0; rank = 0; times = []; links = []; leaving = []; reads = [] }
 
 -- of a state
 

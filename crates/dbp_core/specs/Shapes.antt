@@ -9,6 +9,7 @@ use Rattle.dbp_plan.specs.Occurrences.{times_of}
 use Rattle.release_list.specs.Schedule.{IsSchedule, aims}
 use Rattle.dbp_core.specs.Moves.{heard_order}
 use Rattle.dbp_core.specs.Places.{declared, link, link_entry, order, read_at, slot_at, task, task_entry, wired}
+use Rattle.dbp_core.specs.Wired.{links_at}
 use Rattle.dbp_core.specs.declared.parts.LinkEntry.{LinkEntry}
 use Rattle.dbp_core.specs.declared.parts.Order.{Order}
 use Rattle.dbp_core.specs.declared.parts.Place.{Place}
@@ -17,6 +18,7 @@ use Rattle.dbp_core.specs.declared.parts.TaskEntry.{TaskEntry}
 use Rattle.dbp_core.specs.declared.state.Slot.{Slot}
 use Rattle.dbp_core.specs.declared.state.State.{State}
 use Rattle.dbp_core.specs.declared.state.TaskState.{TaskState}
+use Rattle.dbp_core.specs.declared.wire.LinkEnd.TheVariants.{Writer}
 use Rattle.dbp_core.specs.declared.wiring.ReadWiring.{ReadWiring}
 use Rattle.dbp_core.specs.declared.wiring.TaskWiring.{TaskWiring}
 use Rattle.dbp_core.specs.declared.wiring.Wiring.{Wiring}
@@ -55,6 +57,7 @@ pub record IsTaskWired (p : Plan) (w : Wiring) (i : ℕ) (t : TaskWiring) : Type
   pub some_slot : 0 < t.slots
   pub links : length t.links ≤ MAX_READS
   pub into : (n : ℕ) → n < length t.links → link_in t n < length w.links
+  pub leaving : t.leaving ≡ links_at Writer w.links i
   pub reads : length t.reads ≡ length (declared p i).reads
   pub each_read : (n : ℕ) → n < length t.reads → IsReadWired w (length (declared p i).reads) i (read_at t n)
 

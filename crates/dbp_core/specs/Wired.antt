@@ -1,6 +1,6 @@
 -- What the steps look up in a plan.
 use Rattle.std.specs.Prelude.{ℕ, ◌+◌, ◌==◌, ◌&&◌, ◌||◌, nat_lt, Bool, List, [], ◌++◌, length, map, filter, slice_index_or}
-use Rattle.std.specs.List.{count_by, enumerate_from, position_or_len}
+use Rattle.std.specs.List.{count_by, enumerate_from, position_or_len, range_with_len}
 use Rattle.dbp_plan.specs.declared.diagram.Link.{Link}
 use Rattle.dbp_plan.specs.declared.diagram.Read.{Read}
 use Rattle.dbp_plan.specs.declared.diagram.Task.{Task}
@@ -12,6 +12,8 @@ use Rattle.release_list.specs.Releases.{links_into, releases_of}
 use Rattle.release_list.specs.Links.{link_at}
 use Rattle.dbp_core.specs.declared.step.Count.{Count}
 use Rattle.dbp_core.specs.declared.step.Count.TheVariants.{Ranked, All}
+use Rattle.dbp_core.specs.declared.wire.LinkEnd.{LinkEnd}
+use Rattle.dbp_core.specs.declared.wire.LinkEnd.TheVariants.{Writer, Reader}
 use Rattle.dbp_core.specs.declared.wiring.ReadWiring.{ReadWiring}
 use Rattle.dbp_core.specs.declared.wiring.TaskWiring.{TaskWiring}
 use Rattle.dbp_core.specs.declared.wiring.Wiring.{Wiring}
@@ -37,6 +39,14 @@ read_wiring links ins reads n =
     let r = slice_index_or reads n no_read in
     record { read = n; order = 1 + position_or_len (λ k. k == r.link) ins; writer = (link_at links r.link).writer; port = r.port }
 
+-- the task at the end of the link, and the links that have the task at this end, in order
+abbrev pub task_at_end : LinkEnd → Link → ℕ
+task_at_end Writer l = l.writer
+task_at_end Reader l = l.reader
+
+abbrev pub links_at : LinkEnd → List Link → ℕ → List ℕ
+links_at end links task = filter (λ k. task_at_end end (link_at links k) == task) (range_with_len 0 (length links))
+
 -- the slots of a task: under `Ranked` those of a simulation, under `All` those of a run
 abbrev pub slot_count : Count → Plan → ℕ → ℕ
 slot_count Ranked p i = (counts_of p.diagram i).sim
@@ -51,6 +61,7 @@ task_wiring p count (i, task) = record {
   rank = slice_index_or p.diagram.ranks i 0;
   times = times_of p.batches i;
   links = links_into p.diagram.links i;
+  leaving = links_at Writer p.diagram.links i;
   reads = map (read_wiring p.diagram.links (links_into p.diagram.links i) task.reads) (in_turn task.reads);
 }
 

@@ -5,6 +5,8 @@ ghost use Rattle.dbp_core.specs.Places.{link, task, wired};
 ghost use Rattle.dbp_core.specs.Rules as rule;
 ghost use Rattle.dbp_core.specs.Rules.{IsNamed, IsStep};
 ghost use Rattle.dbp_core.specs.Shapes.{IsShape, PlaceIn};
+ghost use Rattle.dbp_core.specs.Wired.{links_at};
+ghost use Rattle.dbp_core.specs.declared.wire.LinkEnd.TheVariants.{Writer};
 
 use crate::conditions::{Kind, blocked, claimed, not_next_release, not_next_step, stays_kept};
 use crate::look_up::{declared_at, entry_at, task_at, wired_at};
@@ -68,6 +70,7 @@ fn step_aim(
 // Why the task can't be aimed at the slot, if that is so.
 fn not_aimed(wiring: &Wiring, state: &State, i: u32, slot: u32) -> Option<Illegal>
     requires wired { i < length wiring.now.tasks }
+    requires leaving { (wired wiring.now i).leaving ≡ links_at Writer wiring.now.links i }
     requires entries { length state.now.releaser.tasks ≡ length wiring.now.tasks }
     requires claims { length state.now.releaser.links ≡ length wiring.now.links }
     requires writers { (k : ℕ) → k < length wiring.now.links → (link wiring.now k).writer < length wiring.now.tasks }

@@ -4,6 +4,8 @@ ghost use Rattle.std.specs.Prelude.{◌≡◌, ◌+◌, ◌<◌, ◌≤◌, ◌^
 ghost use Rattle.dbp_core.specs.Places.{is_counted, link, read_at, task, task_entry, time, wired};
 ghost use Rattle.dbp_core.specs.Rules as rule;
 ghost use Rattle.dbp_core.specs.Shapes.{PlaceIn};
+ghost use Rattle.dbp_core.specs.Wired.{links_at};
+ghost use Rattle.dbp_core.specs.declared.wire.LinkEnd.TheVariants.{Writer};
 
 use crate::look_up::{claim_at, entry_at, task_at, wired_at};
 use crate::parts::{Place, TaskEntry};
@@ -139,17 +141,19 @@ fn claims_slot(wiring: &Wiring, state: &State, i: u32, slot: u32, k: u32) -> boo
         && claim.slot == slot
 }
 
-// The least link from the task that claims the slot.
+// The least link from the task that claims the slot: one of those that leave the task.
 pub(crate) fn claimed(wiring: &Wiring, state: &State, i: u32, slot: u32) -> Option<u32>
+    requires task { i < length wiring.now.tasks }
+    requires leaving { (wired wiring.now i).leaving ≡ links_at Writer wiring.now.links i }
     requires claims { length state.now.releaser.links ≡ length wiring.now.links }
     requires writers { (k : ℕ) → k < length wiring.now.links → (link wiring.now k).writer < length wiring.now.tasks }
     requires readers { (k : ℕ) → k < length wiring.now.links → (link wiring.now k).reader < length wiring.now.tasks }
     requires entries { length state.now.releaser.tasks ≡ length wiring.now.tasks }
     ensures { result ≡ rule.least (rule.claims_slot wiring.now state.now i slot) (length wiring.now.links) }
 {
-    for k in 0..wiring.links.len() {
-        if claims_slot(wiring, state, i, slot, k) {
-            return Some(k);
+    for k in wired_at(wiring, i).leaving.items() {
+        if claims_slot(wiring, state, i, slot, *k) {
+            return Some(*k);
         }
     }
     None

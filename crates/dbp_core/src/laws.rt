@@ -1,40 +1,61 @@
 // What holds of every list of steps, each of which is allowed where it is made: of every order in which the releaser and
 // the tasks may step.
 
-ghost use Rattle.std.specs.Prelude.{◌≡◌, ◌<◌, ℕ, ◌+◌, ℤ, List as Items, None, length, slice_index_or};
+ghost use Rattle.std.specs.Prelude.{◌≡◌, ◌<◌, ℕ, List as Items, None, length, slice_index_or};
 ghost use Rattle.dbp_plan.specs.declared.plan.Plan.{Plan};
-ghost use Rattle.sync_meaning.specs.SomeMeaningRows.{Solves};
+ghost use Rattle.dbp_plan.specs.declared.table.Table.{Table};
+ghost use Rattle.sync_meaning.specs.Meaning.{IsMeaning};
+ghost use Rattle.sync_meaning.specs.SomeMeaningTables.{rows_in};
 ghost use Rattle.dbp_core.specs.Lawful.{Leads};
-ghost use Rattle.dbp_core.specs.Places.{declared, link, task};
-ghost use Rattle.dbp_core.specs.Rules.{hears, refusal};
-ghost use Rattle.dbp_core.specs.SoundParts.{meant};
+ghost use Rattle.dbp_core.specs.Places.{declared, link};
+ghost use Rattle.dbp_core.specs.Promises.{IsUnclaimed, SparesClaims, TakesTheMeaning};
+ghost use Rattle.dbp_core.specs.Rules.{IsNamed, hears, refusal};
+ghost use Rattle.dbp_core.specs.Sound.{Sound};
 ghost use Rattle.dbp_core.specs.Start.{start_of};
 ghost use Rattle.dbp_core.specs.Wired.{no_read, wiring_of};
 ghost use Rattle.dbp_core.specs.declared.state.State.{State};
 ghost use Rattle.dbp_core.specs.declared.step.Count.{Count};
-ghost use Rattle.dbp_core.specs.declared.step.Count.TheVariants.{Ranked};
-ghost use Rattle.dbp_core.specs.declared.step.Heard.TheVariants.{Ready, Word};
+ghost use Rattle.dbp_core.specs.declared.step.Count.TheVariants.{All, Ranked};
+ghost use Rattle.dbp_core.specs.declared.step.Heard.TheVariants.{Ready};
 ghost use Rattle.dbp_core.specs.declared.step.Step.{Step};
-ghost use Rattle.dbp_core.specs.declared.step.Step.TheVariants.{Look, Take};
+ghost use Rattle.dbp_core.specs.declared.step.Step.TheVariants.{Aim, Look, Take};
+
+/// Whatever steps were made, the state is sound.
+pub fn allowed_steps_lead_to_sound_states()
+    ensures { (p : Plan) (count : Count) (table : Table) (steps : Items Step) (s : State) → IsMeaning p.diagram p.samples p.batches table
+        → Leads p (wiring_of p count) (start_of p (wiring_of p count)) steps s → Sound p (wiring_of p count) (rows_in table) s }
+{}
 
 /// Whatever steps were made, a task that takes a read's word takes the one that the meaning gives the read in this
-/// instance. The rows are those that solve the meaning's equations, of which each plan has some, and one at most.
+/// instance.
 pub fn a_take_hears_the_meaning()
-    ensures { (p : Plan) (count : Count) (rows : ℕ → ℕ → Items ℤ) → Solves p.diagram p.samples p.batches rows
-        → (steps : Items Step) (s : State) → Leads p (wiring_of p count) (start_of p (wiring_of p count)) steps s
-        → (i r : ℕ) → i < length p.diagram.tasks → refusal (wiring_of p count) s (Take i r) ≡ None
-        → hears (wiring_of p count) s (Take i r) ≡ Word (meant p rows i ((task s i).part.ended + 1) (slice_index_or (declared p i).reads r no_read)) }
+    ensures { (p : Plan) (count : Count) (table : Table) (steps : Items Step) (s : State) (i r : ℕ) → IsMeaning p.diagram p.samples p.batches table
+        → Leads p (wiring_of p count) (start_of p (wiring_of p count)) steps s
+        → i < length p.diagram.tasks → refusal (wiring_of p count) s (Take i r) ≡ None → TakesTheMeaning p (wiring_of p count) table s i r }
 {}
 
 /// Whatever steps were made, a look over a delayed link finds its row.
 pub fn a_delayed_look_is_ready()
-    ensures { (p : Plan) (count : Count) (steps : Items Step) (s : State) → Leads p (wiring_of p count) (start_of p (wiring_of p count)) steps s
-        → (i r : ℕ) → i < length p.diagram.tasks → refusal (wiring_of p count) s (Look i r) ≡ None
+    ensures { (p : Plan) (count : Count) (steps : Items Step) (s : State) (i r : ℕ) → Leads p (wiring_of p count) (start_of p (wiring_of p count)) steps s
+        → i < length p.diagram.tasks → refusal (wiring_of p count) s (Look i r) ≡ None
         → 0 < (link (wiring_of p count) (slice_index_or (declared p i).reads r no_read).link).delay → hears (wiring_of p count) s (Look i r) ≡ Ready }
 {}
 
 /// Where tasks step by their ranks, every look finds its row.
 pub fn a_ranked_look_is_ready()
-    ensures { (p : Plan) (steps : Items Step) (s : State) → Leads p (wiring_of p Ranked) (start_of p (wiring_of p Ranked)) steps s
-        → (i r : ℕ) → i < length p.diagram.tasks → refusal (wiring_of p Ranked) s (Look i r) ≡ None → hears (wiring_of p Ranked) s (Look i r) ≡ Ready }
+    ensures { (p : Plan) (steps : Items Step) (s : State) (i r : ℕ) → Leads p (wiring_of p Ranked) (start_of p (wiring_of p Ranked)) steps s
+        → i < length p.diagram.tasks → refusal (wiring_of p Ranked) s (Look i r) ≡ None → hears (wiring_of p Ranked) s (Look i r) ≡ Ready }
+{}
+
+/// Whatever steps were made, where all links are counted an aim names no slot that a standing claim names.
+pub fn an_aim_names_no_claimed_slot()
+    ensures { (p : Plan) (steps : Items Step) (s : State) (i slot : ℕ) → Leads p (wiring_of p All) (start_of p (wiring_of p All)) steps s
+        → refusal (wiring_of p All) s (Aim i slot) ≡ None → IsUnclaimed (wiring_of p All) s i slot }
+{}
+
+/// Whatever steps were made, no step changes a slot that a claim of an instance which hasn't ended names, but for the
+/// steps by which the claimed instance itself fills it.
+pub fn a_step_changes_no_claimed_row()
+    ensures { (p : Plan) (count : Count) (steps : Items Step) (s : State) (e : Step) → Leads p (wiring_of p count) (start_of p (wiring_of p count)) steps s
+        → IsNamed p.diagram e → refusal (wiring_of p count) s e ≡ None → SparesClaims p (wiring_of p count) s e }
 {}

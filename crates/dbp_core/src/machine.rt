@@ -1,7 +1,10 @@
 // The core of a plan, as one value.
 
 ghost use Rattle.std.specs.Prelude.{◌≡◌};
+ghost use Rattle.sync_meaning.specs.SomeMeaning.{meaning_of};
+ghost use Rattle.sync_meaning.specs.SomeMeaningTables.{rows_in};
 ghost use Rattle.dbp_core.specs.Shapes.{IsShape};
+ghost use Rattle.dbp_core.specs.Sound.{Sound};
 ghost use Rattle.dbp_core.specs.Wired.{wiring_of};
 
 use crate::arms::advance;
@@ -14,7 +17,7 @@ use dbp_plan::{NoMemory, Plan, Row};
 use std::alloc::Global;
 
 /// The protocol of a plan, from the first step on: the words that the releaser and the tasks share, and what each has
-/// for itself. It changes by steps alone.
+/// for itself. It changes by steps alone, so its state is always sound.
 #[derive(Drop)]
 pub struct Core {
     plan: Plan,
@@ -22,13 +25,18 @@ pub struct Core {
     state: State,
     ghost wired: { wiring ≡ wiring_of plan wiring.count },
     ghost shape: { IsShape plan wiring state },
+    ghost sound: { ∥ Sound plan wiring (rows_in (meaning_of plan)) state ∥₁ },
 }
 
 impl Core {
     ghost use Rattle.std.specs.Prelude.{◌≡◌, ◌<◌, length, IfOk};
+    ghost use Rattle.dbp_plan.specs.declared.table.Table.{Table};
+    ghost use Rattle.dbp_plan.specs.Table.{IsRow};
+    ghost use Rattle.sync_meaning.specs.Meaning.{IsMeaning};
     ghost use Rattle.dbp_core.specs.Cores.{count_in, plan_in, state_in};
     ghost use Rattle.dbp_core.specs.Places.{task as state_of};
     ghost use Rattle.dbp_core.specs.Rules.{IsNamed, IsStep};
+    ghost use Rattle.dbp_core.specs.SoundParts.{last_shut};
     ghost use Rattle.dbp_core.specs.Start.{start_of};
 
     /// The core before the first step. Where memory runs out the plan is given up.
@@ -65,10 +73,12 @@ impl Core {
         &self.plan
     }
 
-    /// The row of the task's last `Shut`, or the first values of its outs.
+    /// The row of the task's last `Shut`, or the first values of its outs. It is the one that the meaning gives this
+    /// instance.
     pub fn row(&self, task: u32) -> &Row
         requires { task < length (plan_in self.now).diagram.tasks }
-        ensures { result.now ≡ (state_of (state_in self.now) task).work.row }
+        ensures row { result.now ≡ (state_of (state_in self.now) task).work.row }
+        ensures meaning { (table : Table) → IsMeaning (plan_in self.now).diagram (plan_in self.now).samples (plan_in self.now).batches table → IsRow table task (last_shut (state_of (state_in self.now) task)) result.now }
     {
         self.state.tasks.items()[task as usize].work.row()
     }

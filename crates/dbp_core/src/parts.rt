@@ -15,6 +15,8 @@ pub struct Order {
 /// Orders that an instance hears, at most: its own, and one of each link into its task.
 pub const MAX_ORDERS: usize = MAX_READS as usize + 1;
 
+const _: () = prove!(MAX_ORDERS == 17);
+
 /// The next step of a task.
 #[derive(Clone, Copy, Debug, PartialEq, Eq)]
 pub enum Place {

@@ -32,6 +32,8 @@ pub struct TaskWiring {
     pub times: List<u64>,
     /// The links into it.
     pub links: List<u32>,
+    /// The links that leave it.
+    pub leaving: List<u32>,
     /// Its reads in the order of their turns: by the tick of the task's service, then by declaration.
     pub reads: List<ReadWiring>,
 }

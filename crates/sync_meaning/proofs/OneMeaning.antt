@@ -1,7 +1,7 @@
 -- A plan has one meaning at most.
 use Rattle.std.proofs.Common.{◌≡◌, ℕ, ℤ, pos, zero, suc, ◌<◌, ◌≤◌, ◌+◌, ◌-◌, List, length, get_or, slice_get, Some, refl, sym, ◌∙◌, ap, subst, arith, inl, inr}
 use Rattle.std.proofs.lemmas.Bool.{cases_lt}
-use Rattle.std.proofs.lemmas.Option.{get_or_from_slice_get, slice_get-get_or}
+use Rattle.std.proofs.lemmas.Option.{get_or_from_slice_get, slice_get-get_or, slice_get_within}
 use Rattle.dbp_plan.specs.declared.diagram.Diagram.{Diagram}
 use Rattle.dbp_plan.specs.declared.diagram.Read.{Read}
 use Rattle.dbp_plan.specs.declared.diagram.Sense.{Sense}
@@ -92,8 +92,20 @@ module _ (d : Diagram) (samples : List Sample) (batches : List Batch) (table : T
         let env : stream.envs n ≡ env_at d samples batches (rows_in table) i task n = env_is n (omega arith) (states_are n (omega arith)) in
         row_in table i (suc n) (outs_in task (stream.envs n)) (subst (λ (m : ℕ). IsRow table i m (outs_in task (stream.envs n))) one (stream.row n (omega arith))) ∙ ap (outs_in task) env
 
-  meaning_solves : IsPlan d samples batches → IsMeaning d samples batches table → Solves d samples batches (rows_in table)
+  -- the rows of a meaning solve the equations of rows
+  pub meaning_solves : IsPlan d samples batches → IsMeaning d samples batches table → Solves d samples batches (rows_in table)
   meaning_solves plan meaning = record { each = λ i n task at few. row_is plan i task at (meaning.each i task at) n few }
+
+  -- and the word that they give a read is the one that the meaning gives it
+  pub read_is : IsMeaning d samples batches table → (i n k : ℕ) (task : Task) (r : Read) → slice_get d.tasks i ≡ Some task → n < length (times_of batches i) → slice_get task.reads k ≡ Some r
+      → IsRead d.links (λ w. count_until (times_of batches w) (get_or (times_of batches i) n 0)) table r (word_at d samples batches (rows_in table) (get_or (times_of batches i) n 0) r)
+  read_is meaning i n k task r at below has =
+      let stream : IsStream d samples batches table i task = meaning.each i task at in
+      let time : ℕ = get_or (times_of batches i) n 0 in
+      let env : IsEnv d samples batches table task time (stream.states n) (stream.envs n) = stream.env n time (slice_get-get_or (times_of batches i) n 0 below) in
+      let word : (w : ℤ) × (slice_get (stream.envs n) (length task.states + length task.senses + k) ≡ Some w) = at_place (stream.envs n) (length task.states + length task.senses + k) (omega (arith, env.size, slice_get_within task.reads k r has)) in
+      let is : IsRead d.links (λ w. count_until (times_of batches w) time) table r word.0 = env.read k r word.0 has word.1 in
+      subst (λ (w : ℤ). IsRead d.links (λ v. count_until (times_of batches v) time) table r w) (sym (word_is time r word.0 is)) is
 
 one_table : (d : Diagram) (samples : List Sample) (batches : List Batch) (y z : Table) → IsPlan d samples batches → IsMeaning d samples batches y → IsMeaning d samples batches z → y ≡ z
 one_table d samples batches y z plan one other =

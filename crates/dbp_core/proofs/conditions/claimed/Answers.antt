@@ -1,8 +1,61 @@
-use Rattle.std.proofs.Common.{arith, length, sym, ◌∙◌}
+-- The links that leave the task are those that can claim the slot.
+use Rattle.std.proofs.Common.{◌≡◌, ℕ, ◌<◌, All, List, length, get_or, refl, ap, sym, subst, ◌∙◌, arith}
+use Rattle.std.specs.Prelude.{◌==◌}
+use Rattle.std.proofs.lemmas.Bool.{and_parts}
+use Rattle.std.proofs.lemmas.List.{take_all}
+use Rattle.std.specs.List.{find}
+use Rattle.dbp_core.specs.Places.{link, wired}
 use Rattle.dbp_core.specs.Rules as rule
-use Rattle.dbp_core.proofs.Searches.{least_found}
+use Rattle.dbp_core.specs.Wired.{links_at}
+use Rattle.dbp_core.specs.declared.state.State.{State}
+use Rattle.dbp_core.specs.declared.wire.LinkEnd.TheVariants.{Writer}
+use Rattle.dbp_core.specs.declared.wiring.TaskWiring.{TaskWiring}
+use Rattle.dbp_core.specs.declared.wiring.Wiring.{Wiring}
+use Rattle.dbp_core.proofs.IntoTask.{links_below}
+use Rattle.dbp_core.proofs.Searches.{find_among, find_at, find_past}
 use Rattle.dbp_core.proofs.conditions.claimed.Goals as goal
+
+-- the items of the loop are the links that leave the task
+leaving : (w : Wiring) (i : ℕ) (t : TaskWiring) (items : List ℕ) → items ≡ t.leaving → t ≡ wired w i → (wired w i).leaving ≡ links_at Writer w.links i → items ≡ links_at Writer w.links i
+leaving w i t items own is all = own ∙ ap (λ (x : TaskWiring). x.leaving) is ∙ all
+
+below : (w : Wiring) (i n : ℕ) (items : List ℕ) → items ≡ links_at Writer w.links i → n < length items → get_or items n 0 < length w.links
+below w i n items is inside = subst (λ (xs : List ℕ). All (λ k. k < length w.links) xs) (sym is) (links_below Writer w.links i) n 0 inside
+
+-- the first of them that claims the slot is the least link that does
+least : (w : Wiring) (s : State) (i slot : ℕ) (items : List ℕ) → items ≡ links_at Writer w.links i → find (rule.claims_slot w s i slot) items ≡ rule.least (rule.claims_slot w s i slot) (length w.links)
+least w s i slot items is =
+    ap (find (rule.claims_slot w s i slot)) is
+    ∙ find_among (λ k. (link w k).writer == i) (rule.claims_slot w s i slot) (length w.links) (λ k claims. (and_parts ((link w k).writer == i) _ claims).0)
+
+pub loop-k-init : goal.loop-k-init
+loop-k-init c = refl
+
+pub claims_slot-requires-clause-link : goal.claims_slot-requires-clause-link
+claims_slot-requires-clause-link c =
+    below c.args.wiring.now c.args.i c.loop-k.k-index c.items-k-items.result.now (leaving c.args.wiring.now c.args.i c.wired_at.result.now c.items-k-items.result.now c.items-k-items.ensures.value c.wired_at.ensures c.requires.leaving) c.loop-k-test.true
+
+pub claims_slot-requires-clause-claim : goal.claims_slot-requires-clause-claim
+claims_slot-requires-clause-claim c =
+    let inside : get_or c.items-k-items.result.now c.loop-k.k-index 0 < length c.args.wiring.now.links =
+    below c.args.wiring.now c.args.i c.loop-k.k-index c.items-k-items.result.now (leaving c.args.wiring.now c.args.i c.wired_at.result.now c.items-k-items.result.now c.items-k-items.ensures.value c.wired_at.ensures c.requires.leaving) c.loop-k-test.true in
+    omega (arith, inside, c.requires.claims)
 
 pub returns-then-claims_slot : goal.returns-then-claims_slot
 returns-then-claims_slot c =
-    sym (least_found (rule.claims_slot c.args.wiring.now c.args.state.now c.args.i c.args.slot) c.loop-k.k (length c.args.wiring.now.links) c.loop-k.invariant (sym c.claims_slot.ensures ∙ c.if-claims_slot.true) (omega arith))
+    let w = c.args.wiring.now in
+    let items = c.items-k-items.result.now in
+    sym (find_at (rule.claims_slot w c.args.state.now c.args.i c.args.slot) items c.loop-k.k-index c.loop-k-test.true c.loop-k.invariant (sym c.claims_slot.ensures ∙ c.if-claims_slot.true))
+    ∙ least w c.args.state.now c.args.i c.args.slot items (leaving w c.args.i c.wired_at.result.now items c.items-k-items.ensures.value c.wired_at.ensures c.requires.leaving)
+
+pub loop-k-preserved : goal.loop-k-preserved
+loop-k-preserved c =
+    find_past (rule.claims_slot c.args.wiring.now c.args.state.now c.args.i c.args.slot) c.items-k-items.result.now c.loop-k.k-index c.loop-k-test.true c.loop-k.invariant (sym c.claims_slot.ensures ∙ c.if-claims_slot.false)
+
+pub returns : goal.returns
+returns c =
+    let w = c.args.wiring.now in
+    let items = c.items-k-items.result.now in
+    let all = take_all c.loop-k.k-index items (omega arith) in
+    sym (sym (ap (find (rule.claims_slot w c.args.state.now c.args.i c.args.slot)) all) ∙ c.loop-k.invariant)
+    ∙ least w c.args.state.now c.args.i c.args.slot items (leaving w c.args.i c.wired_at.result.now items c.items-k-items.ensures.value c.wired_at.ensures c.requires.leaving)

@@ -1,6 +1,8 @@
-use Rattle.std.proofs.Common.{◌≡◌, None}
+-- No link so far claims the slot.
+use Rattle.std.proofs.Common.{◌≡◌, None, take}
+use Rattle.std.specs.List.{find}
 use Rattle.dbp_core.specs.Rules as rule
 use Rattle.dbp_core.proofs.conditions.claimed.Given as goal
 
 abbrev pub invariant-loop-k : goal.invariant-loop-k
-invariant-loop-k l = rule.least (rule.claims_slot l.wiring l.state l.i l.slot) l.k ≡ None
+invariant-loop-k l = find (rule.claims_slot l.wiring l.state l.i l.slot) (take l.k-index l.k-items) ≡ None

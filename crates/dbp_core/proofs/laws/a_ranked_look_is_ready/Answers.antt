@@ -1,8 +1,10 @@
 use Rattle.std.proofs.Common.{refl}
-use Rattle.sync_meaning.specs.SomeMeaningRows.{solution, solution-solves}
+use Rattle.dbp_core.specs.Wired.{wiring_of}
 use Rattle.dbp_core.specs.declared.step.Count.TheVariants.{Ranked}
-use Rattle.dbp_core.proofs.SoundRuns.{reached_ranked}
+use Rattle.dbp_core.proofs.SoundAnswers.{ranked_hears}
+use Rattle.dbp_core.proofs.SoundOwn.{own_wiring}
+use Rattle.dbp_core.proofs.SoundRuns.{rows_of, reached_sound}
 use Rattle.dbp_core.proofs.laws.a_ranked_look_is_ready.Goals as goal
 
 pub returns : goal.returns
-returns c = λ p steps s leads i r named free. reached_ranked p Ranked (solution p.diagram p.samples p.batches p.rules) (solution-solves p.diagram p.samples p.batches p.rules) steps s leads i r refl named free
+returns c = λ p steps s i r leads named free. ranked_hears p (wiring_of p Ranked) (rows_of p) s (own_wiring p Ranked) (reached_sound p Ranked steps s leads) i r named refl free

@@ -1,5 +1,8 @@
-use Rattle.dbp_core.proofs.SoundRuns.{reached_take}
+use Rattle.dbp_core.specs.Wired.{wiring_of}
+use Rattle.dbp_core.proofs.SoundOwn.{own_wiring}
+use Rattle.dbp_core.proofs.SoundRuns.{reached_meaning}
+use Rattle.dbp_core.proofs.TakenWords.{take_meant}
 use Rattle.dbp_core.proofs.laws.a_take_hears_the_meaning.Goals as goal
 
 pub returns : goal.returns
-returns c = λ p count rows solves steps s leads i r named free. reached_take p count rows solves steps s leads i r named free
+returns c = λ p count table steps s i r meaning leads named free. take_meant p (wiring_of p count) table s i r (own_wiring p count) meaning (reached_meaning p count table steps s meaning leads) named free
