@@ -1,3 +1,4 @@
+pub mod Counts
 pub mod FirstFaults
 pub mod Numbers
 pub mod OccurrenceLemmas

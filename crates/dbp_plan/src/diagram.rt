@@ -1,3 +1,5 @@
+// The data of a diagram: its inputs, events, tasks and links.
+
 use crate::{Expr, List, Name};
 
 /// When a task occurs.

@@ -1,3 +1,5 @@
+// Expressions, and the calls that make them from their parts.
+
 ghost use Rattle.dbp_plan.specs.Tree.{HasTree};
 ghost use Rattle.dbp_plan.specs.TreeLaws.{HasTree-prop};
 ghost use Rattle.std.specs.Prelude.{◌≤◌, length};

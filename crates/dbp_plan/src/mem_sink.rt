@@ -1,3 +1,5 @@
+// A sink in memory, which can be made to fail.
+
 ghost use Rattle.std.specs.Prelude.{◌≡◌, ℕ, ◌+◌, ◌^◌, ◌<◌, ◌≤◌, List, [], length, Option, Some, None, vec_len, vec_capacity};
 ghost use Rattle.dbp_plan.specs.Sink.{TakesBytes, TakesCause};
 

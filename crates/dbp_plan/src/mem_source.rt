@@ -1,3 +1,5 @@
+// A source in memory, which can be made to fail.
+
 ghost use Rattle.std.specs.Prelude.{◌≡◌, ℕ, ◌+◌, ◌^◌, ◌<◌, ◌≤◌, List, length, drop, Option, Some, None, vec_len};
 ghost use Rattle.dbp_plan.specs.Source.{GivesBytes, GivesCause};
 

@@ -1,3 +1,5 @@
+// Names.
+
 ghost use Rattle.std.specs.Prelude.{◌≡◌, ◌↔◌, IfSome, IsSome, IsTrue};
 ghost use Rattle.dbp_plan.specs.Name.{IsName};
 

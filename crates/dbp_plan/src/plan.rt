@@ -1,3 +1,5 @@
+// A plan: a diagram with its samples and its batches, and what is asked of them.
+
 ghost use Rattle.dbp_plan.specs.Plan.{IsPlan};
 ghost use Rattle.std.proofs.Props.{props};
 

@@ -1,3 +1,5 @@
+// The row of one instance.
+
 ghost use Rattle.std.specs.Prelude.{◌≡◌, ◌<◌, ◌≤◌, List, ℤ, [], ◌∷◌, ◌++◌, length};
 
 use std::marker::Model;

@@ -1,3 +1,5 @@
+// When tasks occur, and when inputs take values.
+
 use crate::List;
 
 /// The tasks that occur at one time, in order of declaration.

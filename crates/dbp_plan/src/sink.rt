@@ -1,3 +1,5 @@
+// Where bytes go, and the sink over a writer of std's.
+
 ghost use Rattle.std.specs.Prelude.{◌≡◌, ℕ, ◌<◌, List, length, Option};
 ghost use Rattle.dbp_plan.specs.Sink.{TakesBytes, TakesCause};
 

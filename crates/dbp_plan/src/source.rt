@@ -1,3 +1,5 @@
+// Where bytes come from, and the source over a reader of std's.
+
 ghost use Rattle.std.specs.Prelude.{◌≡◌, ℕ, ◌<◌, List, length, Option};
 ghost use Rattle.dbp_plan.specs.Source.{GivesBytes, GivesCause};
 

@@ -1,3 +1,5 @@
+// The rows of all instances.
+
 ghost use Rattle.std.specs.Prelude.{length};
 ghost use Rattle.dbp_plan.specs.Table.{HasRow, IsRow};
 

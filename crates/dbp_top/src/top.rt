@@ -1,3 +1,5 @@
+// The whole program as one call.
+
 ghost use Rattle.dbp_plan.specs.Faults.{Rose};
 ghost use Rattle.dbp_top.specs.Ends.{Answered, Ends};
 

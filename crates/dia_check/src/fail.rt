@@ -1,3 +1,5 @@
+// Why a document has no diagram.
+
 ghost use Rattle.std.specs.Prelude.{◌≡◌};
 ghost use Rattle.dia_check.specs.declared.fail.CheckFail.TheVariants.{NoMemory as OutOfMemory};
 

@@ -1,3 +1,5 @@
+// What a document has once its names and its shape are checked.
+
 use dbp_plan::{Diagram, List};
 
 /// A `read` line of a document.

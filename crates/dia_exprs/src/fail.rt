@@ -1,3 +1,5 @@
+// Why tokens give no expression.
+
 ghost use Rattle.std.specs.Prelude.{◌≡◌};
 ghost use Rattle.dia_exprs.specs.declared.fail.ExpressionFail.TheVariants.{NoMemory as OutOfMemory};
 

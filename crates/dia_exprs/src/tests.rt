@@ -1,3 +1,5 @@
+// Expressions of lines, and how many nodes and parentheses they have.
+
 use crate::{ExpressionFail, MAX_DEPTH, depth, expression, node_tokens};
 use dbp_plan::{Expr, MAX_NODES, Name, Node};
 use dia_tokens::tokens;

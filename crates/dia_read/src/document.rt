@@ -1,3 +1,5 @@
+// What a document says, and the lines where it does.
+
 use dbp_plan::{List, Name, Policy};
 use dia_lines::{Decl, Part, RawClock};
 

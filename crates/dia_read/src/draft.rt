@@ -1,3 +1,5 @@
+// What the lines of a document say so far.
+
 use crate::{DocLines, RawTask};
 use dbp_plan::{List, Policy};
 use dia_lines::Decl;

@@ -1,3 +1,5 @@
+// Why a text wasn't read.
+
 ghost use Rattle.std.specs.Prelude.{◌≡◌};
 ghost use Rattle.dia_read.specs.declared.fault.ReadFail.TheVariants.{NoMemory as OutOfMemory};
 

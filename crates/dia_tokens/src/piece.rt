@@ -1,3 +1,5 @@
+// Tokens that have no value yet.
+
 use crate::{Symbol, Word};
 
 /// A token as its text, which has no value yet.

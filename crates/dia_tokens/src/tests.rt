@@ -1,3 +1,5 @@
+// Lines, their tokens and their faults.
+
 use crate::{LineFail, Token, push_spelling, tokens};
 use dbp_plan::List;
 use std::alloc::Global;

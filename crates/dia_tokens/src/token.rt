@@ -1,3 +1,5 @@
+// Tokens.
+
 ghost use Rattle.std.specs.Prelude.{◌≡◌};
 ghost use Rattle.dia_tokens.specs.Spelling.{symbol_text};
 ghost use Rattle.dia_tokens.specs.Words.{word_text};

@@ -1,3 +1,5 @@
+// The first let on a cycle, and a cycle that begins with it.
+
 ghost use Rattle.std.specs.Prelude.{◌≡◌, ℕ, ◌<◌, ◌≤◌, Contains, IfOk, MatchBool, MatchOption, length};
 ghost use Rattle.dbp_plan.specs.declared.limits.TheConstants.{MAX_BODY};
 ghost use Rattle.expr_eval.specs.LetOrders.{IsCycleFrom, IsFirstCycle, LiesOnCycle};

@@ -1,3 +1,5 @@
+// The value of each operator.
+
 ghost use Rattle.std.specs.Prelude.{◌≡◌};
 ghost use Rattle.expr_eval.specs.Values.{value_of_unary, value_of_binary, value_of_choice, quotient, remainder};
 

@@ -1,3 +1,5 @@
+// The order in which lets are evaluated.
+
 ghost use Rattle.std.specs.Prelude.{◌≡◌, ℕ, ◌+◌, ◌<◌, ◌≤◌, All, Contains, List as Items, IfErr, IfOk, MatchBool, MatchOption, length};
 ghost use Rattle.dbp_plan.specs.LetOrder.{IsLetOrder, VariablesBelow};
 ghost use Rattle.dbp_plan.specs.declared.limits.TheConstants.{MAX_BODY};

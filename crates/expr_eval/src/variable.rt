@@ -1,3 +1,5 @@
+// Which lets an expression uses.
+
 ghost use Rattle.std.specs.Prelude.{◌≡◌, ◌+◌, ◌<◌, ◌↔◌, ℕ, Contains, IsTrue, MatchBool, MatchOption, length};
 ghost use Rattle.dbp_plan.specs.declared.node.Node.TheVariants.{Var};
 ghost use Rattle.expr_eval.specs.LetOrders.{Uses};

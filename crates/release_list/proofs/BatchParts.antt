@@ -10,7 +10,8 @@ use Rattle.release_list.specs.declared.release.Release.TheVariants.{Aim, Claim, 
 use Rattle.release_list.specs.Links.{link_at}
 use Rattle.release_list.specs.Releases.{links_into, claims_into, claims_of, releases_at}
 use Rattle.release_list.specs.Schedule.{is_aim, is_claim, is_open, aims, claims, opens}
-use Rattle.release_list.proofs.Counts.{count-cons, count-append, count-map, count-never, before_few, none_found, split}
+use Rattle.dbp_plan.proofs.Counts.{count-cons}
+use Rattle.release_list.proofs.Counts.{count-append, count-map, count-never, before_few, none_found, split}
 use Rattle.release_list.proofs.IntoLinks.{none_into, once_into}
 use Rattle.release_list.proofs.TaskTimes.{often, count-often}
 

@@ -1,6 +1,6 @@
 -- The links into a task: each once.
 use Rattle.std.proofs.Common.{◌≡◌, ◌≢◌, ℕ, zero, suc, ◌+◌, ◌<◌, ◌≤◌, inl, inr, Bool, true, false, cond, List, [], ◌∷◌, ◌++◌, length, refl, ap, ◌∙◌, sym, arith, add-one}
-use Rattle.std.specs.Prelude.{◌==◌, count_by}
+use Rattle.std.specs.Prelude.{◌==◌, count_by, filter}
 use Rattle.std.specs.List.{range_with_len}
 use Rattle.std.proofs.lemmas.Bool.{cases_eq, eq-eqb, ne_eqb}
 use Rattle.std.proofs.lemmas.List.{map-id, append-nil}
@@ -9,13 +9,21 @@ use Rattle.std.proofs.lemmas.List.Sums.{length-filter, count_by-le-length}
 use Rattle.dbp_plan.specs.declared.diagram.Link.{Link}
 use Rattle.release_list.specs.Links.{link_at}
 use Rattle.release_list.specs.Releases.{into_among}
-use Rattle.release_list.proofs.Counts.{count-append, count-cons}
+use Rattle.dbp_plan.proofs.Counts.{count-cons}
+use Rattle.release_list.proofs.Counts.{count-append}
+
+-- the numbers that pass, of one number more, and how many there are at most
+pub numbers_more : (test : ℕ → Bool) (n : ℕ) → filter test (range_with_len 0 (n + 1)) ≡ filter test (range_with_len 0 n) ++ cond (test n) (n ∷ []) []
+numbers_more test n =
+    let more = filter_of_map_range_with_len_more test (λ k. k) 0 n n (omega arith) in
+    rw (map-id (range_with_len 0 (n + 1)), map-id (range_with_len 0 n)) at more
+
+pub numbers_few : (test : ℕ → Bool) (n : ℕ) → length (filter test (range_with_len 0 n)) ≤ n
+numbers_few test n = omega (arith, length-filter test (range_with_len 0 n), count_by-le-length test (range_with_len 0 n), length-range_with_len 0 n)
 
 -- one link more
 into_more : (links : List Link) (task n : ℕ) → into_among links task (n + 1) ≡ into_among links task n ++ cond ((link_at links n).reader == task) (n ∷ []) []
-into_more links task n =
-    let more = filter_of_map_range_with_len_more (λ k. (link_at links k).reader == task) (λ k. k) 0 n n (omega arith) in
-    rw (map-id (range_with_len 0 (n + 1)), map-id (range_with_len 0 n)) at more
+into_more links task n = numbers_more (λ k. (link_at links k).reader == task) n
 
 -- the next link is into the task, or it isn't
 pub one_more : (links : List Link) (task n : ℕ) → (link_at links n).reader ≡ task → into_among links task (n + 1) ≡ into_among links task n ++ n ∷ []
@@ -25,9 +33,7 @@ pub no_more : (links : List Link) (task n : ℕ) → (link_at links n).reader �
 no_more links task n isnt = into_more links task n ∙ rw (ne_eqb (link_at links n).reader task isnt) (append-nil (into_among links task n))
 
 pub into_few : (links : List Link) (task n : ℕ) → length (into_among links task n) ≤ n
-into_few links task n =
-    let test : ℕ → Bool = λ k. (link_at links k).reader == task in
-    omega (arith, length-filter test (range_with_len 0 n), count_by-le-length test (range_with_len 0 n), length-range_with_len 0 n)
+into_few links task n = numbers_few (λ k. (link_at links k).reader == task) n
 
 count_last : (link n : ℕ) (is_into : Bool) → count_by (λ k. link == k) (cond is_into (n ∷ []) []) ≡ cond is_into (cond (link == n) 1 0) 0
 count_last link n true = count-cons (λ k. link == k) n [] ∙ omega arith

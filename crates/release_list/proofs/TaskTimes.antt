@@ -11,7 +11,7 @@ use Rattle.dbp_plan.specs.declared.schedule.Batch.{Batch}
 use Rattle.dbp_plan.specs.Occurrences.{count_until, names, times_of}
 use Rattle.dbp_plan.specs.Times.{Rises, count-come}
 use Rattle.dbp_plan.proofs.Numbers.{Rise, rise-rest, number-is}
-use Rattle.release_list.proofs.Counts.{count-cons}
+use Rattle.dbp_plan.proofs.Counts.{count-cons}
 
 -- how often the batch names the task: once or not at all
 unfoldable pub often : ℕ → Batch → ℕ

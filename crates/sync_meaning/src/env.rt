@@ -1,3 +1,5 @@
+// The environment of a task's instances.
+
 ghost use Rattle.std.specs.Prelude.{◌≡◌, ◌+◌, ◌≤◌, ◌<◌, ◌-◌, ◌^◌, ◌++◌, pos, List as Items, length, drop, map, replicate, IfOk};
 ghost use Rattle.dbp_plan.specs.Closed.{place_count};
 ghost use Rattle.dbp_plan.specs.declared.limits.TheConstants.{MAX_BODY};

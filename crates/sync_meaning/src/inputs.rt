@@ -1,3 +1,5 @@
+// The values of the inputs as time goes on.
+
 ghost use Rattle.std.specs.Prelude.{◌≡◌, map, IfOk};
 ghost use Rattle.sync_meaning.specs.Taken.{AreTaken, AreValuesAt};
 

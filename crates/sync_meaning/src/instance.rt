@@ -1,3 +1,5 @@
+// One instance of a task.
+
 ghost use Rattle.std.specs.Prelude.{◌≡◌, ◌<◌, ℕ, length, slice_get, take};
 ghost use Rattle.dbp_plan.specs.Closed.{IsClosedSomewhere, let_base, place_count};
 ghost use Rattle.sync_meaning.specs.Meaning.{AreStatesAfter, HasLets, outs_in};

@@ -1,3 +1,5 @@
+// Laws of the meaning: there is one, and no other.
+
 ghost use Rattle.std.specs.Prelude.{◌≡◌};
 ghost use Rattle.dbp_plan.specs.declared.plan.Plan.{Plan};
 ghost use Rattle.dbp_plan.specs.declared.table.Table.{Table};

@@ -1,3 +1,5 @@
+// What an instance senses and reads.
+
 ghost use Rattle.std.specs.Prelude.{◌≡◌, ◌<◌, ◌+◌, All, length, slice_get, slice_index, Some};
 ghost use Rattle.sync_meaning.specs.Meaning.{IsRead};
 ghost use Rattle.sync_meaning.specs.Shape.{AreWritten, IsEnvOf, IsReadable};

@@ -1,3 +1,5 @@
+// The table of the meaning, row by row.
+
 ghost use Rattle.std.specs.Prelude.{◌≡◌, ◌<◌, ◌≤◌, ◌+◌, ◌^◌, ◌++◌, All, length, map, IfOk, OnOk};
 ghost use Rattle.dbp_plan.specs.declared.limits.TheConstants.{MAX_OUTS};
 ghost use Rattle.sync_meaning.specs.Shape.{first_rows};

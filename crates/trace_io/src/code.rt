@@ -1,3 +1,5 @@
+// Why a text has no plan.
+
 use dia_check::CheckCode;
 use dia_read::ReadCode;
 use trace_rows::TraceCode;

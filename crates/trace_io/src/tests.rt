@@ -1,3 +1,5 @@
+// Clocks and their batches.
+
 ghost use Rattle.std.specs.Prelude.{◌<◌, ◌≤◌, All, length};
 ghost use Rattle.std.specs.List.Sorted.{IsStrictlyIncreasing};
 ghost use Rattle.trace_io.specs.Batches.{IsClockOf};

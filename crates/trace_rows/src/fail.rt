@@ -1,3 +1,5 @@
+// What is wrong with a document's trace.
+
 ghost use Rattle.std.specs.Prelude.{◌≡◌};
 ghost use Rattle.trace_rows.specs.declared.fail.TraceFail.TheVariants.{NoMemory as OutOfMemory};
 

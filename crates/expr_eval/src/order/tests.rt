@@ -1,3 +1,5 @@
+// Lets with their order, or with a cycle.
+
 ghost use Rattle.std.specs.Prelude.{All, IsTrue};
 ghost use Rattle.dbp_plan.specs.LetOrder.{VariablesBelow};
 ghost use Rattle.expr_eval.specs.Values.{VariableBelow};
