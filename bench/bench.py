@@ -77,6 +77,13 @@ def many_lines(line: str) -> str:
     return head + line * ((1_048_576 - len(head) - 5) // len(line)) + "done\n"
 
 
+def instances(count: int) -> str:
+    """A script in which a task is released and served so often, step by step."""
+    head = "dbp 1\npolicy fp\nuntil 20000\ntask k every 1 prio 1 cost 1\nstate n = 0\nnext n = n + 1\nout y = 0 then n + 1\nscript\n"
+    steps = ["aim k 0", "open k", "start k", "hear k", "shut k", "put k y", "done k", "end k", "seen k"]
+    return head + ("\n".join(steps) + "\n") * count + "done\n"
+
+
 def measured(program: str, command: str, text: str) -> tuple[float, float, float]:
     """Seconds, processor seconds and peak memory in MB of one run from a file into a file. The memory is told by
     Debian's `time`, since a child of this script begins with the script's own."""
@@ -108,6 +115,7 @@ def main() -> None:
         ("form", "1,000,000 blank lines", many_lines("\n")),
         ("form", "500,000 steps of a letter", many_lines("a\n")),
         ("form", "a step of 500,000 names", many_lines("a " * 523_000 + "\n")),
+        *(("replay", f"{9 * n} steps of a task", instances(n)) for n in (4_000, 8_000, 16_000)),
     ]:
         wall, cpu, peak = measured(program, command, text)
         print(f"{command} {name:<32}{wall:>9.3f}{cpu:>9.3f}{peak:>10.1f}")

@@ -21,22 +21,25 @@ pub(crate) enum Front<'a> {
     Found(Piece<'a>, &'a [u8]),
 }
 
+#[tactic(auto, unfolding(crate::specs::Kinds::kind_of, crate::specs::Kinds::symbol_kind_of))]
 fn is_name_byte(byte: u8) -> bool
     ensures { result ≡ is_name byte }
 {
-    matches!(kind_at(byte), Kind::Letter | Kind::Digit)
+    matches!(byte, b'a'..=b'z' | b'A'..=b'Z' | b'_' | b'0'..=b'9')
 }
 
+#[tactic(auto, unfolding(crate::specs::Kinds::kind_of, crate::specs::Kinds::symbol_kind_of))]
 fn is_digit_byte(byte: u8) -> bool
     ensures { result ≡ is_digit byte }
 {
-    matches!(kind_at(byte), Kind::Digit)
+    matches!(byte, b'0'..=b'9')
 }
 
+#[tactic(auto, unfolding(crate::specs::Kinds::kind_of, crate::specs::Kinds::symbol_kind_of))]
 fn is_blank_byte(byte: u8) -> bool
     ensures { result ≡ is_blank byte }
 {
-    matches!(kind_at(byte), Kind::Blank)
+    matches!(byte, b' ' | b'\t')
 }
 
 fn name_len(line: &[u8]) -> usize

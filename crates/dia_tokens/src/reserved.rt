@@ -2,7 +2,8 @@
 
 ghost use Rattle.std.specs.Prelude.{◌≡◌};
 ghost use Rattle.dia_tokens.specs.Pieces.{seen};
-ghost use Rattle.dia_tokens.specs.Words.{word_among, word_of, words_of_len};
+ghost use Rattle.std.specs.Str.{bytes_eq};
+ghost use Rattle.dia_tokens.specs.Words.{word_among, word_of, word_text, words_of_len};
 
 use crate::Word;
 use crate::piece::Piece;
@@ -53,11 +54,19 @@ fn words_of_len(len: usize) -> &'static [Word]
     }
 }
 
+// Whether the word is the text. First bytes mostly tell that it isn't.
+fn is_text(word: Word, text: &[u8]) -> bool
+    ensures { result ≡ bytes_eq (word_text word) text.now }
+{
+    let own = word.text();
+    own.first() == text.first() && own == text
+}
+
 /// The first of the words that the text is.
 fn word_among(words: &[Word], text: &[u8]) -> Option<Word>
     ensures { result ≡ word_among words.now text.now }
 {
-    words.iter().find(|word| word.text() == text).copied()
+    words.iter().find(|word| is_text(**word, text)).copied()
 }
 
 /// A reserved word, or else a name.
