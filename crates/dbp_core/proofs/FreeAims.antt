@@ -14,7 +14,7 @@ use Rattle.dbp_plan.proofs.Counts.{count-cons}
 use Rattle.release_list.specs.Links.{link_at, no_link}
 use Rattle.release_list.specs.declared.release.Release.TheVariants as release
 use Rattle.dbp_core.specs.Places.{is_counted, link, link_entry, task_entry, wired}
-use Rattle.dbp_core.specs.Promises.{HasFreeSlot, IsLeastAim, claimed_of, keeps_slot}
+use Rattle.dbp_core.specs.Promises.{HasFreeSlot, IsLeastAim, claimed_of, has_claim}
 use Rattle.dbp_core.specs.Rules as rule
 use Rattle.dbp_core.specs.Shapes.{EntryShape}
 use Rattle.dbp_core.specs.Sound.{Sound}
@@ -56,7 +56,7 @@ module _ (p : Plan) (count : Count) (s : State) (i : ℕ) where
   own = own_wiring p count
 
   -- a link that keeps a slot leaves the task and is counted
-  keeps : (k : ℕ) → keeps_slot w s i k ≡ true → ((link w k).writer ≡ i) × (is_counted w k ≡ true)
+  keeps : (k : ℕ) → has_claim w s i k ≡ true → ((link w k).writer ≡ i) × (is_counted w k ≡ true)
   keeps k is =
       let out = and_parts ((link w k).writer == i) _ is in
       let counted = and_parts (is_counted w k) _ out.1 in
@@ -93,7 +93,7 @@ module _ (p : Plan) (count : Count) (s : State) (i : ℕ) where
       ]
 
 -- under `Ranked` to a lower one
-to_lower : (p : Plan) (s : State) (i k : ℕ) → k < length p.diagram.links → keeps_slot (wiring_of p Ranked) s i k ≡ true → is_to_lower p.diagram.ranks i (link_at p.diagram.links k) ≡ true
+to_lower : (p : Plan) (s : State) (i k : ℕ) → k < length p.diagram.links → has_claim (wiring_of p Ranked) s i k ≡ true → is_to_lower p.diagram.ranks i (link_at p.diagram.links k) ≡ true
 to_lower p s i k below is =
     let w : Wiring = wiring_of p Ranked in
     let both = keeps p Ranked s i k is in
@@ -102,15 +102,15 @@ to_lower p s i k below is =
     rw (eq-eqb (link_at p.diagram.links k).writer i both.0, lt-ltb (get_or p.diagram.ranks i 0) (get_or p.diagram.ranks (link_at p.diagram.links k).reader 0) lower) refl
 
 -- how many claims keep a slot of the task
-claims_few : (p : Plan) (count : Count) (s : State) (i : ℕ) → count_by (keeps_slot (wiring_of p count) s i) (range_with_len 0 (length p.diagram.links)) + 1 + (counts_of p.diagram i).delayed ≤ slot_count count p i
+claims_few : (p : Plan) (count : Count) (s : State) (i : ℕ) → count_by (has_claim (wiring_of p count) s i) (range_with_len 0 (length p.diagram.links)) + 1 + (counts_of p.diagram i).delayed ≤ slot_count count p i
 claims_few p Ranked s i =
-    let few : count_by (keeps_slot (wiring_of p Ranked) s i) (range_with_len 0 (length p.diagram.links)) ≤ count_by (is_to_lower p.diagram.ranks i) p.diagram.links =
-    count_items (keeps_slot (wiring_of p Ranked) s i) (is_to_lower p.diagram.ranks i) 0 p.diagram.links no_link (λ k below is. let here : 0 + k ≡ k = omega arith in to_lower p s i k below (ap (keeps_slot (wiring_of p Ranked) s i) (sym here) ∙ is)) in
+    let few : count_by (has_claim (wiring_of p Ranked) s i) (range_with_len 0 (length p.diagram.links)) ≤ count_by (is_to_lower p.diagram.ranks i) p.diagram.links =
+    count_items (has_claim (wiring_of p Ranked) s i) (is_to_lower p.diagram.ranks i) 0 p.diagram.links no_link (λ k below is. let here : 0 + k ≡ k = omega arith in to_lower p s i k below (ap (has_claim (wiring_of p Ranked) s i) (sym here) ∙ is)) in
     omega (arith, few)
 claims_few p All s i =
-    let few : count_by (keeps_slot (wiring_of p All) s i) (range_with_len 0 (length p.diagram.links)) ≤ count_by (λ l. is_to_lower p.diagram.ranks i l || is_to_higher p.diagram.ranks i l) p.diagram.links =
-    count_items (keeps_slot (wiring_of p All) s i) (λ l. is_to_lower p.diagram.ranks i l || is_to_higher p.diagram.ranks i l) 0 p.diagram.links no_link
-    (λ k below is. let here : 0 + k ≡ k = omega arith in lower_or_higher p All s i k below (keeps p All s i k (ap (keeps_slot (wiring_of p All) s i) (sym here) ∙ is)).0) in
+    let few : count_by (has_claim (wiring_of p All) s i) (range_with_len 0 (length p.diagram.links)) ≤ count_by (λ l. is_to_lower p.diagram.ranks i l || is_to_higher p.diagram.ranks i l) p.diagram.links =
+    count_items (has_claim (wiring_of p All) s i) (λ l. is_to_lower p.diagram.ranks i l || is_to_higher p.diagram.ranks i l) 0 p.diagram.links no_link
+    (λ k below is. let here : 0 + k ≡ k = omega arith in lower_or_higher p All s i k below (keeps p All s i k (ap (has_claim (wiring_of p All) s i) (sym here) ∙ is)).0) in
     omega (arith, few, count_or (is_to_lower p.diagram.ranks i) (is_to_higher p.diagram.ranks i) p.diagram.links)
 
 pub has_free_slot : (p : Plan) (count : Count) (rows : ℕ → ℕ → List ℤ) (s : State) (i : ℕ) → Sound p (wiring_of p count) rows s → i < length p.diagram.tasks → HasFreeSlot (wiring_of p count) s i
@@ -119,8 +119,8 @@ has_free_slot p count rows s i sound named =
     let below : i < length (wiring_of p count).tasks = omega (arith, named, sound.shape.wiring.tasks) in
     let entry : EntryShape (wired (wiring_of p count) i) (task_entry s i) = sound.shape.each_entry i below in
     let kept : length (rule.staying (task_entry s i)) ≡ length (task_entry s i).kept = length-take-le (length (task_entry s i).kept) ((task_entry s i).current ∷ (task_entry s i).kept) (omega arith) in
-    let claimed : length (claimed_of (wiring_of p count) s i) ≡ count_by (keeps_slot (wiring_of p count) s i) (range_with_len 0 (length p.diagram.links)) =
-    length-map (filter (keeps_slot (wiring_of p count) s i) (range_with_len 0 (length p.diagram.links))) (λ k. (link_entry s k).slot) ∙ length-filter (keeps_slot (wiring_of p count) s i) (range_with_len 0 (length p.diagram.links)) in
+    let claimed : length (claimed_of (wiring_of p count) s i) ≡ count_by (has_claim (wiring_of p count) s i) (range_with_len 0 (length p.diagram.links)) =
+    length-map (filter (has_claim (wiring_of p count) s i) (range_with_len 0 (length p.diagram.links))) (λ k. (link_entry s k).slot) ∙ length-filter (has_claim (wiring_of p count) s i) (range_with_len 0 (length p.diagram.links)) in
     let slots : (wired (wiring_of p count) i).slots ≡ slot_count count p i = ap (λ (t : TaskWiring). t.slots) (wired_is p count i named) in
     let delayed : (wired (wiring_of p count) i).kept ≡ (counts_of p.diagram i).delayed = ap (λ (t : TaskWiring). t.kept) (wired_is p count i named) in
     omega (arith, claims_few p count s i, claimed, kept, entry.kept, slots, delayed)
@@ -214,14 +214,14 @@ free_from claims kept slots n (suc rest) sum taken = elim (cases_Bool (list_any 
 ]
 
 -- a link that claims the slot keeps it, and the other way round
-claims_keeps : (w : Wiring) (s : State) (i slot k : ℕ) → rule.claims_slot w s i slot k ≡ true → (keeps_slot w s i k ≡ true) × ((link_entry s k).slot ≡ slot)
+claims_keeps : (w : Wiring) (s : State) (i slot k : ℕ) → rule.claims_slot w s i slot k ≡ true → (has_claim w s i k ≡ true) × ((link_entry s k).slot ≡ slot)
 claims_keeps w s i slot k is =
     let out = and_parts ((link w k).writer == i) _ is in
     let counted = and_parts (is_counted w k) _ out.1 in
     let known = and_parts (nat_lt (task_entry s (link w k).reader).known (link_entry s k).instance) ((link_entry s k).slot == slot) counted.1 in
     (rw (out.0, counted.0, known.0) refl, eqb-true (link_entry s k).slot slot known.1)
 
-keeps_claims : (w : Wiring) (s : State) (i slot k : ℕ) → keeps_slot w s i k ≡ true → (link_entry s k).slot ≡ slot → rule.claims_slot w s i slot k ≡ true
+keeps_claims : (w : Wiring) (s : State) (i slot k : ℕ) → has_claim w s i k ≡ true → (link_entry s k).slot ≡ slot → rule.claims_slot w s i slot k ≡ true
 keeps_claims w s i slot k is same =
     let out = and_parts ((link w k).writer == i) _ is in
     let counted = and_parts (is_counted w k) (nat_lt (task_entry s (link w k).reader).known (link_entry s k).instance) out.1 in
@@ -242,7 +242,7 @@ exact_aim w s i slot here known free = record {
     unclaimed = λ k fits. elim (cases_Bool (rule.claims_slot w s i slot k)) [
       | inl claims_ ↦
           let both = claims_keeps w s i slot k claims_ in
-          absurd (free.unclaimed (any_contains (claimed_of w s i) slot (value_there (keeps_slot w s i) (λ j. (link_entry s j).slot) slot 0 (length w.links) k (omega arith) (omega arith) both.0 both.1)))
+          absurd (free.unclaimed (any_contains (claimed_of w s i) slot (value_there (has_claim w s i) (λ j. (link_entry s j).slot) slot 0 (length w.links) k (omega arith) (omega arith) both.0 both.1)))
       | inr none ↦ none
     ];
   });
@@ -251,7 +251,7 @@ exact_aim w s i slot here known free = record {
       elim (cases_lt n slot) [
         | inl less ↦ elim (free.least n less) [
           | inl claimed ↦
-              let v : IsValue (keeps_slot w s i) (λ j. (link_entry s j).slot) n 0 (length w.links) = value_found (keeps_slot w s i) (λ j. (link_entry s j).slot) n 0 (length w.links) (contains_any (claimed_of w s i) n claimed) in
+              let v : IsValue (has_claim w s i) (λ j. (link_entry s j).slot) n 0 (length w.links) = value_found (has_claim w s i) (λ j. (link_entry s j).slot) n 0 (length w.links) (contains_any (claimed_of w s i) n claimed) in
               let is : rule.claims_slot w s i n v.number ≡ true = keeps_claims w s i n v.number v.passes v.value in
               absurd (cc (is, a.unclaimed v.number (omega (arith, v.below))))
           | inr stays ↦ let is : rule.stays_kept (task_entry s i) n ≡ true = contains_any (rule.staying (task_entry s i)) n stays in absurd (cc (is, a.fresh))

@@ -13,7 +13,7 @@ use Rattle.dbp_core.specs.Rules.{order_word}
 use Rattle.dbp_core.specs.Shapes.{IsShape, OrderFits, PlaceIn, TaskShape, heard_by, link_in, running, slot_owner}
 use Rattle.dbp_core.specs.Sound.{Sound}
 use Rattle.dbp_core.specs.SoundParts.{LinkSound, TaskSound, last_shut, passed, read_of}
-use Rattle.dbp_core.specs.TenParts.{HoldsInTenParts, IsOnCurrent, IsReleasedBefore, IsStanding, TaskChain, TaskWork, claimed_slot}
+use Rattle.dbp_core.specs.TenParts.{HoldsInTenParts, IsOnCurrent, IsReleasedBefore, IsStanding, TaskChain, TaskWork, slot_of_claim}
 use Rattle.dbp_core.specs.declared.parts.Order.{Order}
 use Rattle.dbp_core.specs.declared.parts.Place.{Place}
 use Rattle.dbp_core.specs.declared.parts.Place.TheVariants as place
@@ -122,12 +122,12 @@ module _ (p : Plan) (w : Wiring) (rows : ℕ → ℕ → List ℤ) (s : State) (
           inr (early.0, early.1, released_before k (link_entry s k).instance (task_entry s v).aimed fits some (aimed_few v writer (sound.shape.aimed v writer)) early.2)
     ]
 
-    ready : (i : ℕ) → i < length w.tasks → (n : ℕ) → (task s i).part.place ≡ place.Take n → (claimed_slot w s (read_of p w i n).link).stamp ≡ (link_entry s (read_of p w i n).link).number + 1
+    ready : (i : ℕ) → i < length w.tasks → (n : ℕ) → (task s i).part.place ≡ place.Take n → (slot_of_claim w s (read_of p w i n).link).stamp ≡ (link_entry s (read_of p w i n).link).number + 1
     ready i below n at =
         let few : n < length (wired w i).reads = subst (λ (x : Place). PlaceIn (wired w i) x) at (sound.shape.each_task i below).place in
         let read : IsOwnRead p w i n = own.reads i n below few in
         let k : ℕ = (read_of p w i n).link in
-        subst (λ (x : ℕ). (task s x).part.place ≡ place.Take n → (read_of p w x n).link ≡ k → (claimed_slot w s k).stamp ≡ (link_entry s k).number + 1) read.reader ((sound.links k read.below).ready n) at refl
+        subst (λ (x : ℕ). (task s x).part.place ≡ place.Take n → (read_of p w x n).link ≡ k → (slot_of_claim w s k).stamp ≡ (link_entry s k).number + 1) read.reader ((sound.links k read.below).ready n) at refl
 
     pub in_ten_parts : HoldsInTenParts p w rows s
     in_ten_parts = record {
@@ -265,7 +265,7 @@ module _ (p : Plan) (w : Wiring) (rows : ℕ → ℕ → List ℤ) (s : State) (
               let one : j + 1 ≡ suc j = omega arith in
               let words : heard_order (task s r).part (suc j) ≡ order_word w s r (suc j) = (parts.chain r reader).heard (suc j) (omega arith) in
               ap (λ (n : ℕ). heard_order (task s r).part n) one ∙ words ∙ ap (λ (n : ℕ). order s n) into ∙ parts.numbers.order k fits;
-          ready = λ n at read. subst (λ (x : ℕ). (claimed_slot w s x).stamp ≡ (link_entry s x).number + 1) read ((parts.work r reader).ready n at);
+          ready = λ n at read. subst (λ (x : ℕ). (slot_of_claim w s x).stamp ≡ (link_entry s x).number + 1) read ((parts.work r reader).ready n at);
         }
 
     pub from_ten_parts : Sound p w rows s

@@ -9,7 +9,7 @@ use Rattle.dbp_core.specs.Promises.{IsFilledByItsOwn, IsUnclaimed, SparesClaims,
 use Rattle.dbp_core.specs.Rules as rule
 use Rattle.dbp_core.specs.Shapes.{heard_by, place_number, running}
 use Rattle.dbp_core.specs.Sound.{Sound}
-use Rattle.dbp_core.specs.TenParts.{IsStanding, claimed_slot}
+use Rattle.dbp_core.specs.TenParts.{IsStanding, slot_of_claim}
 use Rattle.dbp_core.specs.declared.parts.Place.TheVariants as place
 use Rattle.dbp_core.specs.declared.state.Slot.{Slot}
 use Rattle.dbp_core.specs.declared.state.State.{State}
@@ -37,7 +37,7 @@ module _ (p : Plan) (w : Wiring) (rows : ℕ → ℕ → List ℤ) (s : State) (
 
   -- a task whose slots stay
   slots_stay : (i k : ℕ) (t : TaskState) → i < length p.diagram.tasks → t.words.slots ≡ (task s i).words.slots
-      → slot_at (task (rule.with_task s i t) (link w k).writer).words.slots (link_entry s k).slot ≡ claimed_slot w s k
+      → slot_at (task (rule.with_task s i t) (link w k).writer).words.slots (link_entry s k).slot ≡ slot_of_claim w s k
   slots_stay i k t named same = of_each (λ x. slot_at x.words.slots (link_entry s k).slot) s i (link w k).writer t (there i named) (λ _. ap (λ (xs : List Slot). slot_at xs (link_entry s k).slot) same)
 
   -- a step that replaces the task's own slot
@@ -45,7 +45,7 @@ module _ (p : Plan) (w : Wiring) (rows : ℕ → ℕ → List ℤ) (s : State) (
       → ((n : ℕ) → running (place_of kind n) ≡ 1) → ((n : ℕ) → heard_by (1 + length (wired w i).links) (place_of kind n) ≡ 1 + length (wired w i).links)
       → filled_of e ≡ Some i → t.words.slots ≡ set (task s i).words.slots (move.own_slot (task s i).part) x
       → (k : ℕ) → k < length w.links → (task s (link w k).reader).words.ended < (link_entry s k).instance
-      → (slot_at (task (rule.with_task s i t) (link w k).writer).words.slots (link_entry s k).slot ≡ claimed_slot w s k) ⊎ IsFilledByItsOwn w s e k
+      → (slot_at (task (rule.with_task s i t) (link w k).writer).words.slots (link_entry s k).slot ≡ slot_of_claim w s k) ⊎ IsFilledByItsOwn w s e k
   fills i kind operand e t x named free runs all is slots k fits live =
       let both = or_else_none (rule.steps_next w s i kind operand) (rule.unblocked w.count w s i) free in
       let at : (task s i).part.place ≡ place_of kind (place_number (task s i).part.place) = at_next broken.TaskPlace (wired w i) (task s i).part.place kind operand both.0 in

@@ -11,7 +11,7 @@ use Rattle.sync_meaning.specs.Meaning.{IsRead}
 use Rattle.dbp_core.specs.Moves.{own_slot}
 use Rattle.dbp_core.specs.Places.{declared, is_counted, link, link_entry, slot_at, task, task_entry, wired}
 use Rattle.dbp_core.specs.Rules.{hears, next, refusal, staying}
-use Rattle.dbp_core.specs.TenParts.{IsStanding, claimed_slot}
+use Rattle.dbp_core.specs.TenParts.{IsStanding, slot_of_claim}
 use Rattle.dbp_core.specs.declared.state.State.{State}
 use Rattle.dbp_core.specs.declared.step.Heard.TheVariants.{Word}
 use Rattle.dbp_core.specs.declared.step.Step.{Step}
@@ -54,17 +54,17 @@ pub record IsFilledByItsOwn (w : Wiring) (s : State) (e : Step) (k : ℕ) : Type
 -- a slot that a claim of an instance which hasn't ended names stays as it is, but where the claimed instance fills it
 abbrev pub SparesClaims : Plan → Wiring → State → Step → Type 0
 SparesClaims p w s e = (k : ℕ) → k < length w.links → (task s (link w k).reader).words.ended < (link_entry s k).instance
-    → (slot_at (task (next p w s e) (link w k).writer).words.slots (link_entry s k).slot ≡ claimed_slot w s k) ⊎ IsFilledByItsOwn w s e k
+    → (slot_at (task (next p w s e) (link w k).writer).words.slots (link_entry s k).slot ≡ slot_of_claim w s k) ⊎ IsFilledByItsOwn w s e k
 
 -- ---- free slots
 
--- a counted claim that the releaser doesn't know to have ended keeps a slot of the task
-abbrev pub keeps_slot : Wiring → State → ℕ → ℕ → Bool
-keeps_slot w s i k = ((link w k).writer == i) && (is_counted w k && nat_lt (task_entry s (link w k).reader).known (link_entry s k).instance)
+-- a counted link from the task has a claim whose instance isn't known to have ended
+abbrev pub has_claim : Wiring → State → ℕ → ℕ → Bool
+has_claim w s i k = ((link w k).writer == i) && (is_counted w k && nat_lt (task_entry s (link w k).reader).known (link_entry s k).instance)
 
 -- the slots that such claims name
 abbrev pub claimed_of : Wiring → State → ℕ → List ℕ
-claimed_of w s i = map (λ k. (link_entry s k).slot) (filter (keeps_slot w s i) (range_with_len 0 (length w.links)))
+claimed_of w s i = map (λ k. (link_entry s k).slot) (filter (has_claim w s i) (range_with_len 0 (length w.links)))
 
 -- the claimed slots and those that stay kept are fewer than the task's slots
 abbrev pub HasFreeSlot : Wiring → State → ℕ → Type 0

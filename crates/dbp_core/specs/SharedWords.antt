@@ -60,7 +60,7 @@ made_by (End i) = Some i
 abbrev pub KeepsOtherWords : Option TableWord → State → State → Type 0
 KeepsOtherWords stored s new = (q : TableWord) → stored ≢ Some q → value_in new q ≡ value_in s q
 
--- and so are the parts of all parties but this one: what the releaser knows, and what each task has heard and computes with
+-- the parts of all parties but this one are as they were: what the releaser knows, and what each task has heard and computes with
 pub record KeepsOtherParts (party : Option ℕ) (s new : State) : Type 0 where
   pub releaser : party ≢ None → new.releaser ≡ s.releaser
   pub tasks : (j : ℕ) → party ≢ Some j → ((task new j).part ≡ (task s j).part) × ((task new j).work ≡ (task s j).work)

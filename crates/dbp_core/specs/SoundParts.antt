@@ -114,12 +114,12 @@ pub record TaskSound (p : Plan) (w : Wiring) (rows : ℕ → ℕ → List ℤ) (
   pub row : t.work.row ≡ rows i (last_shut t)
   pub later : 0 < shut_by t.part.place → t.work.later ≡ states_at p.diagram p.samples p.batches rows i (declared p i) (t.part.ended + 1)
 
--- how many instances of the reader are out of a claim's way: where the link is counted those that are known to have ended, else those that have
+-- up to which instance of the reader a claim no longer stands: where the link is counted the last one known to have ended, else the last one that has
 abbrev pub passed : Bool → ℕ → ℕ → ℕ
 passed true known ended = known
 passed false known ended = ended
 
--- the claim's instance may still read
+-- the claim stands: its instance hasn't ended, or, where the link is counted, isn't known to have
 abbrev pub Stands : Wiring → ℕ → LinkEntry → TaskEntry → TaskState → Type 0
 Stands w k c e reader = passed (is_counted w k) e.known reader.words.ended < c.instance
 

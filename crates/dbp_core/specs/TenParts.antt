@@ -19,13 +19,13 @@ use Rattle.dbp_core.specs.declared.wiring.Wiring.{Wiring}
 
 -- ---- claims
 
--- the last claim over the link stands: its instance may still read
+-- the last claim over the link stands: its instance hasn't ended, or, where the link is counted, isn't known to have
 abbrev pub IsStanding : Wiring → State → ℕ → Type 0
 IsStanding w s k = Stands w k (link_entry s k) (task_entry s (link w k).reader) (task s (link w k).reader)
 
 -- the slot that it names, and whether this is the writer's current one
-abbrev pub claimed_slot : Wiring → State → ℕ → Slot
-claimed_slot w s k = slot_at (task s (link w k).writer).words.slots (link_entry s k).slot
+abbrev pub slot_of_claim : Wiring → State → ℕ → Slot
+slot_of_claim w s k = slot_at (task s (link w k).writer).words.slots (link_entry s k).slot
 
 abbrev pub IsOnCurrent : Wiring → State → ℕ → Type 0
 IsOnCurrent w s k = (link_entry s k).slot ≡ (task_entry s (link w k).writer).current
@@ -64,7 +64,7 @@ pub record WhatIsThere (p : Plan) (w : Wiring) (s : State) : Type 0 where
   pub each_task : (i : ℕ) → i < length w.tasks → TaskIsThere p w i (task s i)
 
 -- 2. The releaser's numbers are those of its place: how many instances are aimed, claimed and opened. A claim has the
--- number of the row that its instance is to read. The words that order are the releaser's own.
+-- number of the row that its instance is to read. The order words, aims and claims, say what the releaser's part says.
 pub record NumbersOfThePlace (p : Plan) (w : Wiring) (s : State) : Type 0 where
   pub place : s.releaser.place ≤ length w.releases
   pub aimed : (i : ℕ) → i < length w.tasks → (task_entry s i).aimed ≡ aims w.releases s.releaser.place i
@@ -96,13 +96,14 @@ pub record SlotsAreThere (w : Wiring) (s : State) : Type 0 where
   pub kept_slots : (i j : ℕ) → i < length w.tasks → j < (wired w i).kept → slice_index_or (task_entry s i).kept j 0 < (wired w i).slots
   pub claimed : (k : ℕ) → k < length w.links → (link_entry s k).slot < (wired w (link w k).writer).slots
 
--- 5. A stamp says what is there: 0, or one more than the number of a row that is stamped, and the slot holds this row.
+-- 5. A stamp says what is there: 0, or one more than the number of a row that is filled (its instance is done, or it is
+-- row 0), and the slot holds this row.
 abbrev pub StampsTell : Wiring → (ℕ → ℕ → List ℤ) → State → Type 0
 StampsTell w rows s = (i n l : ℕ) → i < length w.tasks → n < (wired w i).slots → (slot_at (task s i).words.slots n).stamp ≡ l + 1
     → (l ≤ last_filled (task s i)) × ((slot_at (task s i).words.slots n).words ≡ rows i l)
 
--- 6. The current slot holds the last aimed row where this is stamped. From its shut to its stamp it has the stamp 0, and
--- the outs put so far are those of the next row.
+-- 6. The current slot holds the last aimed row where this is filled. From the shut to the done its stamp is 0, and the
+-- outs put so far are those of the next row.
 pub record CurrentSlot (w : Wiring) (rows : ℕ → ℕ → List ℤ) (i : ℕ) (e : TaskEntry) (t : TaskState) : Type 0 where
   pub filled : e.aimed ≤ last_filled t → (slot_at t.words.slots e.current).stamp ≡ e.aimed + 1
   pub filling : last_filled t < last_shut t → (slot_at t.words.slots e.current).stamp ≡ 0
@@ -120,7 +121,7 @@ pub record KeptSlots (w : Wiring) (s : State) : Type 0 where
 -- 8. A claim that stands finds its row: its slot holds it, or is the current one, which is to hold it and doesn't yet.
 abbrev pub ClaimsFind : Wiring → State → Type 0
 ClaimsFind w s = (k : ℕ) → k < length w.links → IsStanding w s k
-    → ((claimed_slot w s k).stamp ≡ (link_entry s k).number + 1) ⊎ (IsOnCurrent w s k × ((link_entry s k).number ≡ writer_aimed w s k) × (writer_filled w s k < (link_entry s k).number))
+    → ((slot_of_claim w s k).stamp ≡ (link_entry s k).number + 1) ⊎ (IsOnCurrent w s k × ((link_entry s k).number ≡ writer_aimed w s k) × (writer_filled w s k < (link_entry s k).number))
 
 -- 9. A claim that stands on the current slot is for the row that this slot is to hold. Over a link that isn't counted it
 -- may be for an earlier one, as long as the writer's last aimed instance hasn't shut the slot, and the reader's was
@@ -135,7 +136,7 @@ ClaimsOnCurrent p w s = (k : ℕ) → k < length w.links → IsStanding w s k �
 pub record TaskWork (p : Plan) (w : Wiring) (rows : ℕ → ℕ → List ℤ) (s : State) (i : ℕ) (t : TaskState) : Type 0 where
   pub states : take (length (declared p i).states) t.work.now ≡ states_at p.diagram p.samples p.batches rows i (declared p i) t.part.ended
   pub taken : (n : ℕ) → n < taken_by (length (wired w i).reads) t.part.place → slice_index_or t.work.now (place_of_read p w i n) (pos 0) ≡ meant p rows i (t.part.ended + 1) (read_of p w i n)
-  pub ready : (n : ℕ) → t.part.place ≡ Take n → (claimed_slot w s (read_of p w i n).link).stamp ≡ (link_entry s (read_of p w i n).link).number + 1
+  pub ready : (n : ℕ) → t.part.place ≡ Take n → (slot_of_claim w s (read_of p w i n).link).stamp ≡ (link_entry s (read_of p w i n).link).number + 1
   pub row : t.work.row ≡ rows i (last_shut t)
   pub later : 0 < shut_by t.part.place → t.work.later ≡ states_at p.diagram p.samples p.batches rows i (declared p i) (t.part.ended + 1)
 

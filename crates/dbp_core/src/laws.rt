@@ -26,35 +26,34 @@ pub fn allowed_steps_lead_to_sound_states()
         → Leads p (wiring_of p count) (start_of p (wiring_of p count)) steps s → Sound p (wiring_of p count) (rows_in table) s }
 {}
 
-/// Whatever steps were made, a task that takes a read's word takes the one that the meaning gives the read in this
-/// instance.
+/// Whatever steps were made, an allowed take hears the word that the meaning gives the read in the running instance.
 pub fn a_take_hears_the_meaning()
     ensures { (p : Plan) (count : Count) (table : Table) (steps : Items Step) (s : State) (i r : ℕ) → IsMeaning p.diagram p.samples p.batches table
         → Leads p (wiring_of p count) (start_of p (wiring_of p count)) steps s
         → i < length p.diagram.tasks → refusal (wiring_of p count) s (Take i r) ≡ None → TakesTheMeaning p (wiring_of p count) table s i r }
 {}
 
-/// Whatever steps were made, a look over a delayed link finds its row.
+/// Whatever steps were made, an allowed look over a delayed link finds its row.
 pub fn a_delayed_look_is_ready()
     ensures { (p : Plan) (count : Count) (steps : Items Step) (s : State) (i r : ℕ) → Leads p (wiring_of p count) (start_of p (wiring_of p count)) steps s
         → i < length p.diagram.tasks → refusal (wiring_of p count) s (Look i r) ≡ None
         → 0 < (link (wiring_of p count) (slice_index_or (declared p i).reads r no_read).link).delay → hears (wiring_of p count) s (Look i r) ≡ Ready }
 {}
 
-/// Where tasks step by their ranks, every look finds its row.
+/// Where tasks step by their ranks, every allowed look finds its row.
 pub fn a_ranked_look_is_ready()
     ensures { (p : Plan) (steps : Items Step) (s : State) (i r : ℕ) → Leads p (wiring_of p Ranked) (start_of p (wiring_of p Ranked)) steps s
         → i < length p.diagram.tasks → refusal (wiring_of p Ranked) s (Look i r) ≡ None → hears (wiring_of p Ranked) s (Look i r) ≡ Ready }
 {}
 
-/// Whatever steps were made, where all links are counted an aim names no slot that a standing claim names.
+/// Whatever steps were made, where all links are counted an allowed aim names no slot that a standing claim names.
 pub fn an_aim_names_no_claimed_slot()
     ensures { (p : Plan) (steps : Items Step) (s : State) (i slot : ℕ) → Leads p (wiring_of p All) (start_of p (wiring_of p All)) steps s
         → refusal (wiring_of p All) s (Aim i slot) ≡ None → IsUnclaimed (wiring_of p All) s i slot }
 {}
 
-/// Whatever steps were made, no step changes a slot that a claim of an instance which hasn't ended names, but for the
-/// steps by which the claimed instance itself fills it.
+/// Whatever steps were made, no allowed step changes a slot that a claim of an instance which hasn't ended names, but
+/// for the steps by which the claimed instance itself fills it.
 pub fn a_step_changes_no_claimed_row()
     ensures { (p : Plan) (count : Count) (steps : Items Step) (s : State) (e : Step) → Leads p (wiring_of p count) (start_of p (wiring_of p count)) steps s
         → IsNamed p.diagram e → refusal (wiring_of p count) s e ≡ None → SparesClaims p (wiring_of p count) s e }

@@ -73,8 +73,8 @@ impl Core {
         &self.plan
     }
 
-    /// The row of the task's last `Shut`, or the first values of its outs. It is the one that the meaning gives this
-    /// instance.
+    /// The row that the task computed at its last `Shut`, or the first values of its outs before any. It is the
+    /// meaning's row of that instance, or row 0.
     pub fn row(&self, task: u32) -> &Row
         requires { task < length (plan_in self.now).diagram.tasks }
         ensures row { result.now ≡ (state_of (state_in self.now) task).work.row }

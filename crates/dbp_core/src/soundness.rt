@@ -23,7 +23,7 @@ ghost use Rattle.dbp_core.specs.declared.step.Heard.TheVariants.{Ready};
 ghost use Rattle.dbp_core.specs.declared.step.Step.{Step};
 ghost use Rattle.dbp_core.specs.declared.step.Step.TheVariants.{Aim, Look, Take};
 
-/// The ten parts of docs/PROTOCOL.md say what the records of a sound state say.
+/// The ten parts of docs/PROTOCOL.md (`HoldsInTenParts`) hold of exactly the states that are sound (`Sound`).
 pub fn soundness_has_ten_parts()
     ensures parts { (p : Plan) (count : Count) (rows : ℕ → ℕ → Items ℤ) (s : State) → Sound p (wiring_of p count) rows s → HoldsInTenParts p (wiring_of p count) rows s }
     ensures records { (p : Plan) (count : Count) (rows : ℕ → ℕ → Items ℤ) (s : State) → HoldsInTenParts p (wiring_of p count) rows s → Sound p (wiring_of p count) rows s }

@@ -3,6 +3,7 @@
 use super::documents::TWO_RATES;
 use crate::plan::plan_of;
 use dbp_plan::{BinOp, Expr, List, Node, Plan, UnOp};
+use release_list::{Release, releases};
 use std::alloc::Global;
 use std::test::Fail;
 use sync_meaning::mean;
@@ -30,6 +31,30 @@ fn a_plan_tells_its_occurrences(rt: HostRuntime) -> Result<(), Fail> {
         assert_eq!(rt; rows.ports, 1);
         assert_eq!(rt; rows.words.items(), expected);
     }
+    Ok(())
+}
+
+// Task 0 occurs at 0, 2 and 4, task 1, which reads it over link 0, at 0 and 3.
+static RELEASES: [Release; 12] = [
+    Release::Aim { task: 0 },
+    Release::Aim { task: 1 },
+    Release::Claim { link: 0 },
+    Release::OpenGate { task: 0 },
+    Release::OpenGate { task: 1 },
+    Release::Aim { task: 0 },
+    Release::OpenGate { task: 0 },
+    Release::Aim { task: 1 },
+    Release::Claim { link: 0 },
+    Release::OpenGate { task: 1 },
+    Release::Aim { task: 0 },
+    Release::OpenGate { task: 0 },
+];
+
+#[test]
+fn a_plan_has_releases(rt: HostRuntime) -> Result<(), Fail> {
+    let plan = two_rates(rt.alloc())?;
+    let list = releases(rt.alloc(), &plan)?;
+    assert_eq!(rt; list.items(), RELEASES.as_slice());
     Ok(())
 }
 
