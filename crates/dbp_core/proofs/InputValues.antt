@@ -17,9 +17,9 @@ use Rattle.std.proofs.lemmas.List.Kept.{AllPairs-filter}
 use Rattle.std.proofs.lemmas.Option.{slice_get_within}
 use Rattle.dbp_plan.specs.declared.diagram.Task.{Task}
 use Rattle.sync_meaning.proofs.Counts.{take_push}
-use Rattle.dbp_core.specs.Moves.{with_now, with_senses}
+use Rattle.dbp_rules.specs.Moves.{with_now, with_senses}
 use Rattle.dbp_core.specs.Sensed.{value_until}
-use Rattle.dbp_core.specs.Work.{WorkWords}
+use Rattle.dbp_rules.specs.Work.{WorkWords}
 
 -- of a parted list the items that pass stand in front
 parted : {X : Type 0} (p : X → Bool) (xs : List X) (n : ℕ) → n ≤ length xs → AllWithin (λ x. p x ≡ true) xs 0 n → AllWithin (λ x. p x ≡ false) xs n (length xs) → filter p xs ≡ take n xs

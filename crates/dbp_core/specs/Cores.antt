@@ -1,8 +1,8 @@
 -- What a contract sees of a core.
 use Rattle.dbp_plan.specs.declared.plan.Plan.{Plan}
 use Rattle.dbp_core.specs.declared.machine.Core.{Core}
-use Rattle.dbp_core.specs.declared.state.State.{State}
-use Rattle.dbp_core.specs.declared.step.Count.{Count}
+use Rattle.dbp_rules.specs.declared.state.State.{State}
+use Rattle.dbp_rules.specs.declared.step.Count.{Count}
 
 abbrev pub plan_in : Core → Plan
 plan_in c = c.plan

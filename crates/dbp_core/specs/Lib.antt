@@ -1,15 +1,2 @@
 pub mod Cores
-pub mod Moves
-pub mod Places
-pub mod Rules
 pub mod Sensed
-pub mod Shapes
-pub mod Start
-pub mod Wired
-pub mod Work
-pub mod SoundParts
-pub mod Sound
-pub mod Lawful
-pub mod TenParts
-pub mod SharedWords
-pub mod Promises

@@ -1,22 +1,19 @@
 // One step: why it isn't allowed, or what it makes of the state.
 
 ghost use Rattle.std.specs.Prelude.{◌≡◌, ◌<◌, ℕ, length};
-ghost use Rattle.dbp_core.specs.Places.{link, task, wired};
-ghost use Rattle.dbp_core.specs.Rules as rule;
-ghost use Rattle.dbp_core.specs.Rules.{IsNamed, IsStep};
-ghost use Rattle.dbp_core.specs.Shapes.{IsShape, PlaceIn};
-ghost use Rattle.dbp_core.specs.Wired.{links_at};
-ghost use Rattle.dbp_core.specs.declared.wire.LinkEnd.TheVariants.{Writer};
+ghost use Rattle.dbp_rules.specs.Places.{link, task, wired};
+ghost use Rattle.dbp_rules.specs.Rules as rule;
+ghost use Rattle.dbp_rules.specs.Rules.{IsNamed, IsStep};
+ghost use Rattle.dbp_rules.specs.Shapes.{IsShape, PlaceIn};
+ghost use Rattle.dbp_rules.specs.Wired.{links_at};
+ghost use Rattle.dbp_rules.specs.declared.wiring.LinkEnd.TheVariants.{Writer};
 
 use crate::conditions::{Kind, blocked, claimed, not_next_release, not_next_step, stays_kept};
 use crate::look_up::{declared_at, entry_at, task_at, wired_at};
-use crate::parts::Place;
 use crate::releaser::{aim, claim, open, see};
-use crate::state::State;
-use crate::step::{Broken, Heard, Illegal, Step};
 use crate::steps::{end, finish, hear, is_open, is_ready, look, put, read_word, shut, start, take};
-use crate::wiring::Wiring;
 use dbp_plan::Plan;
+use dbp_rules::{Broken, Heard, Illegal, Place, State, Step, Wiring};
 
 // Why the task may not make the step of this kind, if that is so.
 fn forbidden(wiring: &Wiring, state: &State, i: u32, number: u32, operand: u32) -> Option<Illegal>

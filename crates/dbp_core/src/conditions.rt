@@ -1,17 +1,14 @@
 // The conditions of the steps, each with the two values that it compares.
 
 ghost use Rattle.std.specs.Prelude.{◌≡◌, ◌+◌, ◌<◌, ◌≤◌, ◌^◌, ℕ, length, IfSome};
-ghost use Rattle.dbp_core.specs.Places.{is_counted, link, read_at, task, task_entry, time, wired};
-ghost use Rattle.dbp_core.specs.Rules as rule;
-ghost use Rattle.dbp_core.specs.Shapes.{PlaceIn};
-ghost use Rattle.dbp_core.specs.Wired.{links_at};
-ghost use Rattle.dbp_core.specs.declared.wire.LinkEnd.TheVariants.{Writer};
+ghost use Rattle.dbp_rules.specs.Places.{is_counted, link, read_at, task, task_entry, time, wired};
+ghost use Rattle.dbp_rules.specs.Rules as rule;
+ghost use Rattle.dbp_rules.specs.Shapes.{PlaceIn};
+ghost use Rattle.dbp_rules.specs.Wired.{links_at};
+ghost use Rattle.dbp_rules.specs.declared.wiring.LinkEnd.TheVariants.{Writer};
 
 use crate::look_up::{claim_at, entry_at, task_at, wired_at};
-use crate::parts::{Place, TaskEntry};
-use crate::state::State;
-use crate::step::{Broken, Count, Illegal};
-use crate::wiring::{TaskWiring, Wiring};
+use dbp_rules::{Broken, Count, Illegal, Place, State, TaskEntry, TaskWiring, Wiring};
 use release_list::Release;
 
 // A step's kind by its number, and its task, link, read or port.

@@ -1,37 +1,23 @@
-//! The pure core of the protocol: a state of shared words and of the parts of the releaser and the tasks, changed by
-//! steps.
+//! The core of the protocol, as a machine: what the steps look up in a plan, the state before the first step, and each
+//! step, exactly by the rules of `dbp_rules`.
 #![tactic(auto)]
 
 mod arms;
 mod conditions;
-mod laws;
 mod look_up;
 mod machine;
-mod parts;
 mod releaser;
 mod sensing;
-mod soundness;
-mod start;
-mod state;
-mod step;
 mod steps;
-mod wire;
-mod wiring;
-mod work;
 
-pub use laws::{
-    a_delayed_look_is_ready, a_ranked_look_is_ready, a_step_changes_no_claimed_row,
-    a_take_hears_the_meaning, allowed_steps_lead_to_sound_states, an_aim_names_no_claimed_slot,
-};
-pub use machine::Core;
-pub use parts::{LinkEntry, MAX_ORDERS, Order, Place, ReleaserPart, TaskEntry, TaskPart};
-pub use soundness::{
-    a_slot_is_free_for_each_aim, a_sound_delayed_look_is_ready, a_sound_ranked_look_is_ready,
-    a_sound_take_hears_the_meaning, a_step_keeps_a_state_sound, a_step_spares_claimed_rows,
-    a_step_stores_one_word, an_aim_spares_claimed_slots, soundness_has_ten_parts,
+pub use dbp_rules::{
+    Broken, Count, Heard, Illegal, LinkEntry, MAX_ORDERS, Order, Place, ReadWiring, ReleaserPart,
+    Slot, State, Step, TaskEntry, TaskPart, TaskState, TaskWiring, TaskWords, Wiring, Work,
+    a_delayed_look_is_ready, a_ranked_look_is_ready, a_slot_is_free_for_each_aim,
+    a_sound_delayed_look_is_ready, a_sound_ranked_look_is_ready, a_sound_take_hears_the_meaning,
+    a_step_changes_no_claimed_row, a_step_keeps_a_state_sound, a_step_spares_claimed_rows,
+    a_step_stores_one_word, a_take_hears_the_meaning, allowed_steps_lead_to_sound_states,
+    an_aim_names_no_claimed_slot, an_aim_spares_claimed_slots, soundness_has_ten_parts,
     the_start_is_sound,
 };
-pub use state::{Slot, State, TaskState, TaskWords};
-pub use step::{Broken, Count, Heard, Illegal, Step};
-pub use wiring::{ReadWiring, TaskWiring, Wiring};
-pub use work::Work;
+pub use machine::Core;

@@ -1,12 +1,10 @@
 // What stands at a place of the state.
 
 ghost use Rattle.std.specs.Prelude.{◌≡◌, ◌<◌, length};
-ghost use Rattle.dbp_core.specs.Places.{declared, link_entry, task, task_entry, wired};
+ghost use Rattle.dbp_rules.specs.Places.{declared, link_entry, task, task_entry, wired};
 
-use crate::parts::{LinkEntry, TaskEntry};
-use crate::state::{State, TaskState};
-use crate::wiring::{TaskWiring, Wiring};
 use dbp_plan::{Plan, Task};
+use dbp_rules::{LinkEntry, State, TaskEntry, TaskState, TaskWiring, Wiring};
 
 pub(crate) fn task_at(state: &State, i: u32) -> &TaskState
     requires { i < length state.now.tasks }

@@ -3,17 +3,13 @@
 ghost use Rattle.std.specs.Prelude.{◌≡◌};
 ghost use Rattle.sync_meaning.specs.SomeMeaning.{meaning_of};
 ghost use Rattle.sync_meaning.specs.SomeMeaningTables.{rows_in};
-ghost use Rattle.dbp_core.specs.Shapes.{IsShape};
-ghost use Rattle.dbp_core.specs.Sound.{Sound};
-ghost use Rattle.dbp_core.specs.Wired.{wiring_of};
+ghost use Rattle.dbp_rules.specs.Shapes.{IsShape};
+ghost use Rattle.dbp_rules.specs.Sound.{Sound};
+ghost use Rattle.dbp_rules.specs.Wired.{wiring_of};
 
 use crate::arms::advance;
-use crate::start::start;
-use crate::state::State;
-use crate::step::{Count, Heard, Illegal, Step};
-use crate::wire::wire;
-use crate::wiring::Wiring;
 use dbp_plan::{NoMemory, Plan, Row};
+use dbp_rules::{Count, Heard, Illegal, State, Step, Wiring, start_state, wire_plan};
 use std::alloc::Global;
 
 /// The protocol of a plan, from the first step on: the words that the releaser and the tasks share, and what each has
@@ -34,10 +30,10 @@ impl Core {
     ghost use Rattle.dbp_plan.specs.Table.{IsRow};
     ghost use Rattle.sync_meaning.specs.Meaning.{IsMeaning};
     ghost use Rattle.dbp_core.specs.Cores.{count_in, plan_in, state_in};
-    ghost use Rattle.dbp_core.specs.Places.{task as state_of};
-    ghost use Rattle.dbp_core.specs.Rules.{IsNamed, IsStep};
-    ghost use Rattle.dbp_core.specs.SoundParts.{last_shut};
-    ghost use Rattle.dbp_core.specs.Start.{start_of};
+    ghost use Rattle.dbp_rules.specs.Places.{task as state_of};
+    ghost use Rattle.dbp_rules.specs.Rules.{IsNamed, IsStep};
+    ghost use Rattle.dbp_rules.specs.SoundParts.{last_shut};
+    ghost use Rattle.dbp_rules.specs.Start.{start_of};
 
     /// The core before the first step. Where memory runs out the plan is given up.
     pub fn new(alloc: Global, plan: Plan, count: Count) -> Result<Core, NoMemory>
@@ -45,8 +41,8 @@ impl Core {
         ensures count { IfOk result (λ core. count_in core ≡ count) }
         ensures start { IfOk result (λ core. state_in core ≡ start_of plan (wiring_of plan count)) }
     {
-        let wiring = wire(alloc, &plan, count)?;
-        let state = start(alloc, &plan, &wiring)?;
+        let wiring = wire_plan(alloc, &plan, count)?;
+        let state = start_state(alloc, &plan, &wiring)?;
         Ok(Core {
             plan,
             wiring,

@@ -1,15 +1,13 @@
 // What the releaser's steps make of the state.
 
 ghost use Rattle.std.specs.Prelude.{◌≡◌, ◌+◌, ◌<◌, ◌∷◌, ◌^◌, length, take, slice_index_or};
-ghost use Rattle.dbp_core.specs.Moves as move;
-ghost use Rattle.dbp_core.specs.Places.{link, task, task_entry};
-ghost use Rattle.dbp_core.specs.Rules.{further, with_claim, with_entry, with_task};
+ghost use Rattle.dbp_rules.specs.Moves as move;
+ghost use Rattle.dbp_rules.specs.Places.{link, task, task_entry};
+ghost use Rattle.dbp_rules.specs.Rules.{further, with_claim, with_entry, with_task};
 
 use crate::look_up::{entry_at, task_at};
-use crate::parts::{LinkEntry, Order, TaskEntry};
-use crate::state::State;
-use crate::wiring::Wiring;
 use dbp_plan::List;
+use dbp_rules::{LinkEntry, Order, State, TaskEntry, Wiring};
 
 pub(crate) fn see(state: &mut State, i: u32) -> u32
     requires entries { i < length state.old.releaser.tasks }

@@ -3,13 +3,12 @@
 ghost use Rattle.std.specs.Prelude.{◌≡◌, ◌+◌, ◌<◌, ◌≤◌, All, length, map, nat_le, filter, slice_index_or, ◌==◌};
 ghost use Rattle.std.specs.List.Sorted.{IsNonDecreasingBy};
 ghost use Rattle.dbp_plan.specs.Samples.{input_value};
-ghost use Rattle.dbp_core.specs.Moves as move;
+ghost use Rattle.dbp_rules.specs.Moves as move;
 ghost use Rattle.dbp_core.specs.Sensed.{value_until};
-ghost use Rattle.dbp_core.specs.Shapes.{HasSamples};
+ghost use Rattle.dbp_rules.specs.Shapes.{HasSamples};
 
-use crate::wiring::Wiring;
-use crate::work::Work;
 use dbp_plan::{Input, Plan, Sample, Task};
+use dbp_rules::{Wiring, Work};
 
 // The value of an input at the time, from its samples in order.
 fn value_at(input: &Input, samples: &[Sample], time: u64) -> i64

@@ -3,20 +3,17 @@
 ghost use Rattle.std.specs.Prelude.{◌≡◌, ◌+◌, ◌-◌, ◌<◌, ◌≤◌, ◌^◌, ℕ, length, map, pos, slice_index, slice_index_or, if◌then◌else◌};
 ghost use Rattle.dbp_plan.specs.Closed.{IsClosedTask, place_count};
 ghost use Rattle.dbp_plan.specs.Samples.{input_value};
-ghost use Rattle.dbp_core.specs.Moves as move;
-ghost use Rattle.dbp_core.specs.Places.{declared, link, order, read_at, slot_at, task, wired};
-ghost use Rattle.dbp_core.specs.Rules as rule;
-ghost use Rattle.dbp_core.specs.Rules.{with_part, with_task};
-ghost use Rattle.dbp_core.specs.Shapes.{HasSamples};
+ghost use Rattle.dbp_rules.specs.Moves as move;
+ghost use Rattle.dbp_rules.specs.Places.{declared, link, order, read_at, slot_at, task, wired};
+ghost use Rattle.dbp_rules.specs.Rules as rule;
+ghost use Rattle.dbp_rules.specs.Rules.{with_part, with_task};
+ghost use Rattle.dbp_rules.specs.Shapes.{HasSamples};
 
 use crate::conditions::own_time;
 use crate::look_up::{declared_at, task_at, wired_at};
-use crate::parts::{Order, Place};
 use crate::sensing::sense;
-use crate::state::{Slot, State};
-use crate::wiring::{TaskWiring, Wiring};
-use crate::work::Work;
 use dbp_plan::{Plan, Task};
+use dbp_rules::{Order, Place, Slot, State, TaskWiring, Wiring, Work};
 
 pub(crate) fn is_open(state: &State, i: u32) -> bool
     requires task { i < length state.now.tasks }

@@ -1,7 +1,7 @@
 -- The lines of a printed script say the steps that were printed.
 use Rattle.std.proofs.Common.{◌≡◌, All, List, [], ◌∷◌, ◌++◌, Some, Ok, sym, ap, ◌∙◌, subst, append_assoc}
 use Rattle.std.proofs.lemmas.List.Elements.{All-head, All-tail}
-use Rattle.dbp_core.specs.declared.step.Step.{Step}
+use Rattle.dbp_rules.specs.declared.step.Step.{Step}
 use Rattle.dbp_plan.specs.declared.diagram.Diagram.{Diagram}
 use Rattle.dia_lines.specs.Text.{lines_of}
 use Rattle.dia_lines.proofs.TextLaws.{lines_of-line, lines_of-nil}

@@ -3,8 +3,8 @@ use Rattle.std.proofs.Common.{◌≡◌, ℕ, pos, zero, suc, ◌<◌, ◌≤◌
 use Rattle.std.specs.Fmt.{decimal}
 use Rattle.std.proofs.lemmas.Bool.{lt-ltb}
 use Rattle.std.proofs.lemmas.List.Elements.{All-cons, All-nil}
-use Rattle.dbp_core.specs.declared.step.Step.{Step}
-use Rattle.dbp_core.specs.declared.step.Step.TheVariants as step
+use Rattle.dbp_rules.specs.declared.step.Step.{Step}
+use Rattle.dbp_rules.specs.declared.step.Step.TheVariants as step
 use Rattle.dbp_plan.specs.declared.diagram.Diagram.{Diagram}
 use Rattle.dia_tokens.specs.declared.edge.Edge.TheVariants.{Loose}
 use Rattle.dia_tokens.specs.declared.token.Token.{Token}

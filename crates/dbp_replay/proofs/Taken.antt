@@ -2,15 +2,15 @@
 use Rattle.std.proofs.Common.{◌≡◌, ℕ, ◌+◌, List, [], ◌∷◌, ◌++◌, take, length, slice_get, Option, Some, None, Result, Ok, Err, refl, sym, ap, ◌∙◌, subst, arith, append_assoc}
 use Rattle.std.proofs.lemmas.List.{append-nil, take_all, take_more}
 use Rattle.std.proofs.lemmas.Option.{get_or_from_slice_get, slice_get_within}
-use Rattle.dbp_core.specs.declared.step.Count.{Count}
-use Rattle.dbp_core.specs.declared.step.Heard.{Heard}
-use Rattle.dbp_core.specs.declared.step.Illegal.{Illegal}
-use Rattle.dbp_core.specs.declared.step.Step.{Step}
-use Rattle.dbp_core.specs.declared.state.State.{State}
-use Rattle.dbp_core.specs.declared.wiring.Wiring.{Wiring}
-use Rattle.dbp_core.specs.Lawful.{Leads}
-use Rattle.dbp_core.specs.Rules.{IsAnswer, IsNamed, IsStep, hears, next, refusal}
-use Rattle.dbp_core.specs.Wired.{wiring_of}
+use Rattle.dbp_rules.specs.declared.step.Count.{Count}
+use Rattle.dbp_rules.specs.declared.step.Heard.{Heard}
+use Rattle.dbp_rules.specs.declared.step.Illegal.{Illegal}
+use Rattle.dbp_rules.specs.declared.step.Step.{Step}
+use Rattle.dbp_rules.specs.declared.state.State.{State}
+use Rattle.dbp_rules.specs.declared.wiring.Wiring.{Wiring}
+use Rattle.dbp_rules.specs.Lawful.{Leads}
+use Rattle.dbp_rules.specs.Rules.{IsAnswer, IsNamed, IsStep, hears, next, refusal}
+use Rattle.dbp_rules.specs.Wired.{wiring_of}
 use Rattle.dbp_plan.specs.declared.plan.Plan.{Plan}
 use Rattle.dbp_replay.specs.Replays.{IsIllegal, IsReplay, first, told}
 use Rattle.dbp_replay.specs.Texts.{heard_line}

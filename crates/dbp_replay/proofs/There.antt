@@ -7,7 +7,7 @@ use Rattle.std.proofs.lemmas.Bool.{and_parts, cases_Bool, eqb-true}
 use Rattle.std.proofs.lemmas.Bool.Decides.{nat_tests}
 use Rattle.std.proofs.lemmas.List.Sums.{passes_at_first}
 use Rattle.std.proofs.lemmas.Option.{same_Some}
-use Rattle.dbp_core.specs.declared.step.Step.{Step}
+use Rattle.dbp_rules.specs.declared.step.Step.{Step}
 use Rattle.dbp_plan.specs.declared.diagram.Diagram.{Diagram}
 use Rattle.dbp_plan.specs.declared.diagram.Link.{Link}
 use Rattle.dia_tokens.specs.declared.token.Token.{Token}

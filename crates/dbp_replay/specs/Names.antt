@@ -1,7 +1,7 @@
 -- Diagrams in which names tell apart what a step can name.
 use Rattle.std.specs.Prelude.{◌≢◌, ℕ, ◌≤◌, ◌<◌, ◌^◌, All, AllPairs, List}
-use Rattle.dbp_core.specs.declared.step.Step.{Step}
-use Rattle.dbp_core.specs.declared.step.Step.TheVariants.{Aim}
+use Rattle.dbp_rules.specs.declared.step.Step.{Step}
+use Rattle.dbp_rules.specs.declared.step.Step.TheVariants.{Aim}
 use Rattle.dbp_plan.specs.declared.diagram.Diagram.{Diagram}
 use Rattle.dia_tokens.specs.Printable.{IsPrintableName}
 

@@ -1,11 +1,11 @@
 -- What stands at the places of a diagram, and steps that name only what is there. Each kind has one default, for places
 -- that aren't there.
 use Rattle.std.specs.Prelude.{ℕ, ◌<◌, List, [], length, slice_get, slice_index_or, Option, Some, None}
-use Rattle.dbp_core.specs.declared.step.Step.{Step}
-use Rattle.dbp_core.specs.declared.step.Step.TheVariants.{Seen, Aim, Claim, OpenGate, Start, Hear, Look, Take, Shut, Put, Done, End}
-use Rattle.dbp_core.specs.Places.{no_declared}
-use Rattle.dbp_core.specs.Rules.{IsNamed}
-use Rattle.dbp_core.specs.Wired.{no_read}
+use Rattle.dbp_rules.specs.declared.step.Step.{Step}
+use Rattle.dbp_rules.specs.declared.step.Step.TheVariants.{Seen, Aim, Claim, OpenGate, Start, Hear, Look, Take, Shut, Put, Done, End}
+use Rattle.dbp_rules.specs.Places.{no_declared}
+use Rattle.dbp_rules.specs.Rules.{IsNamed}
+use Rattle.dbp_rules.specs.Wired.{no_read}
 use Rattle.dbp_plan.specs.declared.diagram.Diagram.{Diagram}
 use Rattle.dbp_plan.specs.declared.diagram.Link.{Link}
 use Rattle.dbp_plan.specs.declared.diagram.Out.{Out}

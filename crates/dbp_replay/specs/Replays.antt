@@ -1,14 +1,14 @@
 -- Steps that are taken one after another from the start, and the first that isn't allowed.
 use Rattle.std.specs.Prelude.{◌≡◌, ℕ, ◌+◌, List, [], ◌∷◌, ◌++◌, take, slice_get, Some}
-use Rattle.dbp_core.specs.declared.step.Count.{Count}
-use Rattle.dbp_core.specs.declared.step.Illegal.{Illegal}
-use Rattle.dbp_core.specs.declared.step.Step.{Step}
-use Rattle.dbp_core.specs.declared.state.State.{State}
-use Rattle.dbp_core.specs.declared.wiring.Wiring.{Wiring}
-use Rattle.dbp_core.specs.Lawful.{Leads}
-use Rattle.dbp_core.specs.Rules.{hears, next, refusal}
-use Rattle.dbp_core.specs.Start.{start_of}
-use Rattle.dbp_core.specs.Wired.{wiring_of}
+use Rattle.dbp_rules.specs.declared.step.Count.{Count}
+use Rattle.dbp_rules.specs.declared.step.Illegal.{Illegal}
+use Rattle.dbp_rules.specs.declared.step.Step.{Step}
+use Rattle.dbp_rules.specs.declared.state.State.{State}
+use Rattle.dbp_rules.specs.declared.wiring.Wiring.{Wiring}
+use Rattle.dbp_rules.specs.Lawful.{Leads}
+use Rattle.dbp_rules.specs.Rules.{hears, next, refusal}
+use Rattle.dbp_rules.specs.Start.{start_of}
+use Rattle.dbp_rules.specs.Wired.{wiring_of}
 use Rattle.dbp_plan.specs.declared.plan.Plan.{Plan}
 use Rattle.dbp_replay.specs.Texts.{heard_line}
 use Rattle.dbp_replay.specs.declared.fail.ReplayFail.{ReplayFail}

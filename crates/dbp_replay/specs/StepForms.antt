@@ -2,8 +2,8 @@
 use Rattle.std.specs.Prelude.{ℕ, ℤ, pos, negsuc, ◌^◌, ◌==◌, ◌&&◌, Bool, nat_lt, if◌then◌else◌, codes, List, [], ◌∷◌, length, Option, Some, None, Result, Ok, Err}
 use Rattle.std.specs.List.{find, position_or_len}
 use Rattle.std.specs.Str.{bytes_eq}
-use Rattle.dbp_core.specs.declared.step.Step.{Step}
-use Rattle.dbp_core.specs.declared.step.Step.TheVariants as step
+use Rattle.dbp_rules.specs.declared.step.Step.{Step}
+use Rattle.dbp_rules.specs.declared.step.Step.TheVariants as step
 use Rattle.dbp_plan.specs.declared.diagram.Diagram.{Diagram}
 use Rattle.dbp_plan.specs.declared.diagram.Link.{Link}
 use Rattle.dia_tokens.specs.declared.token.Token.{Token}

@@ -2,10 +2,10 @@
 use Rattle.std.specs.Prelude.{ℕ, ◌==◌, if◌then◌else◌, codes, List, [], ◌∷◌, ◌++◌}
 use Rattle.std.specs.Fmt.{decimal, signed_decimal}
 use Rattle.std.specs.List.{flat_map}
-use Rattle.dbp_core.specs.declared.step.Heard.{Heard}
-use Rattle.dbp_core.specs.declared.step.Heard.TheVariants as heard
-use Rattle.dbp_core.specs.declared.step.Step.{Step}
-use Rattle.dbp_core.specs.declared.step.Step.TheVariants as step
+use Rattle.dbp_rules.specs.declared.step.Heard.{Heard}
+use Rattle.dbp_rules.specs.declared.step.Heard.TheVariants as heard
+use Rattle.dbp_rules.specs.declared.step.Step.{Step}
+use Rattle.dbp_rules.specs.declared.step.Step.TheVariants as step
 use Rattle.dbp_plan.specs.declared.diagram.Diagram.{Diagram}
 use Rattle.dbp_replay.specs.declared.kind.Kind.{Kind}
 use Rattle.dbp_replay.specs.declared.kind.Kind.TheVariants.{Seen, Aim, Claim, OpenGate, Start, Hear, Look, Take, Shut, Put, Done, End}

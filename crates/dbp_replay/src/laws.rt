@@ -1,9 +1,9 @@
 // Laws of the definitions.
 
 ghost use Rattle.std.specs.Prelude.{◌≡◌, ℕ, All, List as Items, Some};
-ghost use Rattle.dbp_core.specs.declared.step.Count.{Count as AnyCount};
-ghost use Rattle.dbp_core.specs.declared.step.Illegal.{Illegal as Refusal};
-ghost use Rattle.dbp_core.specs.declared.step.Step.{Step as AnyStep};
+ghost use Rattle.dbp_rules.specs.declared.step.Count.{Count as AnyCount};
+ghost use Rattle.dbp_rules.specs.declared.step.Illegal.{Illegal as Refusal};
+ghost use Rattle.dbp_rules.specs.declared.step.Step.{Step as AnyStep};
 ghost use Rattle.dbp_plan.specs.declared.diagram.Diagram.{Diagram as AnyDiagram};
 ghost use Rattle.dbp_plan.specs.declared.plan.Plan.{Plan as AnyPlan};
 ghost use Rattle.dia_check.specs.Checks.{IsCheckedOf};

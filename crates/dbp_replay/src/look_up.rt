@@ -1,7 +1,7 @@
 // What stands at a place of a diagram.
 
 ghost use Rattle.std.specs.Prelude.{◌≡◌, ◌<◌, length};
-ghost use Rattle.dbp_core.specs.Rules.{IsNamed};
+ghost use Rattle.dbp_rules.specs.Rules.{IsNamed};
 ghost use Rattle.dbp_replay.specs.Places.{link_in, port_name, read_name, task_in, task_of};
 
 use dbp_core::Step;

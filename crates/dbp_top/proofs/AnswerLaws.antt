@@ -1,7 +1,7 @@
 -- A command has one status and one text at most for an input.
-use Rattle.std.proofs.Common.{◌≡◌, ℕ, List, Bool, refl, sym, ap, ◌∙◌, subst}
-use Rattle.dbp_core.specs.declared.step.Illegal.{Illegal as Broken}
-use Rattle.dbp_core.specs.declared.step.Step.{Step}
+use Rattle.std.proofs.Common.{◌≡◌, ℕ, List, Bool, refl, ap, subst}
+use Rattle.dbp_rules.specs.declared.step.Illegal.{Illegal as Broken}
+use Rattle.dbp_rules.specs.declared.step.Step.{Step}
 use Rattle.dbp_plan.specs.declared.plan.Plan.{Plan}
 use Rattle.dbp_plan.specs.declared.table.Table.{Table}
 use Rattle.dbp_replay.proofs.OneReplay.{refused-once, text-not-refused, text-once}

@@ -1,6 +1,6 @@
 -- What stops tell of an input and a command.
 use Rattle.std.proofs.Common.{ℕ, List, Bool}
-use Rattle.dbp_core.specs.declared.step.Step.{Step}
+use Rattle.dbp_rules.specs.declared.step.Step.{Step}
 use Rattle.dbp_plan.specs.declared.diagram.Diagram.{Diagram}
 use Rattle.dbp_plan.specs.declared.plan.Plan.{Plan}
 use Rattle.dbp_replay.specs.Replays.{IsReplayRefusal}

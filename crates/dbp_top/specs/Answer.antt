@@ -1,9 +1,9 @@
 -- What is answered where no read and no write fails.
 use Rattle.std.specs.Prelude.{ℕ, Bool, true, false, List}
-use Rattle.dbp_core.specs.declared.step.Count.{Count}
-use Rattle.dbp_core.specs.declared.step.Count.TheVariants.{Ranked, All}
-use Rattle.dbp_core.specs.declared.step.Illegal.{Illegal as Broken}
-use Rattle.dbp_core.specs.declared.step.Step.{Step}
+use Rattle.dbp_rules.specs.declared.step.Count.{Count}
+use Rattle.dbp_rules.specs.declared.step.Count.TheVariants.{Ranked, All}
+use Rattle.dbp_rules.specs.declared.step.Illegal.{Illegal as Broken}
+use Rattle.dbp_rules.specs.declared.step.Step.{Step}
 use Rattle.dbp_plan.specs.declared.plan.Plan.{Plan}
 use Rattle.dbp_plan.specs.declared.table.Table.{Table}
 use Rattle.dbp_replay.specs.Replays.{IsIllegal, IsReplay}

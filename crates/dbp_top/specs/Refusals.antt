@@ -1,8 +1,8 @@
 -- The line that says why a text is refused, or why its script can't be replayed.
 use Rattle.std.specs.Prelude.{ℕ, List, [], ◌∷◌, ◌++◌, codes}
 use Rattle.std.specs.Fmt.{decimal}
-use Rattle.dbp_core.specs.declared.step.Broken.{Broken}
-use Rattle.dbp_core.specs.declared.step.Broken.TheVariants.{Place, LastNotEnded, SlotRange, SlotKept, SlotClaimed, TaskPlace, HigherUnfinished}
+use Rattle.dbp_rules.specs.declared.step.Broken.{Broken}
+use Rattle.dbp_rules.specs.declared.step.Broken.TheVariants.{Place, LastNotEnded, SlotRange, SlotKept, SlotClaimed, TaskPlace, HigherUnfinished}
 use Rattle.dbp_replay.specs.declared.fail.ScriptCode.{ScriptCode}
 use Rattle.dbp_replay.specs.declared.fail.ScriptCode.TheVariants.{BadStep, StepName, NoScript}
 use Rattle.dia_check.specs.declared.fail.CheckCode.{CheckCode}

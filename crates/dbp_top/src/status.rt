@@ -3,7 +3,7 @@
 pub enum Status {
     /// The input was read to its end, and the command's text was written whole.
     Ok = 0,
-    /// The document was refused, and the line that says why was written whole.
+    /// The document was refused, or a step of its script isn't allowed, and the line that says so was written whole.
     Refused = 1,
     /// The words are no command. Nothing was read or written.
     Usage = 2,

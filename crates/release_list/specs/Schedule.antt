@@ -49,7 +49,8 @@ pub record AtAim (d : Diagram) (releases : List Release) (place i : ℕ) : Type 
   pub opened : opens releases place i ≡ aims releases place i
   pub claimed : (k : ℕ) → k < length d.links → (link_at d.links k).reader ≡ i → claims releases place k ≡ aims releases place i
 
--- at a claim the reader's instance is aimed and not opened, and of each task is aimed what has come by its time
+-- at a claim the reader's instance is aimed, and the link not claimed for it nor its gate opened yet; of each task is aimed
+-- what has come by its time
 pub record AtClaim (d : Diagram) (batches : List Batch) (releases : List Release) (place k : ℕ) : Type 0 where
   pub named : k < length d.links
   pub claimed : claims releases place k + 1 ≡ aims releases place (link_at d.links k).reader
@@ -72,6 +73,7 @@ pub record IsSchedule (d : Diagram) (batches : List Batch) (releases : List Rele
   pub claims_aims : (place k : ℕ) → k < length d.links → claims releases place k ≤ aims releases place (link_at d.links k).reader
   -- what a claimed instance sees is aimed
   pub seen : (place k : ℕ) → k < length d.links → seen_by d.links batches k (claims releases place k) ≤ aims releases place (link_at d.links k).writer
+  -- no more instances are aimed than there are
   pub aims_times : (place i : ℕ) → aims releases place i ≤ length (times_of batches i)
   -- in the end each instance is aimed and opened, and each link is claimed for each instance of its reader
   pub all_aims : (i : ℕ) → aims releases (length releases) i ≡ length (times_of batches i)

@@ -8,8 +8,12 @@ use std::alloc::Global;
 use std::test::Fail;
 use sync_meaning::mean;
 
-fn two_rates(alloc: Global) -> Result<Plan, Fail> {
-    match plan_of(alloc, TWO_RATES.as_bytes()) {
+// The plan of a short document.
+pub(super) fn plan_in(alloc: Global, document: &str) -> Result<Plan, Fail> {
+    if document.len() > 2000 {
+        return Err(Fail::from("too long"));
+    }
+    match plan_of(alloc, document.as_bytes()) {
         Ok(plan) => Ok(plan),
         Err(_) => Err(Fail::from("unread")),
     }
@@ -17,7 +21,7 @@ fn two_rates(alloc: Global) -> Result<Plan, Fail> {
 
 #[test]
 fn a_plan_tells_its_occurrences(rt: HostRuntime) -> Result<(), Fail> {
-    let plan = two_rates(rt.alloc())?;
+    let plan = plan_in(rt.alloc(), TWO_RATES)?;
     let copy = plan.copy()?;
     assert_eq!(rt; copy.diagram.tasks.len(), 2);
     assert_eq!(rt; copy.occurrences(0), 3);
@@ -35,7 +39,7 @@ fn a_plan_tells_its_occurrences(rt: HostRuntime) -> Result<(), Fail> {
 }
 
 // Task 0 occurs at 0, 2 and 4, task 1, which reads it over link 0, at 0 and 3.
-static RELEASES: [Release; 12] = [
+static RELEASES: &[Release] = &[
     Release::Aim { task: 0 },
     Release::Aim { task: 1 },
     Release::Claim { link: 0 },
@@ -52,9 +56,9 @@ static RELEASES: [Release; 12] = [
 
 #[test]
 fn a_plan_has_releases(rt: HostRuntime) -> Result<(), Fail> {
-    let plan = two_rates(rt.alloc())?;
+    let plan = plan_in(rt.alloc(), TWO_RATES)?;
     let list = releases(rt.alloc(), &plan)?;
-    assert_eq!(rt; list.items(), RELEASES.as_slice());
+    assert_eq!(rt; list.items(), RELEASES);
     Ok(())
 }
 

@@ -1,6 +1,6 @@
 // The canonical text of documents, written by hand from the rules: what `form` answers to each, and to its own text.
 
-use super::documents::call;
+use super::documents::expect;
 use crate::Status;
 use std::test::Fail;
 
@@ -43,12 +43,24 @@ static CANONICAL: [(&str, &str); 7] = [
 
 #[test]
 fn documents_have_canonical_texts(rt: HostRuntime) -> Result<(), Fail> {
+    let alloc = rt.alloc();
     for (text, canonical) in &CANONICAL {
-        for input in [*text, *canonical] {
-            let answer = call(rt.alloc(), &["form"], input.as_bytes(), (64, 0), (8, 0))?;
-            assert_eq!(rt; answer.0, Status::Ok, "on {input}");
-            assert_eq!(rt; answer.1.as_slice(), canonical.as_bytes(), "on {input}");
-        }
+        expect(
+            &rt,
+            alloc,
+            &["form"],
+            text.as_bytes(),
+            Status::Ok,
+            canonical,
+        )?;
+        expect(
+            &rt,
+            alloc,
+            &["form"],
+            canonical.as_bytes(),
+            Status::Ok,
+            canonical,
+        )?;
     }
     Ok(())
 }

@@ -3,6 +3,7 @@
 use crate::{Status, dbp_main};
 use dbp_plan::{MemSink, MemSource};
 use std::alloc::Global;
+use std::process::Abort;
 use std::test::Fail;
 
 pub(super) const TWO_RATES: &str = "dbp 1
@@ -44,35 +45,54 @@ pub(super) fn call(
     Ok((status, sink.bytes().to_vec(alloc)?))
 }
 
+// Calls with these words, in small pieces and without a fault, and compares how that ends and what it wrote.
+pub(super) fn expect(
+    rt: &impl Abort,
+    alloc: Global,
+    words: &[&str],
+    input: &[u8],
+    status: Status,
+    text: &str,
+) -> Result<(), Fail> {
+    let answer = call(alloc, words, input, (64, 0), (8, 0))?;
+    assert_eq!(rt; answer.0, status, "for {text}");
+    assert_eq!(rt; answer.1.as_slice(), text.as_bytes(), "for {text}");
+    Ok(())
+}
+
+// Documents with their lines.
+static ANSWERED: [(&str, &str); 6] = [
+    (TWO_RATES, TWO_RATES_LINES),
+    ("dbp 1\npolicy fp\nuntil 0\ndone\n", ""),
+    ("dbp 1\npolicy fp\nuntil 0\ndone", ""),
+    (
+        // an offset, equal priorities, two outs, a link that several reads share
+        "dbp 1\npolicy fp\nuntil 5\ntask a every 2 from 1 prio 7 cost 1\nout y = 5 then 1 + 1\nout w = -6 then -3\ntask b every 2 from 0 prio 7 cost 1\nread p = a.y\nread q = a.w\nout z = 0 then p + q\ndone\n",
+        "0,b,1,-1\n1,a,1,2,-3\n2,b,2,-1\n3,a,2,2,-3\n4,b,3,-1\n",
+    ),
+    (
+        // sums stay within 64 bits
+        "dbp 1\npolicy fp\nuntil 1\ntask m every 1 from 0 prio 1 cost 1\nout a = 0 then 9223372036854775807 + 1\nout b = 0 then -9223372036854775808 + -1\ndone\n",
+        "0,m,1,9223372036854775807,-9223372036854775808\n",
+    ),
+    (
+        // delayed links either way, lets in another order than declared, a state that keeps its value
+        "dbp 1\npolicy edf\nuntil 5\ntask a every 2 deadline 2 cost 1\nstate n = 0\nstate k = 7\nread x = pre b.w\nlet p = q + 1\nlet q = n * 2\nnext n = n + 1\nout y = 5 then p - x\nout w = -1 then k\ntask b every 1 from 1 deadline 9 cost 2\nread x = pre a.y\nread y = a.w at 1\nread z = pre a.w\nout w = 3 then if x > 0 then x else y + z\ndone\n",
+        "0,a,1,-2,7\n1,b,1,5\n2,a,2,-2,7\n2,b,2,14\n3,b,3,14\n4,a,3,-9,7\n4,b,4,14\n",
+    ),
+];
+
 #[test]
 fn documents_are_answered(rt: HostRuntime) -> Result<(), Fail> {
-    let cases = [
-        (TWO_RATES, Status::Ok, TWO_RATES_LINES),
-        ("dbp 1\npolicy fp\nuntil 0\ndone\n", Status::Ok, ""),
-        ("dbp 1\npolicy fp\nuntil 0\ndone", Status::Ok, ""),
-        (
-            // an offset, equal priorities, two outs, a link that several reads share
-            "dbp 1\npolicy fp\nuntil 5\ntask a every 2 from 1 prio 7 cost 1\nout y = 5 then 1 + 1\nout w = -6 then -3\ntask b every 2 from 0 prio 7 cost 1\nread p = a.y\nread q = a.w\nout z = 0 then p + q\ndone\n",
+    for (document, lines) in &ANSWERED {
+        expect(
+            &rt,
+            rt.alloc(),
+            &["mean"],
+            document.as_bytes(),
             Status::Ok,
-            "0,b,1,-1\n1,a,1,2,-3\n2,b,2,-1\n3,a,2,2,-3\n4,b,3,-1\n",
-        ),
-        (
-            // sums stay within 64 bits
-            "dbp 1\npolicy fp\nuntil 1\ntask m every 1 from 0 prio 1 cost 1\nout a = 0 then 9223372036854775807 + 1\nout b = 0 then -9223372036854775808 + -1\ndone\n",
-            Status::Ok,
-            "0,m,1,9223372036854775807,-9223372036854775808\n",
-        ),
-        (
-            // delayed links either way, lets in another order than declared, a state that keeps its value
-            "dbp 1\npolicy edf\nuntil 5\ntask a every 2 deadline 2 cost 1\nstate n = 0\nstate k = 7\nread x = pre b.w\nlet p = q + 1\nlet q = n * 2\nnext n = n + 1\nout y = 5 then p - x\nout w = -1 then k\ntask b every 1 from 1 deadline 9 cost 2\nread x = pre a.y\nread y = a.w at 1\nread z = pre a.w\nout w = 3 then if x > 0 then x else y + z\ndone\n",
-            Status::Ok,
-            "0,a,1,-2,7\n1,b,1,5\n2,a,2,-2,7\n2,b,2,14\n3,b,3,14\n4,a,3,-9,7\n4,b,4,14\n",
-        ),
-    ];
-    for (text, status, lines) in cases {
-        let answer = call(rt.alloc(), &["mean"], text.as_bytes(), (16, 0), (8, 0))?;
-        assert_eq!(rt; answer.0, status, "on {text}");
-        assert_eq!(rt; answer.1.as_slice(), lines.as_bytes(), "on {text}");
+            lines,
+        )?;
     }
     Ok(())
 }
@@ -84,16 +104,15 @@ fn cut_documents_are_refused(rt: HostRuntime) -> Result<(), Fail> {
         let answer = call(rt.alloc(), &["mean"], &bytes[..size], (64, 0), (64, 0))?;
         assert_eq!(rt; answer.0, Status::Refused, "the first {size} bytes");
     }
-    let answer = call(
+    let whole = &bytes[..bytes.len() - 1];
+    expect(
+        &rt,
         rt.alloc(),
         &["mean"],
-        &bytes[..bytes.len() - 1],
-        (64, 0),
-        (64, 0),
-    )?;
-    assert_eq!(rt; answer.0, Status::Ok);
-    assert_eq!(rt; answer.1.as_slice(), TWO_RATES_LINES.as_bytes());
-    Ok(())
+        whole,
+        Status::Ok,
+        TWO_RATES_LINES,
+    )
 }
 
 const LONE: &str = "dbp 1\npolicy fp\nuntil 100001\n";
@@ -155,37 +174,58 @@ fn diagrams_are_checked(rt: HostRuntime) -> Result<(), Fail> {
     for (text, line) in &REFUSED {
         let text = format!(in alloc; "{LONE}{text}")?;
         let line = format!(in alloc; "refused: line {line}\n")?;
-        let answer = call(alloc, &["mean"], text.as_bytes(), (64, 0), (64, 0))?;
-        assert_eq!(rt; answer.0, Status::Refused, "{line}");
-        assert_eq!(rt; answer.1.as_slice(), line.as_bytes(), "{line}");
+        expect(
+            &rt,
+            alloc,
+            &["mean"],
+            text.as_bytes(),
+            Status::Refused,
+            line.as_str(),
+        )?;
     }
-    let edf = "dbp 1\npolicy edf\nuntil 1\ntask a every 1 prio 1 cost 1\nout y = 0 then 1\ndone";
-    let answer = call(alloc, &["mean"], edf.as_bytes(), (64, 0), (64, 0))?;
-    assert_eq!(rt;
-        answer.1.as_slice(),
-        b"refused: line 4: 15 MissingDeadline\n".as_slice()
-    );
     Ok(())
 }
 
 #[test]
-fn limits_are_kept(rt: HostRuntime) -> Result<(), Fail> {
-    let cases = [
-        ("100000", Status::Ok, 1_577_785),
-        ("100001", Status::Refused, 39),
-    ];
-    for (until, status, size) in cases {
+fn a_deadline_is_wanted(rt: HostRuntime) -> Result<(), Fail> {
+    expect(
+        &rt,
+        rt.alloc(),
+        &["mean"],
+        b"dbp 1\npolicy edf\nuntil 1\ntask a every 1 prio 1 cost 1\nout y = 0 then 1\ndone",
+        Status::Refused,
+        "refused: line 4: 15 MissingDeadline\n",
+    )
+}
+
+// A task that occurs at each of so many ticks: the status, and how much was written.
+static OCCURRENCES: [(&str, Status, usize); 2] = [
+    ("100000", Status::Ok, 1_577_785),
+    ("100001", Status::Refused, 39),
+];
+
+#[test]
+fn occurrences_are_limited(rt: HostRuntime) -> Result<(), Fail> {
+    for (until, status, size) in &OCCURRENCES {
         let text = format!(in rt.alloc();
             "dbp 1\npolicy fp\nuntil {until}\ntask k every 1 from 0 prio 1 cost 1\nout y = 0 then 1\ndone\n"
         )?;
         let answer = call(rt.alloc(), &["mean"], text.as_bytes(), (4096, 0), (4096, 0))?;
-        assert_eq!(rt; answer.0, status, "until {until}");
-        assert_eq!(rt; answer.1.len(), size, "until {until}");
+        assert_eq!(rt; answer.0, *status, "until {until}");
+        assert_eq!(rt; answer.1.len(), *size, "until {until}");
     }
-    for (size, status) in [(1_048_576, Status::Refused), (1_048_577, Status::TooLarge)] {
-        let spaces = vec![in rt.alloc(); b' '; size]?;
+    Ok(())
+}
+
+// So many spaces, and the status.
+static SIZES: [(usize, Status); 2] = [(1_048_576, Status::Refused), (1_048_577, Status::TooLarge)];
+
+#[test]
+fn bytes_are_limited(rt: HostRuntime) -> Result<(), Fail> {
+    for (size, status) in &SIZES {
+        let spaces = vec![in rt.alloc(); b' '; *size]?;
         let answer = call(rt.alloc(), &["mean"], &spaces, (4096, 0), (8, 0))?;
-        assert_eq!(rt; answer.0, status, "at {size} bytes");
+        assert_eq!(rt; answer.0, *status, "at {size} bytes");
     }
     Ok(())
 }

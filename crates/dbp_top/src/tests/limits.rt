@@ -1,6 +1,6 @@
 // Documents at a limit, and one past it.
 
-use super::documents::call;
+use super::documents::expect;
 use crate::Status;
 use std::alloc::Global;
 use std::test::Fail;
@@ -104,51 +104,54 @@ fn repeated_parts_are_limited(rt: HostRuntime) -> Result<(), Fail> {
     let alloc = rt.alloc();
     for (part, limit, lines, refusal) in &REPEATED {
         let within = part.document(alloc, *limit)?;
-        let answer = call(alloc, &["mean"], within.as_bytes(), (64, 0), (64, 0))?;
-        assert_eq!(rt; answer.0, Status::Ok, "{within}");
-        assert_eq!(rt; answer.1.as_slice(), lines.as_bytes(), "{within}");
+        expect(&rt, alloc, &["mean"], within.as_bytes(), Status::Ok, lines)?;
         let past = part.document(alloc, limit.saturating_add(1))?;
-        let answer = call(alloc, &["mean"], past.as_bytes(), (64, 0), (64, 0))?;
-        assert_eq!(rt; answer.0, Status::Refused, "{past}");
-        assert_eq!(rt; answer.1.as_slice(), refusal.as_bytes(), "{past}");
+        expect(
+            &rt,
+            alloc,
+            &["mean"],
+            past.as_bytes(),
+            Status::Refused,
+            refusal,
+        )?;
     }
     Ok(())
 }
+
+static DEPTHS: [(usize, Status, &str); 2] = [
+    (64, Status::Ok, "0,k,1,1\n"),
+    (65, Status::Refused, "refused: line 5: 9 DepthHit\n"),
+];
 
 #[test]
 fn parentheses_are_limited(rt: HostRuntime) -> Result<(), Fail> {
     let alloc = rt.alloc();
-    for (depth, status, text) in [
-        (64, Status::Ok, "0,k,1,1\n"),
-        (65, Status::Refused, "refused: line 5: 9 DepthHit\n"),
-    ] {
-        let open = "(".repeat(alloc, depth)?;
-        let close = ")".repeat(alloc, depth)?;
+    for (depth, status, text) in &DEPTHS {
+        let open = "(".repeat(alloc, *depth)?;
+        let close = ")".repeat(alloc, *depth)?;
         let document = format!(in alloc; "{START}{TASK}out y = 0 then {open}1{close}\ndone\n")?;
-        let answer = call(alloc, &["mean"], document.as_bytes(), (64, 0), (64, 0))?;
-        assert_eq!(rt; answer.0, status, "{depth} parentheses");
-        assert_eq!(rt; answer.1.as_slice(), text.as_bytes(), "{depth} parentheses");
+        expect(&rt, alloc, &["mean"], document.as_bytes(), *status, text)?;
     }
     Ok(())
 }
 
+static COSTS: [(&str, Status, &str); 2] = [
+    ("1000000000", Status::Ok, "0,k,1,1\n"),
+    (
+        "1000000001",
+        Status::Refused,
+        "refused: line 4: 6 LimitHit number\n",
+    ),
+];
+
 #[test]
 fn numbers_are_limited(rt: HostRuntime) -> Result<(), Fail> {
     let alloc = rt.alloc();
-    for (cost, status, text) in [
-        ("1000000000", Status::Ok, "0,k,1,1\n"),
-        (
-            "1000000001",
-            Status::Refused,
-            "refused: line 4: 6 LimitHit number\n",
-        ),
-    ] {
+    for (cost, status, text) in &COSTS {
         let document = format!(in alloc;
             "{START}task k every 1 prio 1 cost {cost}\nout y = 0 then 1\ndone\n"
         )?;
-        let answer = call(alloc, &["mean"], document.as_bytes(), (64, 0), (64, 0))?;
-        assert_eq!(rt; answer.0, status, "cost {cost}");
-        assert_eq!(rt; answer.1.as_slice(), text.as_bytes(), "cost {cost}");
+        expect(&rt, alloc, &["mean"], document.as_bytes(), *status, text)?;
     }
     Ok(())
 }

@@ -1,6 +1,6 @@
 // The line that says why `form` refuses a text: each code, and each limit's word.
 
-use super::documents::call;
+use super::documents::expect;
 use crate::Status;
 use std::alloc::Global;
 use std::test::Fail;
@@ -150,9 +150,7 @@ fn text_of(
 fn refusals_are_told(rt: HostRuntime) -> Result<(), Fail> {
     for (before, piece, times, behind, line) in &REFUSED {
         let text = text_of(rt.alloc(), before, piece, *times, behind)?;
-        let answer = call(rt.alloc(), &["form"], &text, (64, 0), (8, 0))?;
-        assert_eq!(rt; answer.0, Status::Refused, "{line}");
-        assert_eq!(rt; answer.1.as_slice(), line.as_bytes(), "{line}");
+        expect(&rt, rt.alloc(), &["form"], &text, Status::Refused, line)?;
     }
     Ok(())
 }

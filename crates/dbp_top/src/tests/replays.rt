@@ -1,6 +1,6 @@
 // Scripts of worked documents, and what their steps hear.
 
-use super::documents::{TWO_RATES, call};
+use super::documents::{TWO_RATES, expect};
 use super::steps::{ONE_DEADLINE, THREE_RATES};
 use crate::Status;
 use crate::plan::accepted;
@@ -50,24 +50,23 @@ look b x -> ready
 take b x -> 1
 ";
 
-// The step that is refused where this one is left out, and why; none where all others are allowed.
-static LEFT_OUT: [&str; 16] = [
-    "illegal step 1: not the next release step\n",
-    "illegal step 2: not the next release step\n",
-    "illegal step 3: not the next release step\n",
-    "illegal step 4: not the next release step\n",
-    "illegal step 6: not the next step of the task\n",
-    "illegal step 6: not the next step of the task\n",
-    "illegal step 8: not the next step of the task\n",
-    "illegal step 8: not the next step of the task\n",
-    "",
-    "illegal step 10: not the next step of the task\n",
-    "illegal step 11: not the next step of the task\n",
-    "illegal step 12: not the next step of the task\n",
-    "illegal step 13: not the next step of the task\n",
-    "illegal step 15: not the next step of the task\n",
-    "illegal step 15: not the next step of the task\n",
-    "",
+// The step that is refused where the step at this place is left out, and why. Without the look that isn't ready yet, or
+// the last step, all others are allowed.
+static LEFT_OUT: [(usize, &str); 14] = [
+    (0, "illegal step 1: not the next release step\n"),
+    (1, "illegal step 2: not the next release step\n"),
+    (2, "illegal step 3: not the next release step\n"),
+    (3, "illegal step 4: not the next release step\n"),
+    (4, "illegal step 6: not the next step of the task\n"),
+    (5, "illegal step 6: not the next step of the task\n"),
+    (6, "illegal step 8: not the next step of the task\n"),
+    (7, "illegal step 8: not the next step of the task\n"),
+    (9, "illegal step 10: not the next step of the task\n"),
+    (10, "illegal step 11: not the next step of the task\n"),
+    (11, "illegal step 12: not the next step of the task\n"),
+    (12, "illegal step 13: not the next step of the task\n"),
+    (13, "illegal step 15: not the next step of the task\n"),
+    (14, "illegal step 15: not the next step of the task\n"),
 ];
 
 // A document without its line `done`, a script, and the status and the text of a replay.
@@ -246,51 +245,41 @@ fn waiting_without(alloc: Global, place: usize) -> Result<String, Fail> {
 fn scripts_are_replayed(rt: HostRuntime) -> Result<(), Fail> {
     for (document, words, script, status, text) in &REPLAYS {
         let input = with_script(rt.alloc(), document, script)?;
-        let answer = call(rt.alloc(), words, &input, (64, 0), (8, 0))?;
-        assert_eq!(rt; answer.0, *status, "on {script}");
-        assert_eq!(rt; answer.1.as_slice(), text.as_bytes(), "on {script}");
+        expect(&rt, rt.alloc(), words, &input, *status, text)?;
     }
     Ok(())
 }
 
 #[test]
 fn a_task_waits_for_its_row(rt: HostRuntime) -> Result<(), Fail> {
-    let mut script = waiting_without(rt.alloc(), 16)?;
+    let script = waiting_without(rt.alloc(), 16)?;
     let input = with_script(rt.alloc(), TWO_RATES, &script)?;
-    let answer = call(rt.alloc(), ANY, &input, (64, 0), (8, 0))?;
-    assert_eq!(rt; answer.0, Status::Ok);
-    assert_eq!(rt; answer.1.as_slice(), WAITING_HEARD.as_bytes());
-    // by ranks b doesn't start while a hasn't ended
-    let answer = call(rt.alloc(), RANKED, &input, (64, 0), (8, 0))?;
-    assert_eq!(rt; answer.0, Status::Refused);
-    assert_eq!(rt;
-        answer.1.as_slice(),
-        b"illegal step 6: higher rank unfinished\n".as_slice()
-    );
-    // b still claims the slot when a has ended
+    expect(&rt, rt.alloc(), ANY, &input, Status::Ok, WAITING_HEARD)
+}
+
+#[test]
+fn by_ranks_a_task_waits_for_those_above(rt: HostRuntime) -> Result<(), Fail> {
+    let script = waiting_without(rt.alloc(), 16)?;
+    let input = with_script(rt.alloc(), TWO_RATES, &script)?;
+    let text = "illegal step 6: higher rank unfinished\n";
+    expect(&rt, rt.alloc(), RANKED, &input, Status::Refused, text)
+}
+
+#[test]
+fn a_reader_claims_its_slot_when_the_writer_has_ended(rt: HostRuntime) -> Result<(), Fail> {
+    let mut script = waiting_without(rt.alloc(), 16)?;
     script.push_str("end a\nseen a\naim a 0\n")?;
     let input = with_script(rt.alloc(), TWO_RATES, &script)?;
-    let answer = call(rt.alloc(), ANY, &input, (64, 0), (8, 0))?;
-    assert_eq!(rt; answer.0, Status::Refused);
-    assert_eq!(rt;
-        answer.1.as_slice(),
-        b"illegal step 19: slot claimed\n".as_slice()
-    );
-    Ok(())
+    let text = "illegal step 19: slot claimed\n";
+    expect(&rt, rt.alloc(), ANY, &input, Status::Refused, text)
 }
 
 #[test]
 fn a_step_left_out_is_told(rt: HostRuntime) -> Result<(), Fail> {
-    for (place, text) in LEFT_OUT.iter().enumerate() {
-        let script = waiting_without(rt.alloc(), place)?;
+    for (place, text) in &LEFT_OUT {
+        let script = waiting_without(rt.alloc(), *place)?;
         let input = with_script(rt.alloc(), TWO_RATES, &script)?;
-        let answer = call(rt.alloc(), ANY, &input, (64, 0), (8, 0))?;
-        if text.is_empty() {
-            assert_eq!(rt; answer.0, Status::Ok, "without {place}");
-        } else {
-            assert_eq!(rt; answer.0, Status::Refused, "without {place}");
-            assert_eq!(rt; answer.1.as_slice(), text.as_bytes(), "without {place}");
-        }
+        expect(&rt, rt.alloc(), ANY, &input, Status::Refused, text)?;
     }
     Ok(())
 }
@@ -298,20 +287,23 @@ fn a_step_left_out_is_told(rt: HostRuntime) -> Result<(), Fail> {
 #[test]
 fn a_document_without_a_script_is_refused(rt: HostRuntime) -> Result<(), Fail> {
     for words in [ANY, RANKED] {
-        let answer = call(rt.alloc(), words, TWO_RATES.as_bytes(), (64, 0), (8, 0))?;
-        assert_eq!(rt; answer.0, Status::Refused);
-        assert_eq!(rt;
-            answer.1.as_slice(),
-            b"refused: line 11: 29 NoScript\n".as_slice()
-        );
+        let text = "refused: line 11: 29 NoScript\n";
+        expect(
+            &rt,
+            rt.alloc(),
+            words,
+            TWO_RATES.as_bytes(),
+            Status::Refused,
+            text,
+        )?;
     }
-    // a fault of the document comes first
-    let answer = call(rt.alloc(), ANY, b"dbp 1\n", (64, 0), (8, 0))?;
-    assert_eq!(rt;
-        answer.1.as_slice(),
-        b"refused: line 2: 7 MissingDone\n".as_slice()
-    );
     Ok(())
+}
+
+#[test]
+fn a_fault_of_the_document_comes_first(rt: HostRuntime) -> Result<(), Fail> {
+    let text = "refused: line 2: 7 MissingDone\n";
+    expect(&rt, rt.alloc(), ANY, b"dbp 1\n", Status::Refused, text)
 }
 
 #[test]

@@ -1,6 +1,6 @@
 // The slots of documents' tasks.
 
-use super::documents::call;
+use super::documents::expect;
 use crate::Status;
 use std::test::Fail;
 
@@ -53,15 +53,26 @@ static SLOTS: [(&str, &str); 4] = [
 #[test]
 fn slots_are_counted(rt: HostRuntime) -> Result<(), Fail> {
     for (document, lines) in &SLOTS {
-        let answer = call(rt.alloc(), &["plan"], document.as_bytes(), (64, 0), (8, 0))?;
-        assert_eq!(rt; answer.0, Status::Ok);
-        assert_eq!(rt; answer.1.as_slice(), lines.as_bytes(), "on {document}");
+        expect(
+            &rt,
+            rt.alloc(),
+            &["plan"],
+            document.as_bytes(),
+            Status::Ok,
+            lines,
+        )?;
     }
-    let refused = call(rt.alloc(), &["plan"], b"dbp 1\n", (64, 0), (8, 0))?;
-    assert_eq!(rt; refused.0, Status::Refused);
-    assert_eq!(rt;
-        refused.1.as_slice(),
-        b"refused: line 2: 7 MissingDone\n".as_slice()
-    );
     Ok(())
+}
+
+#[test]
+fn slots_of_no_plan_are_refused(rt: HostRuntime) -> Result<(), Fail> {
+    expect(
+        &rt,
+        rt.alloc(),
+        &["plan"],
+        b"dbp 1\n",
+        Status::Refused,
+        "refused: line 2: 7 MissingDone\n",
+    )
 }

@@ -1,12 +1,13 @@
 // Steps of the protocol on worked documents: what each hears, or why it is refused.
 
 ghost use Rattle.std.specs.Prelude.{IsTrue};
-ghost use Rattle.dbp_core.specs.Rules.{IsNamed};
+ghost use Rattle.dbp_rules.specs.Rules.{IsNamed};
 
+use super::base::plan_in;
 use super::documents::TWO_RATES;
-use crate::plan::plan_of;
 use dbp_core::{Broken, Core, Count, Heard, Illegal, Step};
 use dbp_plan::Plan;
+use dbp_rules::{ReadWiring, start_state, wire_plan};
 use std::alloc::Global;
 use std::process::Abort;
 use std::test::Fail;
@@ -28,8 +29,8 @@ task h every 1 prio 3 cost 1
 done
 ";
 
-// Task b starts before a, and waits for its row.
-static WAITING: [(Step, Heard); 16] = [
+// Task b starts before a, and waits for its row; a ends while b still claims its slot, and is aimed at another one.
+static WAITING: &[(Step, Heard)] = &[
     (Step::Aim { task: 0, slot: 0 }, Heard::Stored),
     (Step::Aim { task: 1, slot: 0 }, Heard::Stored),
     (Step::Claim { link: 0 }, Heard::Stored),
@@ -46,16 +47,13 @@ static WAITING: [(Step, Heard); 16] = [
     (Step::Done { task: 0 }, Heard::Stored),
     (Step::Look { task: 1, read: 0 }, Heard::Ready),
     (Step::Take { task: 1, read: 0 }, Heard::Word(1)),
-];
-
-// The slot that b claims isn't free for a, though a has ended.
-static CLAIMED: [(Step, Heard); 2] = [
     (Step::End { task: 0 }, Heard::Stored),
     (Step::Seen { task: 0 }, Heard::Ended(1)),
+    (Step::Aim { task: 0, slot: 1 }, Heard::Stored),
 ];
 
-// The release of all three tasks.
-static RELEASED: [(Step, Heard); 8] = [
+// All three tasks are released. The delayed reader is told slot 0 with the first values, and takes them.
+static DELAYED: &[(Step, Heard)] = &[
     (Step::Aim { task: 0, slot: 1 }, Heard::Stored),
     (Step::Aim { task: 1, slot: 0 }, Heard::Stored),
     (Step::Aim { task: 2, slot: 0 }, Heard::Stored),
@@ -64,10 +62,6 @@ static RELEASED: [(Step, Heard); 8] = [
     (Step::OpenGate { task: 0 }, Heard::Stored),
     (Step::OpenGate { task: 1 }, Heard::Stored),
     (Step::OpenGate { task: 2 }, Heard::Stored),
-];
-
-// The delayed reader is told slot 0 with the first values, and takes them.
-static DELAYED: [(Step, Heard); 11] = [
     (Step::Start { task: 2 }, Heard::Started),
     (Step::Hear { task: 2 }, Heard::Order { slot: 0, number: 1 }),
     (Step::Hear { task: 2 }, Heard::Order { slot: 0, number: 0 }),
@@ -94,7 +88,7 @@ done
 ";
 
 // Each is served to its end, the first one first.
-static SERVED: [(Step, Heard); 20] = [
+static SERVED: &[(Step, Heard)] = &[
     (Step::Aim { task: 0, slot: 0 }, Heard::Stored),
     (Step::Aim { task: 1, slot: 0 }, Heard::Stored),
     (Step::Claim { link: 0 }, Heard::Stored),
@@ -126,7 +120,7 @@ struct Refusal {
     why: Illegal,
 }
 
-static REFUSED: [Refusal; 8] = [
+static REFUSED: [Refusal; 9] = [
     // the releaser's next step is an aim, kind 2
     Refusal {
         document: TWO_RATES,
@@ -197,6 +191,18 @@ static REFUSED: [Refusal; 8] = [
             right: 0,
         },
     },
+    // a has ended, and b still claims its slot over link 0
+    Refusal {
+        document: TWO_RATES,
+        count: Count::All,
+        behind: 18,
+        step: Step::Aim { task: 0, slot: 0 },
+        why: Illegal {
+            broken: Broken::SlotClaimed,
+            left: 0,
+            right: 0,
+        },
+    },
     // a is ranked above b and hasn't ended
     Refusal {
         document: TWO_RATES,
@@ -224,13 +230,7 @@ static REFUSED: [Refusal; 8] = [
 ];
 
 fn core_of(alloc: Global, document: &str, count: Count) -> Result<Core, Fail> {
-    if document.len() > 2000 {
-        return Err(Fail::from("too long"));
-    }
-    match plan_of(alloc, document.as_bytes()) {
-        Ok(plan) => Ok(Core::new(alloc, plan, count)?),
-        Err(_) => Err(Fail::from("unread")),
-    }
+    Ok(Core::new(alloc, plan_in(alloc, document)?, count)?)
 }
 
 // The only word of the task's row.
@@ -282,54 +282,121 @@ fn make(rt: &impl Abort, core: &mut Core, steps: &[(Step, Heard)]) -> Result<(),
     Ok(())
 }
 
+// Makes the steps from the start, behind which the task's row has this word alone.
+fn take(
+    rt: &impl Abort,
+    mut core: Core,
+    steps: &[(Step, Heard)],
+    task: u32,
+    word: i64,
+) -> Result<(), Fail> {
+    make(rt, &mut core, steps)?;
+    assert_eq!(rt; word_of(&core, task)?, word);
+    Ok(())
+}
+
+// Behind the steps asks for the refused one twice, since nothing has changed behind a refusal.
+fn refuse(rt: &impl Abort, mut core: Core, refusal: &Refusal) -> Result<(), Fail> {
+    if refusal.behind > WAITING.len() {
+        return Err(Fail::from("not so many steps"));
+    }
+    make(rt, &mut core, &WAITING[..refusal.behind])?;
+    for _ in 0..2 {
+        assert_eq!(rt; ask(&mut core, refusal.step)?, Err(refusal.why));
+    }
+    Ok(())
+}
+
+// Task b at its only read, which it hears behind its own order.
+static READ: ReadWiring = ReadWiring {
+    read: 0,
+    order: 1,
+    writer: 0,
+    port: 0,
+};
+
+#[test]
+fn a_plan_is_wired(rt: HostRuntime) -> Result<(), Fail> {
+    let plan = plan_in(rt.alloc(), TWO_RATES)?;
+    let wiring = wire_plan(rt.alloc(), &plan, Count::All)?;
+    let [a, b] = wiring.tasks.items() else {
+        return Err(Fail::from("not two tasks"));
+    };
+    assert_eq!(rt; (a.ports, a.slots, a.kept, a.rank), (1, 2, 0, 0));
+    assert_eq!(rt; (b.ports, b.slots, b.kept, b.rank), (1, 1, 0, 1));
+    assert_eq!(rt; a.times.items(), [0, 2, 4].as_slice());
+    assert_eq!(rt; b.times.items(), [0, 3].as_slice());
+    assert_eq!(rt; b.reads.items(), [READ].as_slice());
+    Ok(())
+}
+
+#[test]
+fn a_state_is_started(rt: HostRuntime) -> Result<(), Fail> {
+    let plan = plan_in(rt.alloc(), THREE_RATES)?;
+    let wiring = wire_plan(rt.alloc(), &plan, Count::Ranked)?;
+    let state = start_state(rt.alloc(), &plan, &wiring)?;
+    let [a, _, h] = state.tasks.items() else {
+        return Err(Fail::from("not three tasks"));
+    };
+    let stamps = [1, 0, 0];
+    assert_eq!(rt; a.words.slots.len(), 3);
+    for (slot, stamp) in a.words.slots.items().iter().zip(stamps) {
+        assert_eq!(rt; slot.stamp, stamp);
+        assert_eq!(rt; slot.words.items(), [0].as_slice());
+    }
+    assert_eq!(rt; h.work.row().words(), [-1].as_slice());
+    Ok(())
+}
+
+#[test]
+fn a_row_begins_with_its_first_values(rt: HostRuntime) -> Result<(), Fail> {
+    take(
+        &rt,
+        core_of(rt.alloc(), THREE_RATES, Count::All)?,
+        &[],
+        2,
+        -1,
+    )
+}
+
 #[test]
 fn a_reader_waits_for_its_row(rt: HostRuntime) -> Result<(), Fail> {
-    let mut core = core_of(rt.alloc(), TWO_RATES, Count::All)?;
-    assert_eq!(rt; word_of(&core, 0)?, 0);
-    make(&rt, &mut core, &WAITING)?;
-    make(&rt, &mut core, &CLAIMED)?;
-    assert_eq!(rt; word_of(&core, 0)?, 1);
-    let claimed = Illegal {
-        broken: Broken::SlotClaimed,
-        left: 0,
-        right: 0,
-    };
-    assert_eq!(rt;
-        ask(&mut core, Step::Aim { task: 0, slot: 0 })?,
-        Err(claimed)
-    );
-    make(
+    take(
         &rt,
-        &mut core,
-        &[(Step::Aim { task: 0, slot: 1 }, Heard::Stored)],
+        core_of(rt.alloc(), TWO_RATES, Count::All)?,
+        WAITING,
+        0,
+        1,
     )
 }
 
 #[test]
 fn a_delayed_reader_takes_what_stood_before(rt: HostRuntime) -> Result<(), Fail> {
-    let mut core = core_of(rt.alloc(), THREE_RATES, Count::All)?;
-    make(&rt, &mut core, &RELEASED)?;
-    make(&rt, &mut core, &DELAYED)?;
-    assert_eq!(rt; word_of(&core, 2)?, 0);
-    Ok(())
+    take(
+        &rt,
+        core_of(rt.alloc(), THREE_RATES, Count::All)?,
+        DELAYED,
+        2,
+        0,
+    )
 }
 
 #[test]
 fn tasks_step_by_their_ranks(rt: HostRuntime) -> Result<(), Fail> {
-    let mut core = core_of(rt.alloc(), ONE_DEADLINE, Count::Ranked)?;
-    make(&rt, &mut core, &SERVED)?;
-    assert_eq!(rt; word_of(&core, 1)?, 6);
-    Ok(())
+    take(
+        &rt,
+        core_of(rt.alloc(), ONE_DEADLINE, Count::Ranked)?,
+        SERVED,
+        1,
+        6,
+    )
 }
 
 #[test]
 fn steps_are_refused_with_their_values(rt: HostRuntime) -> Result<(), Fail> {
     for refusal in &REFUSED {
-        let mut core = core_of(rt.alloc(), refusal.document, refusal.count)?;
-        make(&rt, &mut core, &WAITING[..refusal.behind])?;
-        assert_eq!(rt; ask(&mut core, refusal.step)?, Err(refusal.why));
-        // nothing has changed
-        assert_eq!(rt; ask(&mut core, refusal.step)?, Err(refusal.why));
+        let core = core_of(rt.alloc(), refusal.document, refusal.count)?;
+        refuse(&rt, core, refusal)?;
     }
     Ok(())
 }

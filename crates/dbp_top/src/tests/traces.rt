@@ -1,7 +1,8 @@
 // Documents with inputs, events and traces: their lines and their refusals.
 
-use super::documents::call;
+use super::documents::{call, expect};
 use crate::Status;
+use std::alloc::Global;
 use std::test::Fail;
 
 const PRESSURE: &str = "dbp 1
@@ -67,9 +68,7 @@ fn traces_give_samples_and_events(rt: HostRuntime) -> Result<(), Fail> {
     let alloc = rt.alloc();
     for (trace, lines) in &ACCEPTED {
         let text = format!(in alloc; "{PRESSURE}{trace}")?;
-        let answer = call(alloc, &["mean"], text.as_bytes(), (64, 0), (64, 0))?;
-        assert_eq!(rt; answer.0, Status::Ok, "{trace}");
-        assert_eq!(rt; answer.1.as_slice(), lines.as_bytes(), "{trace}");
+        expect(&rt, alloc, &["mean"], text.as_bytes(), Status::Ok, lines)?;
     }
     Ok(())
 }
@@ -80,9 +79,14 @@ fn traces_are_checked(rt: HostRuntime) -> Result<(), Fail> {
     for (trace, line) in &REFUSED {
         let text = format!(in alloc; "{PRESSURE}trace\n{trace}done\n")?;
         let line = format!(in alloc; "refused: line {line}\n")?;
-        let answer = call(alloc, &["mean"], text.as_bytes(), (64, 0), (64, 0))?;
-        assert_eq!(rt; answer.0, Status::Refused, "{trace}");
-        assert_eq!(rt; answer.1.as_slice(), line.as_bytes(), "{trace}");
+        expect(
+            &rt,
+            alloc,
+            &["mean"],
+            text.as_bytes(),
+            Status::Refused,
+            line.as_str(),
+        )?;
     }
     Ok(())
 }
@@ -104,8 +108,14 @@ fn occurrences_are_counted_at_last(rt: HostRuntime) -> Result<(), Fail> {
     for (rows, line) in &TOO_OFTEN {
         let text = format!(in alloc; "{OFTEN}{rows}done\n")?;
         let line = format!(in alloc; "refused: line {line}\n")?;
-        let answer = call(alloc, &["mean"], text.as_bytes(), (64, 0), (64, 0))?;
-        assert_eq!(rt; answer.1.as_slice(), line.as_bytes(), "{rows}");
+        expect(
+            &rt,
+            alloc,
+            &["mean"],
+            text.as_bytes(),
+            Status::Refused,
+            line.as_str(),
+        )?;
     }
     Ok(())
 }
@@ -121,18 +131,24 @@ static ROWS: [(u32, Status, usize, &str); 2] = [
     ),
 ];
 
+// A document whose event occurs in each of so many rows.
+fn with_rows(alloc: Global, rows: u32) -> Result<String, Fail> {
+    let mut text = String::from_str(
+        alloc,
+        "dbp 1\npolicy fp\nuntil 60000\nevent e\ntask w on e prio 1 cost 1\nout y = 0 then 1\ntrace\ntime,e\n",
+    )?;
+    for time in 0..rows {
+        text.push_str(format!(in alloc; "{time},1\n")?.as_str())?;
+    }
+    text.push_str("done\n")?;
+    Ok(text)
+}
+
 #[test]
 fn rows_are_limited(rt: HostRuntime) -> Result<(), Fail> {
     let alloc = rt.alloc();
     for (rows, status, size, end) in &ROWS {
-        let mut text = String::from_str(
-            alloc,
-            "dbp 1\npolicy fp\nuntil 60000\nevent e\ntask w on e prio 1 cost 1\nout y = 0 then 1\ntrace\ntime,e\n",
-        )?;
-        for time in 0..*rows {
-            text.push_str(format!(in alloc; "{time},1\n")?.as_str())?;
-        }
-        text.push_str("done\n")?;
+        let text = with_rows(alloc, *rows)?;
         let answer = call(alloc, &["mean"], text.as_bytes(), (4096, 0), (4096, 0))?;
         assert_eq!(rt; answer.0, *status, "{rows} rows");
         assert_eq!(rt; answer.1.len(), *size, "{rows} rows");

@@ -4,14 +4,14 @@ use Rattle.std.specs.Prelude.{◌==◌}
 use Rattle.std.proofs.lemmas.Bool.{and_parts}
 use Rattle.std.proofs.lemmas.List.{take_all}
 use Rattle.std.specs.List.{find}
-use Rattle.dbp_core.specs.Places.{link, wired}
-use Rattle.dbp_core.specs.Rules as rule
-use Rattle.dbp_core.specs.Wired.{links_at}
-use Rattle.dbp_core.specs.declared.state.State.{State}
-use Rattle.dbp_core.specs.declared.wire.LinkEnd.TheVariants.{Writer}
-use Rattle.dbp_core.specs.declared.wiring.TaskWiring.{TaskWiring}
-use Rattle.dbp_core.specs.declared.wiring.Wiring.{Wiring}
-use Rattle.dbp_core.proofs.IntoTask.{links_below}
+use Rattle.dbp_rules.specs.Places.{link, wired}
+use Rattle.dbp_rules.specs.Rules as rule
+use Rattle.dbp_rules.specs.Wired.{links_at}
+use Rattle.dbp_rules.specs.declared.state.State.{State}
+use Rattle.dbp_rules.specs.declared.wiring.LinkEnd.TheVariants.{Writer}
+use Rattle.dbp_rules.specs.declared.wiring.TaskWiring.{TaskWiring}
+use Rattle.dbp_rules.specs.declared.wiring.Wiring.{Wiring}
+use Rattle.dbp_rules.proofs.IntoTask.{links_below}
 use Rattle.dbp_core.proofs.Searches.{find_among, find_at, find_past}
 use Rattle.dbp_core.proofs.conditions.claimed.Goals as goal
 

@@ -1,7 +1,7 @@
 -- No link so far claims the slot.
 use Rattle.std.proofs.Common.{◌≡◌, None, take}
 use Rattle.std.specs.List.{find}
-use Rattle.dbp_core.specs.Rules as rule
+use Rattle.dbp_rules.specs.Rules as rule
 use Rattle.dbp_core.proofs.conditions.claimed.Given as goal
 
 abbrev pub invariant-loop-k : goal.invariant-loop-k

@@ -1,6 +1,6 @@
 use Rattle.std.proofs.Common.{◌≡◌, ◌<◌, length}
 use Rattle.std.specs.Option.{IfSome}
-use Rattle.dbp_core.specs.Rules as rule
+use Rattle.dbp_rules.specs.Rules as rule
 use Rattle.dbp_core.proofs.conditions.highest_blocking.Given as goal
 
 abbrev pub invariant-loop-r : goal.invariant-loop-r

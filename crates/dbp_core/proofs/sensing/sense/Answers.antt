@@ -5,8 +5,8 @@ use Rattle.std.proofs.lemmas.Option.{slice_get-map}
 use Rattle.dbp_plan.specs.declared.diagram.Sense.{Sense}
 use Rattle.dbp_plan.specs.Places.{read_place}
 use Rattle.dbp_plan.specs.Samples.{input_value}
-use Rattle.dbp_core.specs.Moves.{with_now, with_senses}
-use Rattle.dbp_core.specs.Work.{WorkWords}
+use Rattle.dbp_rules.specs.Moves.{with_now, with_senses}
+use Rattle.dbp_rules.specs.Work.{WorkWords}
 use Rattle.dbp_core.proofs.InputValues.{sense_more}
 use Rattle.dbp_core.proofs.sensing.sense.Goals as goal
 use mir.Val.{to_z, of_z}

@@ -1,6 +1,6 @@
 use Rattle.std.proofs.Common.{◌≡◌, ◌+◌, length, map, take}
 use Rattle.dbp_plan.specs.Samples.{input_value}
-use Rattle.dbp_core.specs.Moves as move
+use Rattle.dbp_rules.specs.Moves as move
 use Rattle.dbp_core.proofs.sensing.sense.Given as goal
 
 abbrev pub invariant-loop-sense : goal.invariant-loop-sense

@@ -1,9 +1,9 @@
 use Rattle.std.proofs.Common.{◌≡◌, ◌∙◌, ◌++◌, get_or, slice_get, Some, Ok, Err, ap, refl}
 use Rattle.std.proofs.lemmas.Option.{slice_get-get_or}
 use Rattle.dbp_core.specs.Cores.{count_in, plan_in, state_in}
-use Rattle.dbp_core.specs.declared.step.Step.TheVariants.{Seen}
+use Rattle.dbp_rules.specs.declared.step.Step.TheVariants.{Seen}
 use Rattle.dbp_plan.specs.declared.plan.Plan.{Plan}
-use Rattle.dbp_core.specs.Rules.{IsNamed}
+use Rattle.dbp_rules.specs.Rules.{IsNamed}
 use Rattle.dbp_plan.specs.Places.{all_place}
 use Rattle.dbp_replay.specs.Places.{IsThere}
 use Rattle.dbp_replay.specs.Texts.{heard_line}

@@ -1,6 +1,6 @@
 use Rattle.std.proofs.Common.{◌≡◌, ◌∙◌, ◌<◌, ℕ, List, [], get_or, length, slice_get, Some, Ok, Err, ap, refl, sym, subst, rules, arith}
 use Rattle.std.proofs.lemmas.Option.{slice_get-get_or}
-use Rattle.dbp_core.specs.declared.step.Step.{Step}
+use Rattle.dbp_rules.specs.declared.step.Step.{Step}
 use Rattle.dia_read.proofs.OneMore.{nothing-left}
 use Rattle.dbp_replay.specs.Scripts.{Says, no_section, at_a_line}
 use Rattle.dbp_replay.proofs.KeptSteps.{NamedTo, named-none, section-kept, line-kept, has-number, named-more, line-fault, named-all}

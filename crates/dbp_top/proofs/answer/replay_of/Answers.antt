@@ -1,11 +1,10 @@
-use Rattle.std.proofs.Common.{◌≡◌, ℕ, List, ap, sym, subst, rules}
+use Rattle.std.proofs.Common.{sym, subst}
 use Rattle.std.proofs.lemmas.Result.{err_from_is_err_and}
-use Rattle.dbp_core.specs.declared.step.Count.{Count}
-use Rattle.dbp_core.specs.declared.step.Step.{Step}
+use Rattle.dbp_rules.specs.declared.step.Count.{Count}
 use Rattle.dia_read.specs.declared.document.Doc.{Doc}
 use Rattle.dbp_replay.specs.Replays.{IsReplay, IsReplayRefusal}
 use Rattle.dbp_replay.specs.Scripts.{IsScript, IsScriptRefusal}
-use Rattle.dbp_top.specs.Answer.{Makes, Scripts, count_of, replay}
+use Rattle.dbp_top.specs.Answer.{count_of, replay}
 use Rattle.dbp_top.proofs.StopLaws.{plan-stop, replay-stop, script-stop}
 use Rattle.dbp_top.proofs.answer.replay_of.Goals as goal
 

@@ -1,6 +1,4 @@
 use Rattle.std.proofs.Common.{◌≡◌, ℕ, ◌<◌, ◌++◌, List, length, get_or, ap, sym, ◌∙◌, arith}
-use Rattle.dbp_slots.specs.Slots.{counts_of}
-use Rattle.dbp_slots.specs.declared.slot_counts.Counts.{Counts}
 use Rattle.dbp_top.specs.SlotLines.{slot_line}
 use Rattle.dbp_top.proofs.SlotLineLaws.{lines_all, lines_more}
 use Rattle.dbp_top.proofs.slot_lines.slot_lines.Goals as goal

@@ -5,12 +5,12 @@ use Rattle.std.proofs.Props.{props}
 use Rattle.dbp_plan.specs.Occurrences.{times_of}
 use Rattle.sync_meaning.specs.SomeMeaning.{meaning_of}
 use Rattle.sync_meaning.specs.SomeMeaningTables.{rows_in}
-use Rattle.dbp_core.specs.Places.{no_task, task as state_of}
-use Rattle.dbp_core.specs.SoundParts.{last_shut}
-use Rattle.dbp_core.specs.declared.state.TaskState.{TaskState}
-use Rattle.dbp_core.specs.declared.wiring.Wiring.{Wiring}
-use Rattle.dbp_core.proofs.SoundOwn.{IsOwn, own_wiring}
-use Rattle.dbp_core.proofs.TakenWords.{meaning_row, shut_few}
+use Rattle.dbp_rules.specs.Places.{no_task, task as state_of}
+use Rattle.dbp_rules.specs.SoundParts.{last_shut}
+use Rattle.dbp_rules.specs.declared.state.TaskState.{TaskState}
+use Rattle.dbp_rules.specs.declared.wiring.Wiring.{Wiring}
+use Rattle.dbp_rules.proofs.SoundOwn.{IsOwn, own_wiring}
+use Rattle.dbp_rules.proofs.TakenWords.{meaning_row, shut_few}
 use Rattle.dbp_core.proofs.machine.Core.row.Goals as goal
 
 pub returns-clause-meaning : goal.returns-clause-meaning

@@ -1,6 +1,6 @@
 use Rattle.std.proofs.Math.Logic.{∥∥₁_elim}
-use Rattle.dbp_core.proofs.SoundKept.{asked_sound}
-use Rattle.dbp_core.proofs.StateKept.{asked_kept}
+use Rattle.dbp_rules.proofs.SoundKept.{asked_sound}
+use Rattle.dbp_rules.proofs.StateKept.{asked_kept}
 use Rattle.dbp_core.proofs.machine.Core.step.Goals as goal
 
 pub invariant_of-self : goal.invariant_of-self

@@ -1,8 +1,0 @@
-use Rattle.dbp_core.specs.Wired.{wiring_of}
-use Rattle.dbp_core.proofs.SoundAnswers.{delayed_hears}
-use Rattle.dbp_core.proofs.SoundOwn.{own_wiring}
-use Rattle.dbp_core.proofs.SoundRuns.{rows_of, reached_sound}
-use Rattle.dbp_core.proofs.laws.a_delayed_look_is_ready.Goals as goal
-
-pub returns : goal.returns
-returns c = λ p count steps s i r leads named free late. delayed_hears p (wiring_of p count) (rows_of p) s (own_wiring p count) (reached_sound p count steps s leads) i r named free late

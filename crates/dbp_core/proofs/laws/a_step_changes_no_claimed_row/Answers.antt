@@ -1,8 +1,0 @@
-use Rattle.dbp_core.specs.Wired.{wiring_of}
-use Rattle.dbp_core.proofs.SoundOwn.{own_wiring}
-use Rattle.dbp_core.proofs.SoundRuns.{rows_of, reached_sound}
-use Rattle.dbp_core.proofs.SparedClaims.{spared}
-use Rattle.dbp_core.proofs.laws.a_step_changes_no_claimed_row.Goals as goal
-
-pub returns : goal.returns
-returns c = λ p count steps s e leads named free. spared p (wiring_of p count) (rows_of p) s (own_wiring p count) (reached_sound p count steps s leads) e named free

@@ -1,7 +1,0 @@
-use Rattle.dbp_core.specs.Wired.{wiring_of}
-use Rattle.dbp_core.proofs.SoundOwn.{own_wiring}
-use Rattle.dbp_core.proofs.SparedClaims.{spared}
-use Rattle.dbp_core.proofs.soundness.a_step_spares_claimed_rows.Goals as goal
-
-pub returns : goal.returns
-returns c = λ p count rows s e sound named free. spared p (wiring_of p count) rows s (own_wiring p count) sound e named free

@@ -1,8 +1,0 @@
-use Rattle.std.proofs.Common.{refl}
-use Rattle.dbp_core.specs.Wired.{wiring_of}
-use Rattle.dbp_core.specs.declared.step.Count.TheVariants.{All}
-use Rattle.dbp_core.proofs.SparedClaims.{aims_apart}
-use Rattle.dbp_core.proofs.soundness.an_aim_spares_claimed_slots.Goals as goal
-
-pub returns : goal.returns
-returns c = λ p s i slot free. aims_apart (wiring_of p All) s i slot free refl

@@ -1,6 +1,0 @@
-use Rattle.std.proofs.Common.{◌≡◌, map, take}
-use Rattle.dbp_core.specs.Start.{start_entry}
-use Rattle.dbp_core.proofs.start.start_entries.Given as goal
-
-abbrev pub invariant-loop-task : goal.invariant-loop-task
-invariant-loop-task l = l.entries ≡ map start_entry (take l.task-index l.tasks)

@@ -1,0 +1,233 @@
+-- Each allowed step keeps what the code needs of the state.
+use Rattle.std.proofs.Common.{◌≡◌, ℕ, zero, suc, ℤ, ◌+◌, ◌-◌, ◌<◌, ◌≤◌, List, ◌∷◌, ◌++◌, length, get_or, take, drop, Option, Some, None, Result, refl, sym, ◌∙◌, ap, subst, arith, inl, inr, length-append, length-drop}
+use Rattle.std.specs.Prelude.{slice_get}
+use Rattle.std.proofs.lemmas.Bool.{cases_Bool, eqb-true}
+use Rattle.std.proofs.lemmas.List.{get_or-take, length-map, length-set, length-take-le}
+use Rattle.dbp_plan.specs.declared.diagram.Task.{Task}
+use Rattle.dbp_plan.specs.declared.plan.Plan.{Plan}
+use Rattle.dbp_plan.specs.declared.limits.TheConstants.{MAX_OCCURRENCES}
+use Rattle.dbp_plan.specs.Closed.{let_base}
+use Rattle.release_list.specs.Schedule.{aims}
+use Rattle.release_list.specs.declared.release.Release.TheVariants as release
+use Rattle.dbp_rules.specs.Moves as move
+use Rattle.dbp_rules.specs.Places.{declared, link, task, task_entry, wired}
+use Rattle.dbp_rules.specs.Rules as rule
+use Rattle.dbp_rules.specs.Shapes.{EntryShape, IsShape, IsTaskWired, OrderFits, PlaceIn, TaskShape, heard_by, link_in, place_number, running, slot_owner}
+use Rattle.dbp_rules.specs.Work.{WorkWords}
+use Rattle.dbp_rules.specs.declared.parts.Place.{Place}
+use Rattle.dbp_rules.specs.declared.parts.Place.TheVariants as place
+use Rattle.dbp_rules.specs.declared.parts.TaskEntry.{TaskEntry}
+use Rattle.dbp_rules.specs.declared.state.State.{State}
+use Rattle.dbp_rules.specs.declared.step.Broken.TheVariants as broken
+use Rattle.dbp_rules.specs.declared.step.Heard.{Heard}
+use Rattle.dbp_rules.specs.declared.step.Illegal.{Illegal}
+use Rattle.dbp_rules.specs.declared.step.Step.{Step}
+use Rattle.dbp_rules.specs.declared.step.Step.TheVariants.{Seen, Aim, Claim, OpenGate, Start, Hear, Look, Take, Shut, Put, Done, End}
+use Rattle.dbp_rules.specs.declared.wiring.TaskWiring.{TaskWiring}
+use Rattle.dbp_rules.specs.declared.wiring.Wiring.{Wiring}
+use Rattle.dbp_rules.proofs.Aims.{IsAllowedAim, aim_allowed}
+use Rattle.dbp_rules.proofs.Allowed.{at_claim, at_next, at_open, next_none, or_else_none, place_of}
+use Rattle.dbp_rules.proofs.Counted.{aims_claim, aims_open, aims_other, aims_same}
+use Rattle.dbp_rules.proofs.Frames.{aim_changes, claim_changes, entry_changes, further_on, task_changes}
+use Rattle.dbp_rules.proofs.TaskKept.{WorkFits, computed_fits, end_kept, goes_on, goes_to_put, goes_to_read, hear_kept, stamped_fit, start_kept, word_fits}
+
+-- a place that the task has, told otherwise
+inside_at : (t : TaskWiring) (q r : Place) → q ≡ r → PlaceIn t q → PlaceIn t r
+inside_at t q r same inside = subst (λ (x : Place). PlaceIn t x) same inside
+
+module _ (p : Plan) (w : Wiring) (s : State) (shape : IsShape p w s) where
+  -- a task is aimed no more often than it occurs
+  aimed_few : (i : ℕ) → i < length w.tasks → (task_entry s i).aimed ≤ MAX_OCCURRENCES
+  aimed_few i below =
+      let t : IsTaskWired p w i (wired w i) = shape.wiring.each_task i below in
+      omega (arith, shape.aimed i below, shape.wiring.releases.aims_times s.releaser.place i, t.few, ap length t.times)
+
+  seen_kept : (i : ℕ) → i < length w.tasks → IsShape p w (rule.next p w s (Seen i))
+  seen_kept i below =
+      let e : EntryShape (wired w i) (task_entry s i) = shape.each_entry i below in
+      entry_changes p w s i (move.seen (task_entry s i) (task s i).words.ended) shape below refl (record { current = e.current; kept = e.kept; kept_slots = e.kept_slots })
+
+  -- the kept slots after an aim
+  kept_on : (slots kept current j : ℕ) (ks : List ℕ) → length ks ≡ kept → current < slots → ((m : ℕ) → m < kept → get_or ks m 0 < slots) → j < kept → get_or (take (length ks) (current ∷ ks)) j 0 < slots
+  kept_on slots kept current zero ks size first each below = rw (get_or-take (length ks) (current ∷ ks) 0 0 (omega arith)) first
+  kept_on slots kept current (suc j) ks size first each below = rw (get_or-take (length ks) (current ∷ ks) (suc j) 0 (omega arith)) (each j (omega arith))
+
+  aim_kept : (i slot : ℕ) → i < length w.tasks → rule.refusal w s (Aim i slot) ≡ None → IsShape p w (rule.next p w s (Aim i slot))
+  aim_kept i slot below free =
+      let a : IsAllowedAim w s i slot = aim_allowed w s i slot free in
+      let here : slice_get w.releases s.releaser.place ≡ Some (release.Aim i) = a.here in
+      let fits : slot < (wired w i).slots = a.below in
+      let e : EntryShape (wired w i) (task_entry s i) = shape.each_entry i below in
+      let ok : TaskShape w (declared p i) i (task_entry s i).aimed (task s i) = shape.each_task i below in
+      let t : IsTaskWired p w i (wired w i) = shape.wiring.each_task i below in
+      let more : aims w.releases (s.releaser.place + 1) i ≡ aims w.releases s.releaser.place i + 1 = aims_same w.releases s.releaser.place i here in
+      aim_changes p w s i (move.aimed (task_entry s i) slot) (record (task s i) { words = move.aimed_words (task s i).words (move.aimed (task_entry s i) slot) }) shape below
+      (omega (arith, shape.aimed i below, more))
+      (λ j other. aims_other w.releases s.releaser.place i j here other)
+      (record {
+        current = fits;
+        kept = length-take-le (length (task_entry s i).kept) ((task_entry s i).current ∷ (task_entry s i).kept) (omega arith) ∙ e.kept;
+        kept_slots = λ j few. kept_on (wired w i).slots (wired w i).kept (task_entry s i).current j (task_entry s i).kept e.kept e.current e.kept_slots few;
+      })
+      (record {
+        gate = ok.gate;
+        aimed = omega (arith, ok.aimed);
+        aim = (fits, omega (arith, shape.aimed i below, more, shape.wiring.releases.aims_times (s.releaser.place + 1) i, t.few, ap length t.times));
+        slots = ok.slots;
+        place = ok.place;
+        heard = ok.heard;
+        each_heard = ok.each_heard;
+        now = ok.now;
+        later = ok.later;
+        row = ok.row;
+      })
+
+  -- the slot of a claim is one of the writer's
+  claimed_fits : (slots kept delay : ℕ) (e : TaskEntry) → e.current < slots → ((m : ℕ) → m < kept → get_or e.kept m 0 < slots) → delay ≤ kept → move.claimed_slot delay e.current e.kept < slots
+  claimed_fits slots kept zero e current each few = current
+  claimed_fits slots kept (suc d) e current each few = each d (omega arith)
+
+  claim_kept : (k : ℕ) → k < length w.links → rule.refusal w s (Claim k) ≡ None → IsShape p w (rule.next p w s (Claim k))
+  claim_kept k below free =
+      let next = next_none broken.Place (rule.release_kind (slice_get w.releases s.releaser.place)) 3 k free in
+      let here : slice_get w.releases s.releaser.place ≡ Some (release.Claim k) = at_claim (slice_get w.releases s.releaser.place) k next.0 next.1 in
+      let writer : (link w k).writer < length w.tasks = shape.wiring.writer k below in
+      let e : EntryShape (wired w (link w k).writer) (task_entry s (link w k).writer) = shape.each_entry (link w k).writer writer in
+      let slot : move.claimed_slot (link w k).delay (task_entry s (link w k).writer).current (task_entry s (link w k).writer).kept < (wired w (link w k).writer).slots =
+      claimed_fits (wired w (link w k).writer).slots (wired w (link w k).writer).kept (link w k).delay (task_entry s (link w k).writer) e.current e.kept_slots (shape.wiring.delay k below) in
+      let number : (task_entry s (link w k).writer).aimed - (link w k).delay ≤ MAX_OCCURRENCES = omega (arith, aimed_few (link w k).writer writer) in
+      let c = move.claimed (link w k).delay (task_entry s (link w k).writer) (task_entry s (link w k).reader) in
+      further_on p w (rule.with_claim s k c) (claim_changes p w s k c shape below (record { claim = (slot, number); order = (slot, number) })) (λ j. aims_claim w.releases s.releaser.place k j here)
+
+  open_kept : (i : ℕ) → i < length w.tasks → rule.refusal w s (OpenGate i) ≡ None → IsShape p w (rule.next p w s (OpenGate i))
+  open_kept i below free =
+      let next = next_none broken.Place (rule.release_kind (slice_get w.releases s.releaser.place)) 4 i free in
+      let here : slice_get w.releases s.releaser.place ≡ Some (release.OpenGate i) = at_open (slice_get w.releases s.releaser.place) i next.0 next.1 in
+      let ok : TaskShape w (declared p i) i (task_entry s i).aimed (task s i) = shape.each_task i below in
+      let t = record (task s i) { words = move.opened (task s i).words (task_entry s i).aimed } in
+      further_on p w (rule.with_task s i t) (task_changes p w s i t shape below (record {
+        gate = omega (arith, ok.gate, ok.aimed);
+        aimed = omega arith;
+        aim = ok.aim;
+        slots = ok.slots;
+        place = ok.place;
+        heard = ok.heard;
+        each_heard = ok.each_heard;
+        now = ok.now;
+        later = ok.later;
+        row = ok.row;
+      })) (λ j. aims_open w.releases s.releaser.place i j here)
+
+  -- the place of a task is the one of its allowed step
+  at_step : (i kind operand : ℕ) (rest : Option Illegal) → rule.or_else (rule.steps_next w s i kind operand) rest ≡ None → (task s i).part.place ≡ place_of kind (place_number (task s i).part.place)
+  at_step i kind operand rest free = at_next broken.TaskPlace (wired w i) (task s i).part.place kind operand (or_else_none _ _ free).0
+
+  start_on : (i : ℕ) → i < length w.tasks → (task s i).part.place ≡ place.Idle → IsShape p w (rule.next p w s (Start i))
+  start_on i below at =
+      let ok : TaskShape w (declared p i) i (task_entry s i).aimed (task s i) = shape.each_task i below in
+      elim (cases_Bool (rule.is_open s i)) [
+        | inl is ↦
+            let gate : (task s i).words.gate ≡ (task s i).part.ended + 1 = eqb-true (task s i).words.gate ((task s i).part.ended + 1) is in
+            rw is (task_changes p w s i (record (task s i) { part = move.at_place (task s i).part (place.Hear 0) }) shape below (start_kept w (declared p i) i (task_entry s i).aimed (task s i) ok at gate))
+        | inr isnt ↦ rw isnt (task_changes p w s i (task s i) shape below ok)
+      ]
+
+  -- what is ordered at a place of the hears fits
+  word_ordered : (i n : ℕ) → i < length w.tasks → n ≤ length (wired w i).links → OrderFits (wired w (slot_owner w i n)) (rule.order_word w s i n)
+  word_ordered i zero below few = (shape.each_task i below).aim
+  word_ordered i (suc n) below few = (shape.each_link (link_in (wired w i) n) ((shape.wiring.each_task i below).into n (omega arith))).order
+
+  hear_on : (i n : ℕ) → i < length w.tasks → (task s i).part.place ≡ place.Hear n → IsShape p w (rule.next p w s (Hear i))
+  hear_on i n below at =
+      let ok : TaskShape w (declared p i) i (task_entry s i).aimed (task s i) = shape.each_task i below in
+      let few : n ≤ length (wired w i).links = omega (arith, inside_at (wired w i) (task s i).part.place (place.Hear n) at ok.place) in
+      rw at (task_changes p w s i (record (task s i) { part = move.heard (wired w i) (task s i).part n (rule.order_word w s i n) }) shape below (hear_kept w (declared p i) i (task_entry s i).aimed (task s i) ok n (rule.order_word w s i n) at (word_ordered i n below few)))
+
+  look_on : (i r n : ℕ) → i < length w.tasks → (task s i).part.place ≡ place.Look n → IsShape p w (rule.next p w s (Look i r))
+  look_on i r n below at =
+      let ok : TaskShape w (declared p i) i (task_entry s i).aimed (task s i) = shape.each_task i below in
+      let few : n < length (wired w i).reads = inside_at (wired w i) (task s i).part.place (place.Look n) at ok.place in
+      elim (cases_Bool (rule.is_ready w s i n)) [
+        | inl is ↦ rw (at, is) (task_changes p w s i (record (task s i) { part = move.at_place (task s i).part (place.Take n) }) shape below
+            (goes_on w (declared p i) i (task_entry s i).aimed (task s i) ok (place.Take n) (task s i).words (task s i).work (ap running at) (ap (heard_by (1 + length (wired w i).links)) at) (record { inside = few; busy = refl; heard = refl }) refl refl ok.slots ok.now ok.later ok.row))
+        | inr isnt ↦ rw (at, isnt) (task_changes p w s i (task s i) shape below ok)
+      ]
+
+  take_on : (i r n : ℕ) → i < length w.tasks → (task s i).part.place ≡ place.Take n → IsShape p w (rule.next p w s (Take i r))
+  take_on i r n below at =
+      let ok : TaskShape w (declared p i) i (task_entry s i).aimed (task s i) = shape.each_task i below in
+      let work : WorkWords = move.with_read (declared p i) (task s i).work r (rule.read_word w s i n) in
+      rw at (task_changes p w s i (record { words = (task s i).words; part = move.took (wired w i) (task s i).part n; work = work }) shape below
+      (goes_on w (declared p i) i (task_entry s i).aimed (task s i) ok (move.read_place (length (wired w i).reads) (n + 1)) (task s i).words work (ap running at) (ap (heard_by (1 + length (wired w i).links)) at)
+      (goes_to_read (wired w i) (n + 1)) refl refl ok.slots (length-set (task s i).work.now (length (declared p i).states + length (declared p i).senses + r) (rule.read_word w s i n) ∙ ok.now) ok.later ok.row))
+
+  -- a task that has heard all its orders has heard its own
+  own_fits : (i : ℕ) → i < length w.tasks → heard_by (1 + length (wired w i).links) (task s i).part.place ≡ 1 + length (wired w i).links → move.own_slot (task s i).part < (wired w i).slots
+  own_fits i below all =
+      let ok : TaskShape w (declared p i) i (task_entry s i).aimed (task s i) = shape.each_task i below in
+      (ok.each_heard 0 (omega (arith, ok.heard, all))).0
+
+  shut_on : (i : ℕ) → i < length w.tasks → (task s i).part.place ≡ place.Shut → IsShape p w (rule.next p w s (Shut i))
+  shut_on i below at =
+      let ok : TaskShape w (declared p i) i (task_entry s i).aimed (task s i) = shape.each_task i below in
+      let t : IsTaskWired p w i (wired w i) = shape.wiring.each_task i below in
+      let all : heard_by (1 + length (wired w i).links) (task s i).part.place ≡ 1 + length (wired w i).links = ap (heard_by (1 + length (wired w i).links)) at in
+      let d : Task = declared p i in
+      let senses : List ℤ = rule.sensed p w s i in
+      let count : length senses ≡ length d.senses = length-map d.senses _ in
+      let room : length (take (let_base d) (move.with_senses d senses (task s i).work).now) ≡ let_base d =
+      length-take-le (let_base d) (move.with_senses d senses (task s i).work).now
+      (omega (arith, ok.now, count, length-append (take (length d.states) (task s i).work.now) (senses ++ drop (length d.states + length senses) (task s i).work.now), length-append senses (drop (length d.states + length senses) (task s i).work.now), length-take-le (length d.states) (task s i).work.now (omega (arith, ok.now)), length-drop (length d.states + length senses) (task s i).work.now)) in
+      let fits : WorkFits d (move.worked d senses (task s i).work) = computed_fits d (length p.diagram.inputs) (length p.diagram.events) (length p.diagram.links) (take (let_base d) (move.with_senses d senses (task s i).work).now) t.closed room in
+      task_changes p w s i (record { words = move.stamped (task s i).words (move.own_slot (task s i).part) 0; part = move.at_place (task s i).part (place.Put 0); work = move.worked d senses (task s i).work }) shape below
+      (goes_on w d i (task_entry s i).aimed (task s i) ok (place.Put 0) (move.stamped (task s i).words (move.own_slot (task s i).part) 0) (move.worked d senses (task s i).work) (ap running at) all
+      (record { inside = t.some_port; busy = refl; heard = refl }) refl refl (stamped_fit (wired w i) (task s i).words (move.own_slot (task s i).part) 0 ok.slots (own_fits i below all)) fits.now fits.later fits.row)
+
+  put_on : (i port n : ℕ) → i < length w.tasks → (task s i).part.place ≡ place.Put n → IsShape p w (rule.next p w s (Put i port))
+  put_on i port n below at =
+      let ok : TaskShape w (declared p i) i (task_entry s i).aimed (task s i) = shape.each_task i below in
+      let all : heard_by (1 + length (wired w i).links) (task s i).part.place ≡ 1 + length (wired w i).links = ap (heard_by (1 + length (wired w i).links)) at in
+      let words = move.with_word (task s i).words (move.own_slot (task s i).part) port _ in
+      task_changes p w s i _ shape below
+      (goes_on w (declared p i) i (task_entry s i).aimed (task s i) ok (move.put_place (wired w i).ports (port + 1)) words (task s i).work (ap running at) all
+      (goes_to_put (wired w i) (port + 1)) refl refl (word_fits (wired w i) (task s i).words (move.own_slot (task s i).part) port _ ok.slots (own_fits i below all)) ok.now ok.later ok.row)
+
+  done_on : (i : ℕ) → i < length w.tasks → (task s i).part.place ≡ place.Done → IsShape p w (rule.next p w s (Done i))
+  done_on i below at =
+      let ok : TaskShape w (declared p i) i (task_entry s i).aimed (task s i) = shape.each_task i below in
+      let all : heard_by (1 + length (wired w i).links) (task s i).part.place ≡ 1 + length (wired w i).links = ap (heard_by (1 + length (wired w i).links)) at in
+      let stamp : ℕ = (task s i).part.ended + 2 in
+      task_changes p w s i (record { words = move.stamped (task s i).words (move.own_slot (task s i).part) stamp; part = move.at_place (task s i).part place.End; work = (task s i).work }) shape below
+      (goes_on w (declared p i) i (task_entry s i).aimed (task s i) ok place.End (move.stamped (task s i).words (move.own_slot (task s i).part) stamp) (task s i).work (ap running at) all
+      (record { inside = omega arith; busy = refl; heard = refl }) refl refl (stamped_fit (wired w i) (task s i).words (move.own_slot (task s i).part) stamp ok.slots (own_fits i below all)) ok.now ok.later ok.row)
+
+  end_on : (i : ℕ) → i < length w.tasks → (task s i).part.place ≡ place.End → IsShape p w (rule.next p w s (End i))
+  end_on i below at =
+      let ok : TaskShape w (declared p i) i (task_entry s i).aimed (task s i) = shape.each_task i below in
+      task_changes p w s i _ shape below (end_kept w (declared p i) i (task_entry s i).aimed (task s i) ok at)
+
+  -- a task of the diagram is one of the wiring
+  there : (i : ℕ) → i < length p.diagram.tasks → i < length w.tasks
+  there i below = rw shape.wiring.tasks below
+
+  pub step_kept : (e : Step) → rule.IsNamed p.diagram e → rule.refusal w s e ≡ None → IsShape p w (rule.next p w s e)
+  step_kept (Seen i) named free = seen_kept i (there i named)
+  step_kept (Aim i slot) named free = aim_kept i slot (there i named) free
+  step_kept (Claim k) named free = claim_kept k (rw shape.wiring.links named) free
+  step_kept (OpenGate i) named free = open_kept i (there i named) free
+  step_kept (Start i) named free = start_on i (there i named) (at_step i 5 0 _ free)
+  step_kept (Hear i) named free = hear_on i _ (there i named) (at_step i 6 0 _ free)
+  step_kept (Look i r) named free = look_on i r _ (there i named) (at_step i 7 r _ free)
+  step_kept (Take i r) named free = take_on i r _ (there i named) (at_step i 8 r _ free)
+  step_kept (Shut i) named free = shut_on i (there i named) (at_step i 9 0 _ free)
+  step_kept (Put i port) named free = put_on i port _ (there i named) (at_step i 10 port _ free)
+  step_kept (Done i) named free = done_on i (there i named) (at_step i 11 0 _ free)
+  step_kept (End i) named free = end_on i (there i named) (at_step i 12 0 _ free)
+
+-- so does a step that is asked for, allowed or not
+answers_kept : (why : Option Illegal) (p : Plan) (w : Wiring) (s new : State) (e : Step) (result : Result Heard Illegal) → IsShape p w s → (why ≡ None → IsShape p w (rule.next p w s e)) → rule.IsAnswer why p w s e result new → IsShape p w new
+answers_kept None p w s new e result shape go is = subst (λ (x : State). IsShape p w x) (sym is.1) (go refl)
+answers_kept (Some x) p w s new e result shape go is = subst (λ (x : State). IsShape p w x) (sym is.1) shape
+
+pub asked_kept : (p : Plan) (w : Wiring) (s new : State) (e : Step) (result : Result Heard Illegal) → IsShape p w s → rule.IsNamed p.diagram e → rule.IsStep p w s e result new → IsShape p w new
+asked_kept p w s new e result shape named is = answers_kept (rule.refusal w s e) p w s new e result shape (λ free. step_kept p w s shape e named free) is

@@ -1,0 +1,7 @@
+use Rattle.dbp_rules.specs.Wired.{wiring_of}
+use Rattle.dbp_rules.proofs.SoundOwn.{own_wiring}
+use Rattle.dbp_rules.proofs.TakenWords.{take_meant}
+use Rattle.dbp_rules.proofs.soundness.a_sound_take_hears_the_meaning.Goals as goal
+
+pub returns : goal.returns
+returns c = λ p count table s i r meaning sound named free. take_meant p (wiring_of p count) table s i r (own_wiring p count) meaning sound named free

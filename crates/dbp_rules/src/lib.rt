@@ -1,0 +1,31 @@
+//! The rules of the protocol: its state of shared words and of the parts of the releaser and the tasks, what each step
+//! hears and makes of it, and what holds of every state that steps lead to.
+#![tactic(auto)]
+
+mod laws;
+mod parts;
+mod soundness;
+mod start;
+mod state;
+mod step;
+mod wire;
+mod wiring;
+mod work;
+
+pub use laws::{
+    a_delayed_look_is_ready, a_ranked_look_is_ready, a_step_changes_no_claimed_row,
+    a_take_hears_the_meaning, allowed_steps_lead_to_sound_states, an_aim_names_no_claimed_slot,
+};
+pub use parts::{LinkEntry, MAX_ORDERS, Order, Place, ReleaserPart, TaskEntry, TaskPart};
+pub use soundness::{
+    a_slot_is_free_for_each_aim, a_sound_delayed_look_is_ready, a_sound_ranked_look_is_ready,
+    a_sound_take_hears_the_meaning, a_step_keeps_a_state_sound, a_step_spares_claimed_rows,
+    a_step_stores_one_word, an_aim_spares_claimed_slots, soundness_has_ten_parts,
+    the_start_is_sound,
+};
+pub use start::start_state;
+pub use state::{Slot, State, TaskState, TaskWords};
+pub use step::{Broken, Count, Heard, Illegal, Step};
+pub use wire::wire_plan;
+pub use wiring::{LinkEnd, ReadWiring, TaskWiring, Wiring};
+pub use work::Work;

@@ -1,0 +1,63 @@
+// What the steps look up in a plan, made once.
+
+use crate::step::Count;
+use dbp_plan::{Link, List, Sample};
+use release_list::Release;
+
+/// An end of a link.
+#[derive(Clone, Copy)]
+pub enum LinkEnd {
+    /// The task whose outs the link carries.
+    Writer,
+    /// The task that reads them.
+    Reader,
+}
+
+/// A read of a task, at its turn.
+#[derive(Clone, Copy, Debug, PartialEq, Eq)]
+pub struct ReadWiring {
+    /// Its number among the task's reads.
+    pub read: u32,
+    /// The place of its link's order among those that the task hears.
+    pub order: u32,
+    /// The task that it reads.
+    pub writer: u32,
+    /// The writer's out.
+    pub port: u32,
+}
+
+/// A task, as the steps see it.
+#[derive(Drop)]
+pub struct TaskWiring {
+    /// How many outs it has.
+    pub ports: u32,
+    /// How many slots it has under the count.
+    pub slots: u32,
+    /// How many slots before the current one are kept: the longest delay of the links that leave it.
+    pub kept: u32,
+    /// 0 is the highest.
+    pub rank: u32,
+    /// The times of its instances.
+    pub times: List<u64>,
+    /// The links into it.
+    pub links: List<u32>,
+    /// The links that leave it.
+    pub leaving: List<u32>,
+    /// Its reads in the order of their turns: by the tick of the task's service, then by declaration.
+    pub reads: List<ReadWiring>,
+}
+
+/// What the steps look up in a plan.
+#[derive(Drop)]
+pub struct Wiring {
+    /// Which links keep a writer from a slot.
+    pub count: Count,
+    /// By their numbers.
+    pub tasks: List<TaskWiring>,
+    /// The diagram's.
+    pub links: List<Link>,
+    /// The releaser's actions, in order.
+    pub releases: List<Release>,
+    /// The samples of each input.
+    pub samples: List<List<Sample>>,
+}
