@@ -46,9 +46,9 @@ module _ {S K : Type 0} (left : S → Option (List ℕ)) (source_faults : S → 
     pub no_fault : source_faults new_source ≡ source_faults source
     pub silent : new_sink ≡ sink
 
-  -- memory ran out, at most one byte more than the limit was taken, no read failed, and nothing was written
+  -- memory ran out, at most as many bytes as the limit were taken, no read failed, and nothing was written
   pub record RanOut (source new_source : S) (sink new_sink : K) : Type 0 where
-    pub taken : LosesFront (left source) (left new_source) (λ n. n ≤ MAX_DOCUMENT + 1)
+    pub taken : LosesFront (left source) (left new_source) (λ n. n ≤ MAX_DOCUMENT)
     pub no_fault : source_faults new_source ≡ source_faults source
     pub silent : new_sink ≡ sink
 

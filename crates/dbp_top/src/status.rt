@@ -1,3 +1,8 @@
+// How a call ends.
+
+ghost use Rattle.std.specs.Prelude.{◌≡◌};
+ghost use Rattle.dbp_top.specs.Notes.{note_text};
+
 /// How a call of the program ended. The numbers are the exit statuses of the program `dbp`.
 #[derive(Clone, Copy, Debug, PartialEq, Eq)]
 pub enum Status {
@@ -17,8 +22,18 @@ pub enum Status {
     TooLarge = 7,
 }
 
+const _: () = prove!(
+    Status::Ok as u8 == 0 && Status::Refused as u8 == 1 && Status::Usage as u8 == 2
+);
+
+const _: () = prove!(Status::ReadFault as u8 == 4 && Status::WriteFault as u8 == 5);
+
+const _: () = prove!(Status::NoMemory as u8 == 6 && Status::TooLarge as u8 == 7);
+
 /// A line for the standard error.
-pub fn note(status: Status) -> &'static str {
+pub fn note(status: Status) -> &'static str
+    ensures { result.now ≡ note_text status }
+{
     match status {
         Status::Ok => "done",
         Status::Refused => "the document was refused",

@@ -1,7 +1,7 @@
 // Reads and writes that fail, and the adapters of std's reader and writer.
 
 use super::documents::{TWO_RATES, TWO_RATES_LINES, call};
-use crate::{Status, dbp_main, note};
+use crate::{Status, dbp_main};
 use dbp_plan::{ReadSource, WriteSink};
 use std::test::Fail;
 
@@ -62,67 +62,23 @@ fn each_failing_write_ends_the_call(rt: HostRuntime) -> Result<(), Fail> {
     Ok(())
 }
 
-#[test]
-fn there_are_no_more_reads_and_writes(rt: HostRuntime) -> Result<(), Fail> {
-    let answer = call(
-        rt.alloc(),
-        &["mean"],
-        TWO_RATES.as_bytes(),
-        (16, 15),
-        (8, 7),
-    )?;
-    assert_eq!(rt; answer.0, Status::Ok);
-    Ok(())
-}
-
-#[test]
-fn a_reader_and_a_writer_are_adapted(rt: HostRuntime) -> Result<(), Fail> {
-    let alloc = rt.alloc();
-    let mut words = Vec::new(alloc);
-    words.push("mean".to_string(alloc)?)?;
-    let mut written = Vec::<u8>::new(alloc);
-    let mut source = ReadSource::new(b"dbp 1\npolicy fp\nuntil".as_slice());
-    let mut sink = WriteSink::new(&mut written);
-    let status = dbp_main(alloc, &words, &mut source, &mut sink);
-    drop(sink);
-    assert_eq!(rt; status, Status::Refused);
-    assert_eq!(rt;
-        written.as_slice(),
-        b"refused: line 3: 3 BadLine\n".as_slice()
-    );
-    Ok(())
-}
-
-static NOTES: [(Status, u8, &str); 7] = [
-    (Status::Ok, 0, "done"),
-    (Status::Refused, 1, "the document was refused"),
-    (
-        Status::Usage,
-        2,
-        "usage: dbp COMMAND < DOCUMENT, where COMMAND is one of:",
-    ),
-    (
-        Status::ReadFault,
-        4,
-        "a read of the input failed; nothing was written",
-    ),
-    (
-        Status::WriteFault,
-        5,
-        "a write of the output failed; not all of it was written",
-    ),
-    (Status::NoMemory, 6, "memory ran out; nothing was written"),
-    (
-        Status::TooLarge,
-        7,
-        "the document has more than 1048576 bytes; nothing was written",
-    ),
+// A document, the first read and the first write behind what is to be read and written, and the status.
+static BEHIND: [(&str, u32, u32, Status); 2] = [
+    (TWO_RATES, 15, 7, Status::Ok),
+    ("", 2, 6, Status::Refused),
 ];
 
 #[test]
-fn statuses_have_numbers_and_notes(rt: HostRuntime) {
-    for (status, number, text) in &NOTES {
-        assert_eq!(rt; *status as u8, *number);
-        assert_eq!(rt; note(*status), *text);
+fn there_are_no_more_reads_and_writes(rt: HostRuntime) -> Result<(), Fail> {
+    for (document, read, write, status) in &BEHIND {
+        let answer = call(
+            rt.alloc(),
+            &["mean"],
+            document.as_bytes(),
+            (16, *read),
+            (8, *write),
+        )?;
+        assert_eq!(rt; answer.0, *status, "on {document}");
     }
+    Ok(())
 }
