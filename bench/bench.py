@@ -102,6 +102,8 @@ def measured(program: str, command: str, text: str) -> tuple[float, float, float
 
 def main() -> None:
     program = sys.argv[1] if len(sys.argv) > 1 else str(TOP / "crates/dbp/out/dbp")
+    if not os.access(program, os.X_OK):
+        sys.exit(f"{program} is no program; ./dbp builds it at its first call")
     print(f"{'document':<37}{'wall s':>9}{'cpu s':>9}{'peak MB':>10}")
     for command, name, text in [
         *(("mean", f"1 task, {n} occurrences", one_task(n)) for n in (12_500, 25_000, 50_000, 100_000)),
