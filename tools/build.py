@@ -36,10 +36,11 @@ class Failed(Exception):
 
 
 class Crate:
-    """A crate of crates.txt, with the names of this repository's crates that it stands on."""
+    """A crate: its line of crates.txt, and the names of this repository's crates that it stands on."""
 
-    def __init__(self, name, below):
+    def __init__(self, name, line, below):
         self.name = name
+        self.line = line
         self.below = below
         self.folder = TOP / "crates" / name
         files = [it for part in PARTS for it in (self.folder / part).rglob("*") if it.is_file()]
@@ -50,15 +51,16 @@ def crates_of(program):
     """Returns the crates that the program is made of, by name, each after those that it stands on."""
     lines, found = {}, {}
     for line in (TOP / "crates.txt").read_text().splitlines():
-        head, colon, below = line.partition("#")[0].partition(":")
+        head, colon, _ = line.partition("#")[0].partition(":")
         if colon:
-            lines[head.split()[0]] = below.split()
+            lines[head.split()[0]] = line
 
     def add(name):
-        if name in lines and name not in found:
-            for it in lines[name]:
+        below = [it for it in lines[name].partition("#")[0].partition(":")[2].split() if it in lines]
+        for it in below:
+            if it not in found:
                 add(it)
-            found[name] = Crate(name, [it for it in lines[name] if it in lines])
+        found[name] = Crate(name, lines[name], below)
 
     add(program)
     return found
@@ -106,9 +108,10 @@ class Room:
         self.at = self.folder / "crates" / crate.name
         self.crate = crate
         self.folder.mkdir()
-        for file in ("crates.txt", "HANDLES"):
-            os.link(rooms / "sources" / file, self.folder / file)
-        for name in {crate.name} | all_below(crates, crate.name):
+        shutil.copyfile(TOP / "HANDLES", self.folder / "HANDLES")
+        names = {crate.name} | all_below(crates, crate.name)
+        (self.folder / "crates.txt").write_text("".join(f"{crates[name].line}\n" for name in names))
+        for name in names:
             self.link(rooms / "sources" / name, name)
             if name != crate.name:
                 self.link(crates[name].folder / "out" / "rlib", f"{name}/out/rlib")
@@ -138,9 +141,6 @@ class Build:
 
     def snapshot(self):
         """Copies the sources, so that an edit made meanwhile changes nothing here."""
-        for file in ("crates.txt", "HANDLES"):
-            os.makedirs(self.rooms / "sources", exist_ok=True)
-            shutil.copyfile(TOP / file, self.rooms / "sources" / file)
         for it in self.crates.values():
             for part in PARTS:
                 if (it.folder / part).is_dir():
