@@ -10,8 +10,6 @@ mod refusal;
 mod slot_lines;
 mod status;
 mod stop;
-#[cfg(test)]
-mod tests;
 mod top;
 
 pub use command::command_lines;

@@ -1,33 +1,112 @@
-// Steps of the protocol on worked documents: what each hears, or why it is refused.
+// The protocol on worked documents: the releases and the wiring of a plan, the state before the first step, and the steps
+// of a core, with the rows that they compute and the two values of each refusal.
 
-ghost use Rattle.std.specs.Prelude.{IsTrue};
+ghost use Rattle.std.specs.Prelude.{◌≤◌, IsTrue, length};
+ghost use Rattle.dbp_plan.specs.Closed.{place_count};
 ghost use Rattle.dbp_rules.specs.Rules.{IsNamed};
 
-use super::base::plan_in;
-use super::documents::TWO_RATES;
+use crate::inputs::{THREE_RATES, TWO_RATES, plan_in};
 use dbp_core::{Broken, Core, Count, Heard, Illegal, Step};
-use dbp_plan::Plan;
-use dbp_rules::{ReadWiring, start_state, wire_plan};
+use dbp_plan::{MAX_BODY, Plan, Task};
+use dbp_rules::{ReadWiring, Work, start_state, wire_plan};
+use release_list::{Release, releases};
 use std::alloc::Global;
 use std::process::Abort;
 use std::test::Fail;
 
-// A third task, ranked above the others, reads `a` through a delay.
-pub(super) const THREE_RATES: &str = "dbp 1
-policy fp
-until 6
-task a every 2 from 0 prio 2 cost 1
-  state n = 0
-  next n = n + 1
-  out y = 0 then n + 1
-task b every 3 from 0 prio 1 cost 2
-  read x = a.y
-  out z = 0 then x * 10
-task h every 1 prio 3 cost 1
-  read x = pre a.y
-  out w = -1 then x
-done
-";
+// Task 0 occurs at 0, 2 and 4, task 1, which reads it over link 0, at 0 and 3.
+static RELEASES: &[Release] = &[
+    Release::Aim { task: 0 },
+    Release::Aim { task: 1 },
+    Release::Claim { link: 0 },
+    Release::OpenGate { task: 0 },
+    Release::OpenGate { task: 1 },
+    Release::Aim { task: 0 },
+    Release::OpenGate { task: 0 },
+    Release::Aim { task: 1 },
+    Release::Claim { link: 0 },
+    Release::OpenGate { task: 1 },
+    Release::Aim { task: 0 },
+    Release::OpenGate { task: 0 },
+];
+
+#[test]
+fn a_plan_has_releases(rt: HostRuntime) -> Result<(), Fail> {
+    let plan = plan_in(rt.alloc(), TWO_RATES)?;
+    let list = releases(rt.alloc(), &plan)?;
+    assert_eq!(rt; list.items(), RELEASES);
+    Ok(())
+}
+
+// Task b at its only read, whose order it hears after its own.
+static READ: ReadWiring = ReadWiring {
+    read: 0,
+    order: 1,
+    writer: 0,
+    port: 0,
+};
+
+#[test]
+fn a_plan_is_wired(rt: HostRuntime) -> Result<(), Fail> {
+    let plan = plan_in(rt.alloc(), TWO_RATES)?;
+    let wiring = wire_plan(rt.alloc(), &plan, Count::All)?;
+    let [a, b] = wiring.tasks.items() else {
+        return Err(Fail::from("not two tasks"));
+    };
+    assert_eq!(rt; (a.ports, a.slots, a.kept, a.rank), (1, 2, 0, 0));
+    assert_eq!(rt; (b.ports, b.slots, b.kept, b.rank), (1, 1, 0, 1));
+    assert_eq!(rt; a.times.items(), [0, 2, 4].as_slice());
+    assert_eq!(rt; b.times.items(), [0, 3].as_slice());
+    assert_eq!(rt; b.reads.items(), [READ].as_slice());
+    Ok(())
+}
+
+#[test]
+fn a_state_is_started(rt: HostRuntime) -> Result<(), Fail> {
+    let plan = plan_in(rt.alloc(), THREE_RATES)?;
+    let wiring = wire_plan(rt.alloc(), &plan, Count::Ranked)?;
+    let state = start_state(rt.alloc(), &plan, &wiring)?;
+    let [a, _, h] = state.tasks.items() else {
+        return Err(Fail::from("not three tasks"));
+    };
+    let stamps = [1, 0, 0];
+    assert_eq!(rt; a.words.slots.len(), 3);
+    for (slot, stamp) in a.words.slots.items().iter().zip(stamps) {
+        assert_eq!(rt; slot.stamp, stamp);
+        assert_eq!(rt; slot.words.items(), [0].as_slice());
+    }
+    assert_eq!(rt; h.work.row().words(), [-1].as_slice());
+    Ok(())
+}
+
+// The row that the task's work starts with.
+fn first_word(alloc: Global, task: &Task) -> Result<i64, Fail> {
+    if !is_small(task) {
+        return Err(Fail::from("too large a task"));
+    }
+    let work = Work::start(alloc, task)?;
+    match work.row().words() {
+        [word] => Ok(*word),
+        _ => Err(Fail::from("not one word")),
+    }
+}
+
+// Whether the task's places and outs are as few as a work takes.
+fn is_small(task: &Task) -> bool
+    ensures { IsTrue result → (place_count task.now ≤ MAX_BODY) × (length task.now.outs ≤ 8) }
+{
+    let given = task.states.items().len() + task.senses.items().len() + task.reads.items().len();
+    given + task.lets.items().len() <= MAX_BODY as usize && task.outs.len() <= 8
+}
+
+#[test]
+fn a_work_starts_with_first_values(rt: HostRuntime) -> Result<(), Fail> {
+    let plan = plan_in(rt.alloc(), THREE_RATES)?;
+    for (task, word) in plan.diagram.tasks.items().iter().zip([0, 0, -1]) {
+        assert_eq!(rt; first_word(rt.alloc(), task)?, word);
+    }
+    Ok(())
+}
 
 // Task b starts before a, and waits for its row; a ends while b still claims its slot, and is aimed at another one.
 static WAITING: &[(Step, Heard)] = &[
@@ -52,7 +131,7 @@ static WAITING: &[(Step, Heard)] = &[
     (Step::Aim { task: 0, slot: 1 }, Heard::Stored),
 ];
 
-// All three tasks are released. The delayed reader is told slot 0 with the first values, and takes them.
+// All three tasks are released. The delayed reader hears of slot 0 with the first values, and takes them.
 static DELAYED: &[(Step, Heard)] = &[
     (Step::Aim { task: 0, slot: 1 }, Heard::Stored),
     (Step::Aim { task: 1, slot: 0 }, Heard::Stored),
@@ -76,7 +155,7 @@ static DELAYED: &[(Step, Heard)] = &[
 ];
 
 // Two tasks of one deadline, of which the second reads the first.
-pub(super) const ONE_DEADLINE: &str = "dbp 1
+const ONE_DEADLINE: &str = "dbp 1
 policy edf
 until 2
 task u every 2 deadline 2 cost 1
@@ -111,11 +190,52 @@ static SERVED: &[(Step, Heard)] = &[
     (Step::End { task: 1 }, Heard::Stored),
 ];
 
-// A step that is refused behind so many steps of `WAITING`.
+// Steps from the start of a document's core, and the only word of a task's row after them.
+struct Run {
+    document: &'static str,
+    count: Count,
+    steps: &'static [(Step, Heard)],
+    task: u32,
+    word: i64,
+}
+
+// Before the first step a row has its first values.
+static RUNS: [Run; 4] = [
+    Run {
+        document: THREE_RATES,
+        count: Count::All,
+        steps: &[],
+        task: 2,
+        word: -1,
+    },
+    Run {
+        document: TWO_RATES,
+        count: Count::All,
+        steps: WAITING,
+        task: 0,
+        word: 1,
+    },
+    Run {
+        document: THREE_RATES,
+        count: Count::All,
+        steps: DELAYED,
+        task: 2,
+        word: 0,
+    },
+    Run {
+        document: ONE_DEADLINE,
+        count: Count::Ranked,
+        steps: SERVED,
+        task: 1,
+        word: 6,
+    },
+];
+
+// A step that is refused after so many steps of `WAITING`.
 struct Refusal {
     document: &'static str,
     count: Count,
-    behind: usize,
+    after: usize,
     step: Step,
     why: Illegal,
 }
@@ -125,7 +245,7 @@ static REFUSED: [Refusal; 9] = [
     Refusal {
         document: TWO_RATES,
         count: Count::All,
-        behind: 0,
+        after: 0,
         step: Step::OpenGate { task: 0 },
         why: Illegal {
             broken: Broken::Place,
@@ -137,7 +257,7 @@ static REFUSED: [Refusal; 9] = [
     Refusal {
         document: TWO_RATES,
         count: Count::All,
-        behind: 0,
+        after: 0,
         step: Step::Aim { task: 1, slot: 0 },
         why: Illegal {
             broken: Broken::Place,
@@ -148,7 +268,7 @@ static REFUSED: [Refusal; 9] = [
     Refusal {
         document: TWO_RATES,
         count: Count::All,
-        behind: 0,
+        after: 0,
         step: Step::Aim { task: 0, slot: 9 },
         why: Illegal {
             broken: Broken::SlotRange,
@@ -160,7 +280,7 @@ static REFUSED: [Refusal; 9] = [
     Refusal {
         document: TWO_RATES,
         count: Count::All,
-        behind: 0,
+        after: 0,
         step: Step::Hear { task: 1 },
         why: Illegal {
             broken: Broken::TaskPlace,
@@ -171,7 +291,7 @@ static REFUSED: [Refusal; 9] = [
     Refusal {
         document: THREE_RATES,
         count: Count::All,
-        behind: 0,
+        after: 0,
         step: Step::Aim { task: 0, slot: 0 },
         why: Illegal {
             broken: Broken::SlotKept,
@@ -183,7 +303,7 @@ static REFUSED: [Refusal; 9] = [
     Refusal {
         document: TWO_RATES,
         count: Count::All,
-        behind: 5,
+        after: 5,
         step: Step::Aim { task: 0, slot: 1 },
         why: Illegal {
             broken: Broken::LastNotEnded,
@@ -195,7 +315,7 @@ static REFUSED: [Refusal; 9] = [
     Refusal {
         document: TWO_RATES,
         count: Count::All,
-        behind: 18,
+        after: 18,
         step: Step::Aim { task: 0, slot: 0 },
         why: Illegal {
             broken: Broken::SlotClaimed,
@@ -207,7 +327,7 @@ static REFUSED: [Refusal; 9] = [
     Refusal {
         document: TWO_RATES,
         count: Count::Ranked,
-        behind: 5,
+        after: 5,
         step: Step::Start { task: 1 },
         why: Illegal {
             broken: Broken::HigherUnfinished,
@@ -219,7 +339,7 @@ static REFUSED: [Refusal; 9] = [
     Refusal {
         document: TWO_RATES,
         count: Count::All,
-        behind: 16,
+        after: 16,
         step: Step::Start { task: 0 },
         why: Illegal {
             broken: Broken::TaskPlace,
@@ -265,7 +385,7 @@ fn is_named(plan: &Plan, step: Step) -> bool
     }
 }
 
-// The answer to a step, which must be named.
+// Makes a step, which must be named.
 fn ask(core: &mut Core, step: Step) -> Result<Result<Heard, Illegal>, Fail> {
     if is_named(core.plan(), step) {
         Ok(core.step(step))
@@ -282,121 +402,39 @@ fn make(rt: &impl Abort, core: &mut Core, steps: &[(Step, Heard)]) -> Result<(),
     Ok(())
 }
 
-// Makes the steps from the start, behind which the task's row has this word alone.
-fn take(
-    rt: &impl Abort,
-    mut core: Core,
-    steps: &[(Step, Heard)],
-    task: u32,
-    word: i64,
-) -> Result<(), Fail> {
-    make(rt, &mut core, steps)?;
-    assert_eq!(rt; word_of(&core, task)?, word);
+// Makes the steps of the run, and compares the word.
+fn take(rt: &impl Abort, alloc: Global, run: &Run) -> Result<(), Fail> {
+    let mut core = core_of(alloc, run.document, run.count)?;
+    make(rt, &mut core, run.steps)?;
+    assert_eq!(rt; word_of(&core, run.task)?, run.word);
     Ok(())
 }
 
-// Behind the steps asks for the refused one twice, since nothing has changed behind a refusal.
-fn refuse(rt: &impl Abort, mut core: Core, refusal: &Refusal) -> Result<(), Fail> {
-    if refusal.behind > WAITING.len() {
+// Asks for the refused step twice, since nothing changes with a refusal.
+fn refuse(rt: &impl Abort, alloc: Global, refusal: &Refusal) -> Result<(), Fail> {
+    let mut core = core_of(alloc, refusal.document, refusal.count)?;
+    if refusal.after > WAITING.len() {
         return Err(Fail::from("not so many steps"));
     }
-    make(rt, &mut core, &WAITING[..refusal.behind])?;
+    make(rt, &mut core, &WAITING[..refusal.after])?;
     for _ in 0..2 {
         assert_eq!(rt; ask(&mut core, refusal.step)?, Err(refusal.why));
     }
     Ok(())
 }
 
-// Task b at its only read, which it hears behind its own order.
-static READ: ReadWiring = ReadWiring {
-    read: 0,
-    order: 1,
-    writer: 0,
-    port: 0,
-};
-
 #[test]
-fn a_plan_is_wired(rt: HostRuntime) -> Result<(), Fail> {
-    let plan = plan_in(rt.alloc(), TWO_RATES)?;
-    let wiring = wire_plan(rt.alloc(), &plan, Count::All)?;
-    let [a, b] = wiring.tasks.items() else {
-        return Err(Fail::from("not two tasks"));
-    };
-    assert_eq!(rt; (a.ports, a.slots, a.kept, a.rank), (1, 2, 0, 0));
-    assert_eq!(rt; (b.ports, b.slots, b.kept, b.rank), (1, 1, 0, 1));
-    assert_eq!(rt; a.times.items(), [0, 2, 4].as_slice());
-    assert_eq!(rt; b.times.items(), [0, 3].as_slice());
-    assert_eq!(rt; b.reads.items(), [READ].as_slice());
-    Ok(())
-}
-
-#[test]
-fn a_state_is_started(rt: HostRuntime) -> Result<(), Fail> {
-    let plan = plan_in(rt.alloc(), THREE_RATES)?;
-    let wiring = wire_plan(rt.alloc(), &plan, Count::Ranked)?;
-    let state = start_state(rt.alloc(), &plan, &wiring)?;
-    let [a, _, h] = state.tasks.items() else {
-        return Err(Fail::from("not three tasks"));
-    };
-    let stamps = [1, 0, 0];
-    assert_eq!(rt; a.words.slots.len(), 3);
-    for (slot, stamp) in a.words.slots.items().iter().zip(stamps) {
-        assert_eq!(rt; slot.stamp, stamp);
-        assert_eq!(rt; slot.words.items(), [0].as_slice());
+fn steps_compute_rows(rt: HostRuntime) -> Result<(), Fail> {
+    for run in &RUNS {
+        take(&rt, rt.alloc(), run)?;
     }
-    assert_eq!(rt; h.work.row().words(), [-1].as_slice());
     Ok(())
-}
-
-#[test]
-fn a_row_begins_with_its_first_values(rt: HostRuntime) -> Result<(), Fail> {
-    take(
-        &rt,
-        core_of(rt.alloc(), THREE_RATES, Count::All)?,
-        &[],
-        2,
-        -1,
-    )
-}
-
-#[test]
-fn a_reader_waits_for_its_row(rt: HostRuntime) -> Result<(), Fail> {
-    take(
-        &rt,
-        core_of(rt.alloc(), TWO_RATES, Count::All)?,
-        WAITING,
-        0,
-        1,
-    )
-}
-
-#[test]
-fn a_delayed_reader_takes_what_stood_before(rt: HostRuntime) -> Result<(), Fail> {
-    take(
-        &rt,
-        core_of(rt.alloc(), THREE_RATES, Count::All)?,
-        DELAYED,
-        2,
-        0,
-    )
-}
-
-#[test]
-fn tasks_step_by_their_ranks(rt: HostRuntime) -> Result<(), Fail> {
-    take(
-        &rt,
-        core_of(rt.alloc(), ONE_DEADLINE, Count::Ranked)?,
-        SERVED,
-        1,
-        6,
-    )
 }
 
 #[test]
 fn steps_are_refused_with_their_values(rt: HostRuntime) -> Result<(), Fail> {
     for refusal in &REFUSED {
-        let core = core_of(rt.alloc(), refusal.document, refusal.count)?;
-        refuse(&rt, core, refusal)?;
+        refuse(&rt, rt.alloc(), refusal)?;
     }
     Ok(())
 }
