@@ -11,7 +11,7 @@ TEXTS = [
     ("name", MANY * "a", 1, "5 NameTooLong"),
     ("line_of_blanks", MANY * " ", 1, "8 MissingHeader"),
     ("blank_lines", MANY * "\n", 1, "8 MissingHeader"),
-    ("blank_lines_behind_until", START + MANY * "\n", MANY + 4, "7 MissingDone"),
+    ("blank_lines_after_until", START + MANY * "\n", MANY + 4, "7 MissingDone"),
     ("let_of_parentheses", START + "let x = " + MANY * "(", 4, "9 DepthHit"),
     ("let_of_signs", START + "let x = " + MANY * "-", 4, "6 LimitHit nodes"),
     ("rows", START + "trace\n" + MANY * "1\n", MANY + 5, "7 MissingDone"),

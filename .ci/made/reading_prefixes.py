@@ -21,8 +21,8 @@ TEXT = "".join(line + "\n" for line, _ in LINES)
 CANONICAL = TEXT.replace("read x = a.y", "read x = a.y at 0")
 
 
-def answer(number, mark):
-    """The exit status and the output for a text that breaks off in the line with this number."""
+def wanted(number, mark):
+    """The exit status and the output wanted of a text that breaks off in the line with this number."""
     if mark == "!":
         return 0, CANONICAL
     line, fault = {
@@ -39,7 +39,7 @@ def cases():
     for number, (line, marks) in enumerate(LINES, 1):
         assert len(marks) == len(line) + 1
         for length, mark in enumerate(marks):
-            status, stdout = answer(number, mark)
+            status, stdout = wanted(number, mark)
             name = "line_%d_cut_at_%d" % (number, length)
             yield name, ["form"], (before + line[:length]).encode(), status, stdout.encode()
         before += line + "\n"
