@@ -3,6 +3,8 @@
 #![tactic(auto)]
 
 #[cfg(test)]
+mod checking;
+#[cfg(test)]
 mod inputs;
 #[cfg(test)]
 mod plans;
@@ -11,4 +13,8 @@ mod program;
 #[cfg(test)]
 mod protocol;
 #[cfg(test)]
+mod reading;
+#[cfg(test)]
 mod scripts;
+#[cfg(test)]
+mod timing;

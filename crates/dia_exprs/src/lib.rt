@@ -8,8 +8,6 @@ mod laws;
 mod level;
 mod operators;
 mod parse;
-#[cfg(test)]
-mod tests;
 
 pub use counts::{MAX_DEPTH, depth, node_tokens};
 pub use fail::ExpressionFail;

@@ -9,18 +9,12 @@ mod item;
 mod laws;
 mod line;
 mod line_forms;
-#[cfg(test)]
-mod line_tests;
 mod place;
 mod position;
 mod ranges;
 mod standing;
 mod statement;
-#[cfg(test)]
-mod statement_tests;
 mod text;
-#[cfg(test)]
-mod text_tests;
 mod trace;
 
 pub use fault::{Limit, LineError, ReadCode};

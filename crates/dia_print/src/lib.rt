@@ -8,6 +8,3 @@ mod printer;
 
 pub use laws::expression_tokens;
 pub use printer::Printer;
-
-#[cfg(test)]
-mod tests;

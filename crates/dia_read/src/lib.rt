@@ -16,6 +16,3 @@ pub use fault::ReadFail;
 pub use laws::{canonical_text_again, canonical_text_spells, one_document, one_first_fault};
 pub use print::print_doc;
 pub use read::read_doc;
-
-#[cfg(test)]
-mod tests;

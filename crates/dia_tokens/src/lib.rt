@@ -17,6 +17,3 @@ pub use laws::{line_spells, one_fault, one_list, one_spelling, read_word, spelle
 pub use line::{LineFail, tokens};
 pub use spelling::push_spelling;
 pub use token::{Symbol, Token, Word};
-
-#[cfg(test)]
-mod tests;
