@@ -16,8 +16,6 @@ mod scope;
 mod shaped;
 mod shaping;
 mod tasks;
-#[cfg(test)]
-mod tests;
 
 pub use fail::{CheckCode, CheckFail};
 pub use laws::{one_check, one_shape, one_shape_fault};

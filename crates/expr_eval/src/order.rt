@@ -114,6 +114,3 @@ fn names_of(alloc: Global, lets: &List<Let>, numbers: &[u32]) -> Result<List<Nam
     }
     Ok(names)
 }
-
-#[cfg(test)]
-mod tests;

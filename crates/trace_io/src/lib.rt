@@ -14,6 +14,3 @@ pub use laws::{count_is_exact, one_plan, one_schedule};
 pub use printed::lines;
 pub use trace::read_trace;
 pub use trace_rows::{TraceCode, TraceFail};
-
-#[cfg(test)]
-mod tests;

@@ -14,6 +14,3 @@ pub use header::{is_header, kinds};
 pub use rows::{MAX_ROWS, times};
 pub use section::records;
 pub use values::{event_times, samples};
-
-#[cfg(test)]
-mod tests;
