@@ -1,7 +1,8 @@
 // What stands at a place of the state.
 
 ghost use Rattle.std.specs.Prelude.{◌≡◌, ◌<◌, length};
-ghost use Rattle.dbp_rules.specs.Places.{declared, link_entry, task, task_entry, wired};
+ghost use Rattle.dbp_rules.specs.Places.{link_entry, task, task_entry, wired};
+ghost use Rattle.dbp_plan.specs.Lookups.{declared};
 
 use dbp_plan::{Plan, Task};
 use dbp_rules::{LinkEntry, State, TaskEntry, TaskState, TaskWiring, Wiring};

@@ -3,8 +3,9 @@
 ghost use Rattle.std.specs.Prelude.{◌≡◌, ◌+◌, ◌-◌, ◌<◌, ◌≤◌, ◌^◌, ℕ, length, map, pos, slice_index, slice_index_or, if◌then◌else◌};
 ghost use Rattle.dbp_plan.specs.Closed.{IsClosedTask, place_count};
 ghost use Rattle.dbp_plan.specs.Samples.{input_value};
+ghost use Rattle.dbp_plan.specs.Lookups.{declared};
 ghost use Rattle.dbp_rules.specs.Moves as move;
-ghost use Rattle.dbp_rules.specs.Places.{declared, link, order, read_at, slot_at, task, wired};
+ghost use Rattle.dbp_rules.specs.Places.{link, order, read_at, slot_at, task, wired};
 ghost use Rattle.dbp_rules.specs.Rules as rule;
 ghost use Rattle.dbp_rules.specs.Rules.{with_part, with_task};
 ghost use Rattle.dbp_rules.specs.Shapes.{HasSamples};

@@ -1,32 +1,42 @@
--- A list has one first fault at most.
-use Rattle.std.proofs.Common.{◌≡◌, ℕ, ◌<◌, subst, arith, inl, inr, ◌⊎◌}
-use Rattle.std.proofs.lemmas.Bool.{cases_lt}
-use Rattle.dbp_plan.specs.FirstFault.{IsFirstCode, IsFirstFault}
+-- Going over items in order, to the first that has a fault.
+use Rattle.std.proofs.Common.{◌≡◌, ℕ, ◌+◌, ◌<◌, ◌≤◌, List, [], ◌∷◌, ◌++◌, length, take, drop, get_or, Option, Some, None, refl, sym, ap, ◌∙◌, arith}
+use Rattle.dbp_plan.specs.FirstFault.{faults_behind, first_fault}
+use Rattle.dbp_plan.proofs.ListParts.{at-any, nothing-behind, split-at, take-next}
 
--- one of two numbers is less, or they are one
-trichotomy : (m n : ℕ) → (m < n) ⊎ ((n < m) ⊎ (m ≡ n))
-trichotomy m n = elim (cases_lt m n) [
-  | inl less ↦ inl less
-  | inr other ↦ elim (cases_lt n m) [ inl more ↦ inr (inl more) | inr same ↦ inr (inr (omega arith)) ]
-]
+module _ {A F : Type 0} (fault : List A → A → Option F) (xs : List A) (ns : List ℕ) where
+  -- what stands from an index on decides
+  abbrev pub FirstFrom : ℕ → Type 0
+  FirstFrom k = first_fault (faults_behind fault [] xs ns) ≡ first_fault (faults_behind fault (take k xs) (drop k xs) (drop k ns))
 
-module _ {C : Type 0} (order : C → ℕ) (apart : (a b : C) → order a ≡ order b → a ≡ b) where
-  -- where each code has an order of its own, one code at most is the first that holds
-  pub same_code : (Holds : C → Type 0) (a b : C) → IsFirstCode order Holds a → IsFirstCode order Holds b → a ≡ b
-  same_code Holds a b first other = elim (trichotomy (order a) (order b)) [
-    | inl less ↦ absurd (other.earlier a less first.here)
-    | inr (inl more) ↦ absurd (first.earlier b more other.here)
-    | inr (inr same) ↦ apart a b same
-  ]
+  from-here : (k : ℕ) (x : A) (n : ℕ) → k < length xs → k < length ns → x ≡ get_or xs k x → n ≡ get_or ns k n
+      → faults_behind fault (take k xs) (drop k xs) (drop k ns) ≡ (n, fault (take k xs) x) ∷ faults_behind fault (take (k + 1) xs) (drop (k + 1) xs) (drop (k + 1) ns)
+  from-here k x n in_xs in_ns is_x is_n = rw (split-at xs k x in_xs is_x, split-at ns k n in_ns is_n, take-next xs k x in_xs is_x) refl
 
-  pub same_place : (HasFault : ℕ → C → Type 0) (count k l : ℕ) (a b : C) → IsFirstFault order HasFault count k a → IsFirstFault order HasFault count l b → k ≡ l
-  same_place HasFault count k l a b first other = elim (trichotomy k l) [
-    | inl less ↦ absurd (other.before k a less first.here.here)
-    | inr (inl more) ↦ absurd (first.before l b more other.here.here)
-    | inr (inr same) ↦ same
-  ]
+  pub first-start : FirstFrom 0
+  first-start = refl
 
-  pub same_fault : (HasFault : ℕ → C → Type 0) (count k l : ℕ) (a b : C) → IsFirstFault order HasFault count k a → IsFirstFault order HasFault count l b → a ≡ b
-  same_fault HasFault count k l a b first other =
-      let place = same_place HasFault count k l a b first other in
-      same_code (HasFault l) a b (subst (λ (n : ℕ). IsFirstCode order (HasFault n) a) place first.here) other.here
+  -- the item at the index has a fault
+  pub first-here : (k : ℕ) (x : A) (n : ℕ) (code : F) → FirstFrom k → k < length xs → k < length ns → x ≡ get_or xs k x → n ≡ get_or ns k n → Some code ≡ fault (take k xs) x
+      → Some (n, code) ≡ first_fault (faults_behind fault [] xs ns)
+  first-here k x n code so_far in_xs in_ns is_x is_n is = sym (so_far ∙ ap first_fault (from-here k x n in_xs in_ns is_x is_n ∙ ap (λ f. (n, f) ∷ faults_behind fault (take (k + 1) xs) (drop (k + 1) xs) (drop (k + 1) ns)) (sym is)))
+
+  pub first-later : (k : ℕ) (x : A) → FirstFrom k → k < length xs → length xs ≤ length ns → x ≡ get_or xs k x → None ≡ fault (take k xs) x → FirstFrom (k + 1)
+  first-later k x so_far in_xs few is_x is =
+      let n : ℕ = get_or ns k 0 in
+      let in_ns : k < length ns = omega (arith, in_xs, few) in
+      so_far ∙ ap first_fault (from-here k x n in_xs in_ns is_x (at-any ns k 0 in_ns) ∙ ap (λ f. (n, f) ∷ faults_behind fault (take (k + 1) xs) (drop (k + 1) xs) (drop (k + 1) ns)) (sym is))
+
+  pub first-none : (k : ℕ) → FirstFrom k → length xs ≤ k → None ≡ first_fault (faults_behind fault [] xs ns)
+  first-none k so_far end = sym (so_far ∙ ap (λ rest. first_fault (faults_behind fault (take k xs) rest (drop k ns))) (nothing-behind xs k end))
+
+-- ---- behind one another
+
+pub first-append : {F : Type 0} (xs ys : List (ℕ × Option F)) → first_fault xs ≡ None → first_fault (xs ++ ys) ≡ first_fault ys
+first-append [] ys e = refl
+first-append ((n, None) ∷ xs) ys e = first-append xs ys e
+first-append ((n, Some code) ∷ xs) ys e = absurd cc
+
+pub first-front : {F : Type 0} (xs ys : List (ℕ × Option F)) (f : ℕ × F) → first_fault xs ≡ Some f → first_fault (xs ++ ys) ≡ Some f
+first-front [] ys f e = absurd cc
+first-front ((n, None) ∷ xs) ys f e = first-front xs ys f e
+first-front ((n, Some code) ∷ xs) ys f e = e

@@ -1,5 +1,8 @@
 pub mod Counts
 pub mod FirstFaults
+pub mod FirstIndexes
+pub mod ListParts
+pub mod NameLaws
 pub mod Numbers
 pub mod OccurrenceLemmas
 pub mod RankLaws

@@ -1,17 +1,13 @@
--- The first fault in a list whose places are tried in order, and in each place the codes in an order of trial.
-use Rattle.std.specs.Prelude.{ℕ, ◌<◌}
+-- The first of the lines that have a fault.
+use Rattle.std.specs.Prelude.{ℕ, List, [], ◌∷◌, ◌++◌, Option, Some, None}
 
--- the first of the codes that hold
-pub record IsFirstCode {C : Type 0} (order : C → ℕ) (Holds : C → Type 0) (code : C) : Type 0 where
-  pub here : Holds code
-  pub earlier : (other : C) → order other < order code → Holds other → ⊥
+-- each item with the number of its line and its first fault, after the items before it
+abbrev pub faults_behind : {A F : Type 0} → (List A → A → Option F) → List A → List A → List ℕ → List (ℕ × Option F)
+faults_behind fault before (x ∷ xs) (n ∷ ns) = (n, fault before x) ∷ faults_behind fault (before ++ x ∷ []) xs ns
+faults_behind fault before _ _ = []
 
--- no place below n has a fault
-abbrev pub NoFaultBelow : {C : Type 0} → (ℕ → C → Type 0) → ℕ → Type 0
-NoFaultBelow {C} HasFault n = (k : ℕ) (code : C) → k < n → HasFault k code → ⊥
-
--- of so many places this is the first that has a fault, and the code is its first one
-pub record IsFirstFault {C : Type 0} (order : C → ℕ) (HasFault : ℕ → C → Type 0) (count place : ℕ) (code : C) : Type 0 where
-  pub there : place < count
-  pub here : IsFirstCode order (HasFault place) code
-  pub before : NoFaultBelow HasFault place
+-- the first line that has a fault, with its first fault
+abbrev pub first_fault : {F : Type 0} → List (ℕ × Option F) → Option (ℕ × F)
+first_fault [] = None
+first_fault ((n, None) ∷ rest) = first_fault rest
+first_fault ((n, Some fault) ∷ rest) = Some (n, fault)

@@ -7,10 +7,12 @@ pub mod FirstFault
 pub mod Lends
 pub mod LetOrder
 pub mod Limits
+pub mod Lookups
 pub mod MemSink
 pub mod MemSource
 pub mod Name
 pub mod NameInside
+pub mod NameLists
 pub mod Occurrences
 pub mod Operands
 pub mod Places

@@ -1,5 +1,5 @@
 -- When a task occurs, and how often until a time.
-use Rattle.std.specs.Prelude.{ℕ, Bool, List, filter, map, count_by, nat_le, length, sum_by, ◌==◌}
+use Rattle.std.specs.Prelude.{ℕ, ◌-◌, Bool, List, filter, map, count_by, nat_le, length, slice_index_or, sum_by, ◌==◌}
 use Rattle.std.specs.List.{list_any}
 use Rattle.dbp_plan.specs.declared.schedule.Batch.{Batch}
 
@@ -10,6 +10,10 @@ names task batch = list_any (λ n. n == task) batch.tasks
 -- the times of the batches that name the task, in order: instance n occurs at place n - 1
 abbrev pub times_of : List Batch → ℕ → List ℕ
 times_of batches task = map (λ b. b.time) (filter (names task) batches)
+
+-- the time of the task's instance, counted from 1
+abbrev pub time_of : List Batch → ℕ → ℕ → ℕ
+time_of batches task n = slice_index_or (times_of batches task) (n - 1) 0
 
 -- how many of the times are at or before this one
 abbrev pub count_until : List ℕ → ℕ → ℕ

@@ -1,5 +1,9 @@
-// The limits of a diagram. docs/LANGUAGE.md has them as a table.
+// The limits of a diagram, which docs/LANGUAGE.md has as a table, of a name, and of a text.
 
+/// Bytes of a text that is read, at most.
+pub const MAX_TEXT: usize = 2_000_000_000;
+/// Bytes of a name, at most.
+pub const MAX_NAME: usize = 24;
 /// Tasks of a diagram, at most.
 pub const MAX_TASKS: u32 = 32;
 /// Inputs of a diagram, at most.
@@ -26,6 +30,10 @@ pub const MAX_OCCURRENCES: u32 = 100_000;
 pub const MAX_DELAY: u32 = 1;
 
 // Contracts name the limits; here are their values.
+const _: () = prove!(MAX_TEXT == 2_000_000_000);
+
+const _: () = prove!(MAX_NAME == 24);
+
 const _: () = prove!(MAX_TASKS == 32);
 
 const _: () = prove!(MAX_INPUTS == 16);

@@ -3,13 +3,14 @@
 ghost use Rattle.std.specs.Prelude.{◌≡◌, ◌↔◌, IfSome, IsSome, IsTrue};
 ghost use Rattle.dbp_plan.specs.Name.{IsName};
 
+use crate::MAX_NAME;
 use std::marker::Model;
 
 /// The name of a task, an input or the like: 1 to 24 ASCII letters, digits and `_`, of which the first is no
 /// digit. A contract sees its bytes. Names are compared by them.
 #[derive(Clone, Copy)]
 pub struct Name {
-    held: [u8; 24],
+    held: [u8; MAX_NAME],
     count: usize,
 }
 
@@ -38,7 +39,7 @@ impl Name {
         if !is_name(bytes) {
             return None;
         }
-        let mut held = [0; 24];
+        let mut held = [0; MAX_NAME];
         for i in 0..bytes.len() {
             held[i] = bytes[i];
         }
@@ -88,7 +89,7 @@ fn is_name(bytes: &[u8]) -> bool
     ensures { IsTrue result ↔ IsName bytes.now }
 {
     !bytes.is_empty()
-        && bytes.len() <= 24
+        && bytes.len() <= MAX_NAME
         && !bytes[0].is_ascii_digit()
         && bytes
             .iter()

@@ -13,6 +13,7 @@ use Rattle.dbp_plan.specs.declared.diagram.Diagram.{Diagram}
 use Rattle.dbp_plan.specs.declared.diagram.Task.{Task}
 use Rattle.dbp_plan.specs.Limits.{max_delay-is}
 use Rattle.dbp_plan.specs.Places.{all_place, at_place}
+use Rattle.dbp_plan.specs.NameLists.{is_among}
 use Rattle.dia_tokens.specs.Printable.{IsPrintableName}
 use Rattle.dia_lines.specs.declared.item.Part.{Part}
 use Rattle.dia_lines.specs.declared.item.Part.TheVariants as part
@@ -23,7 +24,7 @@ use Rattle.dia_read.specs.Printable.{HasItemLines, IsPrintable, IsPrintablePart,
 use Rattle.dia_check.specs.Checks.{IsCheckedOf}
 use Rattle.dia_check.specs.Diagrams.{IsDiagramOf, out_of, read_of}
 use Rattle.dia_check.specs.Faults.{is_declared_in, is_repeated}
-use Rattle.dia_check.specs.Names.{declared_name, decl_name, env_names, is_among, task_names}
+use Rattle.dia_check.specs.Names.{declared_name, decl_name, env_names, task_names}
 use Rattle.dia_check.specs.Tests.{is_decl, is_task}
 use Rattle.dia_check.proofs.Closedness.{closed}
 use Rattle.dia_check.proofs.Faultless.{IsFaultless, faultless}

@@ -11,10 +11,8 @@ use Rattle.dbp_plan.specs.declared.diagram.Diagram.{Diagram}
 use Rattle.dbp_plan.specs.declared.diagram.Link.{Link}
 use Rattle.dbp_plan.specs.declared.diagram.Out.{Out}
 use Rattle.dbp_plan.specs.Places.{all_place, at_place}
-use Rattle.dbp_rules.specs.Places.{no_declared}
-use Rattle.dbp_rules.specs.Wired.{no_read}
+use Rattle.dbp_plan.specs.Lookups.{no_declared, no_read, no_link}
 use Rattle.dia_tokens.specs.Printable.{IsPrintableName}
-use Rattle.release_list.specs.Links.{no_link}
 use Rattle.dbp_replay.specs.Names.{AreNamed, HasNames}
 use Rattle.dbp_replay.specs.Places.{link_in, out_name, port_name, read_name, task_in}
 use Rattle.dbp_replay.specs.StepForms.{is_link, link_between, port_named, read_named, task_named, within}

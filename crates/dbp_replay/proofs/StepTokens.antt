@@ -6,6 +6,7 @@ use Rattle.std.proofs.lemmas.List.Elements.{All-cons, All-nil}
 use Rattle.dbp_rules.specs.declared.step.Step.{Step}
 use Rattle.dbp_rules.specs.declared.step.Step.TheVariants as step
 use Rattle.dbp_plan.specs.declared.diagram.Diagram.{Diagram}
+use Rattle.dbp_plan.specs.Lookups.{no_link}
 use Rattle.dia_tokens.specs.declared.edge.Edge.TheVariants.{Loose}
 use Rattle.dia_tokens.specs.declared.token.Token.{Token}
 use Rattle.dia_tokens.specs.declared.token.Token.TheVariants as token
@@ -15,7 +16,6 @@ use Rattle.dia_tokens.specs.Line.{Spells}
 use Rattle.dia_tokens.specs.Printable.{IsPrintableName, IsPrintableToken}
 use Rattle.dia_tokens.specs.TokenText.{line_text, text_behind}
 use Rattle.dia_tokens.proofs.LineSpells.{line-spells}
-use Rattle.release_list.specs.Links.{no_link}
 use Rattle.dbp_replay.specs.declared.form.Operand.{Operand}
 use Rattle.dbp_replay.specs.declared.form.Operand.TheVariants as operand
 use Rattle.dbp_replay.specs.declared.kind.Takes.{Takes}

@@ -2,6 +2,7 @@
 use Rattle.std.proofs.Common.{◌≡◌, ℕ, ◌≤◌, true, List, ◌∷◌, ◌++◌, length, Some, refl, arith}
 use Rattle.std.specs.List.{list_all}
 use Rattle.std.proofs.lemmas.List.Sums.{AllPass-from_list_all}
+use Rattle.dbp_plan.specs.declared.limits.TheConstants.{MAX_NAME}
 use Rattle.dbp_plan.specs.Name.{BeginsAsName, is_name_byte}
 use Rattle.dia_tokens.specs.declared.edge.Edge.TheVariants.{Loose}
 use Rattle.dia_tokens.specs.declared.token.Token.{Token}
@@ -26,7 +27,7 @@ first-text Done ts = refl
 first-text k ts = refl
 
 -- a text that a test finds to be a name
-tested-name : (text : List ℕ) → BeginsAsName text → list_all is_name_byte text ≡ true → length text ≤ 24 → word_of text ≡ name text → IsPrintableName text
+tested-name : (text : List ℕ) → BeginsAsName text → list_all is_name_byte text ≡ true → length text ≤ MAX_NAME → word_of text ≡ name text → IsPrintableName text
 tested-name text begins each fits free = (record { begins = begins; each = AllPass-from_list_all is_name_byte text each; fits = fits }, free)
 
 pub first-printable : (k : Kind) → IsPrintableToken (first_token k)

@@ -3,14 +3,12 @@
 use Rattle.std.specs.Prelude.{ℕ, ◌<◌, List, [], length, slice_get, slice_index_or, Option, Some, None}
 use Rattle.dbp_rules.specs.declared.step.Step.{Step}
 use Rattle.dbp_rules.specs.declared.step.Step.TheVariants.{Seen, Aim, Claim, OpenGate, Start, Hear, Look, Take, Shut, Put, Done, End}
-use Rattle.dbp_rules.specs.Places.{no_declared}
 use Rattle.dbp_rules.specs.Rules.{IsNamed}
-use Rattle.dbp_rules.specs.Wired.{no_read}
 use Rattle.dbp_plan.specs.declared.diagram.Diagram.{Diagram}
 use Rattle.dbp_plan.specs.declared.diagram.Link.{Link}
 use Rattle.dbp_plan.specs.declared.diagram.Out.{Out}
 use Rattle.dbp_plan.specs.declared.diagram.Task.{Task}
-use Rattle.release_list.specs.Links.{link_at}
+use Rattle.dbp_plan.specs.Lookups.{no_declared, no_read, link_at}
 
 abbrev pub out_name : Option Out → List ℕ
 out_name None = []

@@ -3,9 +3,10 @@ use Rattle.std.proofs.Common.{◌≡◌, ◌≢◌, ℕ, ◌+◌, ◌<◌, List,
 use Rattle.std.proofs.lemmas.List.{length-set}
 use Rattle.std.proofs.lemmas.Bool.{cases_eq}
 use Rattle.dbp_plan.specs.declared.plan.Plan.{Plan}
+use Rattle.dbp_plan.specs.Lookups.{declared}
 use Rattle.release_list.specs.Schedule.{aims}
 use Rattle.dbp_rules.specs.Moves.{ordered}
-use Rattle.dbp_rules.specs.Places.{declared, no_link_entry, no_order, no_task, no_task_entry, task, task_entry, wired}
+use Rattle.dbp_rules.specs.Places.{no_link_entry, no_order, no_task, no_task_entry, task, task_entry, wired}
 use Rattle.dbp_rules.specs.Rules.{further, with_claim, with_entry, with_task}
 use Rattle.dbp_rules.specs.Shapes.{EntryShape, IsShape, LinkShape, TaskShape}
 use Rattle.dbp_rules.specs.declared.parts.LinkEntry.{LinkEntry}

@@ -7,11 +7,11 @@ use Rattle.std.proofs.lemmas.List.{length-map, length-take-le}
 use Rattle.std.proofs.lemmas.List.Folds.{list_any_at}
 use Rattle.std.proofs.lemmas.List.Sums.{length-filter}
 use Rattle.dbp_plan.specs.declared.plan.Plan.{Plan}
+use Rattle.dbp_plan.specs.Lookups.{link_at, no_link}
 use Rattle.dbp_slots.proofs.FreeSlots.{one_free}
 use Rattle.dbp_slots.specs.FreeSlot.{IsLeastFree}
 use Rattle.dbp_slots.specs.Slots.{counts_of, is_to_higher, is_to_lower}
 use Rattle.dbp_plan.proofs.Counts.{count-cons}
-use Rattle.release_list.specs.Links.{link_at, no_link}
 use Rattle.release_list.specs.declared.release.Release.TheVariants as release
 use Rattle.dbp_rules.specs.Places.{is_counted, link, link_entry, task_entry, wired}
 use Rattle.dbp_rules.specs.Promises.{HasFreeSlot, IsLeastAim, claimed_of, has_claim}

@@ -4,9 +4,9 @@ use Rattle.std.proofs.lemmas.Bool.{cases_lt}
 use Rattle.dbp_plan.specs.declared.diagram.Link.{Link}
 use Rattle.dbp_plan.specs.declared.limits.TheConstants.{MAX_OCCURRENCES}
 use Rattle.dbp_plan.specs.declared.plan.Plan.{Plan}
-use Rattle.dbp_plan.specs.Occurrences.{times_of}
-use Rattle.release_list.specs.Links.{link_at}
-use Rattle.release_list.specs.Schedule.{aims, seen_by, time_of}
+use Rattle.dbp_plan.specs.Occurrences.{times_of, time_of}
+use Rattle.dbp_plan.specs.Lookups.{link_at}
+use Rattle.release_list.specs.Schedule.{aims, seen_by}
 use Rattle.dbp_rules.specs.Moves.{heard_order}
 use Rattle.dbp_rules.specs.Places.{link, link_entry, order, task, task_entry, wired}
 use Rattle.dbp_rules.specs.Rules.{order_word}

@@ -14,7 +14,7 @@ use Rattle.dbp_plan.specs.declared.diagram.Read.{Read}
 use Rattle.dbp_plan.specs.declared.diagram.Task.{Task}
 use Rattle.dbp_plan.specs.Closed.{IsClosed, IsClosedTask}
 use Rattle.dbp_plan.specs.Places.{all_place, read_place}
-use Rattle.release_list.specs.Links.{link_at, no_link}
+use Rattle.dbp_plan.specs.Lookups.{link_at, no_link}
 use Rattle.release_list.specs.Releases.{links_into}
 use Rattle.dbp_rules.specs.Wired.{links_at, task_at_end}
 use Rattle.dbp_rules.specs.declared.wiring.LinkEnd.{LinkEnd}

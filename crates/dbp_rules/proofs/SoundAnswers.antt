@@ -1,13 +1,13 @@
 -- What a look and a take hear in a sound state.
 use Rattle.std.proofs.Common.{◌≡◌, ℕ, ℤ, ◌+◌, ◌<◌, true, List, length, get_or, None, refl, sym, ◌∙◌, ap, subst, arith}
 use Rattle.dbp_plan.specs.declared.plan.Plan.{Plan}
+use Rattle.dbp_plan.specs.Lookups.{declared, no_read}
 use Rattle.dbp_rules.specs.Moves.{own_slot}
-use Rattle.dbp_rules.specs.Places.{declared, link, link_entry, read_at, task, task_entry, wired}
+use Rattle.dbp_rules.specs.Places.{link, link_entry, read_at, task, task_entry, wired}
 use Rattle.dbp_rules.specs.Rules as rule
 use Rattle.dbp_rules.specs.Shapes.{TaskShape, heard_by, running}
 use Rattle.dbp_rules.specs.Sound.{Sound}
 use Rattle.dbp_rules.specs.SoundParts.{Stands, TaskSound, meant}
-use Rattle.dbp_rules.specs.Wired.{no_read}
 use Rattle.dbp_rules.specs.declared.parts.Place.{Place}
 use Rattle.dbp_rules.specs.declared.parts.Place.TheVariants as place
 use Rattle.dbp_rules.specs.declared.state.State.{State}

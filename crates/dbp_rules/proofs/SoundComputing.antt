@@ -7,14 +7,14 @@ use Rattle.dbp_plan.specs.declared.plan.Plan.{Plan}
 use Rattle.dbp_plan.specs.Closed.{let_base}
 use Rattle.dbp_plan.specs.Occurrences.{times_of}
 use Rattle.dbp_plan.specs.Samples.{input_value}
+use Rattle.dbp_plan.specs.Lookups.{declared, no_declared, no_read}
 use Rattle.sync_meaning.specs.Meaning.{outs_in}
 use Rattle.sync_meaning.specs.SomeMeaningEnvs.{IsEnvFrom, env_from-is, states_after}
 use Rattle.sync_meaning.specs.SomeMeaningRows.{Solves, env_at, given_at, states_at, states_at-more, word_at}
 use Rattle.dbp_rules.specs.Moves as move
-use Rattle.dbp_rules.specs.Places.{declared, no_declared, read_at, wired}
+use Rattle.dbp_rules.specs.Places.{read_at, wired}
 use Rattle.dbp_rules.specs.Shapes.{TaskShape}
 use Rattle.dbp_rules.specs.SoundParts.{TaskSound, meant, place_of_read, read_of, taken_by}
-use Rattle.dbp_rules.specs.Wired.{no_read}
 use Rattle.dbp_rules.specs.declared.parts.TaskEntry.{TaskEntry}
 use Rattle.dbp_rules.specs.declared.state.TaskState.{TaskState}
 use Rattle.dbp_rules.specs.declared.wiring.Wiring.{Wiring}

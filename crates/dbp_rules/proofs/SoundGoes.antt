@@ -2,9 +2,10 @@
 use Rattle.std.proofs.Common.{◌≡◌, ℕ, ℤ, pos, ◌+◌, ◌<◌, ◌≤◌, Bool, true, false, List, length, get_or, take, refl, sym, ◌∙◌, ap, arith, ltb}
 use Rattle.std.proofs.lemmas.Bool.{cond_both, ltb-false}
 use Rattle.dbp_plan.specs.declared.plan.Plan.{Plan}
+use Rattle.dbp_plan.specs.Lookups.{declared}
 use Rattle.sync_meaning.specs.SomeMeaningRows.{states_at}
 use Rattle.dbp_rules.specs.Moves as move
-use Rattle.dbp_rules.specs.Places.{declared, is_counted, link, slot_at, wired}
+use Rattle.dbp_rules.specs.Places.{is_counted, link, slot_at, wired}
 use Rattle.dbp_rules.specs.Shapes.{link_in, running}
 use Rattle.dbp_rules.specs.SoundParts.{LinkSound, TaskSound, filled_by, last_filled, last_shut, meant, passed, place_of_read, put_by, read_of, shut_by, taken_by}
 use Rattle.dbp_rules.specs.Work.{WorkWords}

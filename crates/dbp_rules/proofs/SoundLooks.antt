@@ -7,11 +7,11 @@ use Rattle.std.proofs.lemmas.List.Sums.{count_by-le-length}
 use Rattle.std.proofs.lemmas.Option.{slice_get-get_or}
 use Rattle.dbp_plan.specs.declared.diagram.Link.{Link}
 use Rattle.dbp_plan.specs.declared.plan.Plan.{Plan}
-use Rattle.dbp_plan.specs.Occurrences.{count_until, times_of}
+use Rattle.dbp_plan.specs.Occurrences.{count_until, times_of, time_of}
 use Rattle.dbp_plan.specs.Times.{Rises, has_come, times-rise}
-use Rattle.release_list.specs.Links.{link_at}
-use Rattle.release_list.specs.Schedule.{aims, seen_by, time_of}
-use Rattle.dbp_rules.specs.Places.{counts_link, declared, is_counted, link, link_entry, slot_at, task, task_entry, time, wired}
+use Rattle.dbp_plan.specs.Lookups.{link_at, declared}
+use Rattle.release_list.specs.Schedule.{aims, seen_by}
+use Rattle.dbp_rules.specs.Places.{counts_link, is_counted, link, link_entry, slot_at, task, task_entry, time, wired}
 use Rattle.dbp_rules.specs.Rules as rule
 use Rattle.dbp_rules.specs.Shapes.{IsWired, PlaceIn, TaskShape, heard_by, running}
 use Rattle.dbp_rules.specs.Sound.{Sound}

@@ -12,9 +12,9 @@ use Rattle.dbp_plan.specs.declared.diagram.Task.{Task}
 use Rattle.dbp_plan.specs.declared.plan.Plan.{Plan}
 use Rattle.dbp_plan.specs.Closed.{IsClosed}
 use Rattle.dbp_plan.specs.Ranks.{ranks_of}
+use Rattle.dbp_plan.specs.Lookups.{link_at, no_link, declared, no_declared, no_read}
 use Rattle.dbp_plan.proofs.RankLaws.{ranks-apart}
 use Rattle.sync_meaning.proofs.Ranks.{length-ranks}
-use Rattle.release_list.specs.Links.{link_at, no_link}
 use Rattle.release_list.specs.Releases.{links_into}
 use Rattle.release_list.specs.Schedule.{aims, claims, opens, seen_by}
 use Rattle.release_list.specs.declared.release.Release.TheVariants.{Claim}
@@ -22,10 +22,10 @@ use Rattle.dbp_rules.specs.declared.step.Count.{Count}
 use Rattle.dbp_rules.specs.declared.wiring.ReadWiring.{ReadWiring}
 use Rattle.dbp_rules.specs.declared.wiring.TaskWiring.{TaskWiring}
 use Rattle.dbp_rules.specs.declared.wiring.Wiring.{Wiring}
-use Rattle.dbp_rules.specs.Places.{declared, link, no_declared, read_at, wired}
+use Rattle.dbp_rules.specs.Places.{link, read_at, wired}
 use Rattle.dbp_rules.specs.Shapes.{IsWired, link_in}
 use Rattle.dbp_rules.specs.SoundParts.{read_of}
-use Rattle.dbp_rules.specs.Wired.{in_turn, no_read, read_wiring, task_wiring, turn_of, wiring_of}
+use Rattle.dbp_rules.specs.Wired.{in_turn, read_wiring, task_wiring, turn_of, wiring_of}
 use Rattle.dbp_rules.proofs.IntoTask.{into_reader, link_below, link_into, link_place, link_there}
 use Rattle.dbp_rules.proofs.Turns.{in_turn_at, read_of_turn, turn_apart, turn_below, turn_taken}
 use Rattle.dbp_rules.proofs.Numbered.{numbered_place}

@@ -7,12 +7,12 @@ use Rattle.std.proofs.lemmas.Option.{slice_get-get_or}
 use Rattle.dbp_plan.specs.declared.diagram.Link.{Link}
 use Rattle.dbp_plan.specs.declared.diagram.Read.{Read}
 use Rattle.dbp_plan.specs.declared.plan.Plan.{Plan}
-use Rattle.dbp_plan.specs.Occurrences.{count_until, times_of}
+use Rattle.dbp_plan.specs.Occurrences.{count_until, times_of, time_of}
 use Rattle.dbp_plan.specs.declared.schedule.Batch.{Batch}
-use Rattle.release_list.specs.Links.{link_at, no_link}
-use Rattle.release_list.specs.Schedule.{seen_by, time_of}
+use Rattle.dbp_plan.specs.Lookups.{link_at, no_link, declared}
+use Rattle.release_list.specs.Schedule.{seen_by}
 use Rattle.dbp_rules.specs.Moves as move
-use Rattle.dbp_rules.specs.Places.{declared, link, link_entry, no_order, order, read_at, slot_at, task, task_entry, wired}
+use Rattle.dbp_rules.specs.Places.{link, link_entry, no_order, order, read_at, slot_at, task, task_entry, wired}
 use Rattle.dbp_rules.specs.Rules as rule
 use Rattle.dbp_rules.specs.Shapes.{IsShape, PlaceIn, TaskShape, heard_by, link_in, place_number, running}
 use Rattle.dbp_rules.specs.Sound.{Sound}

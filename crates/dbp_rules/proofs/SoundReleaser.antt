@@ -7,10 +7,11 @@ use Rattle.std.proofs.lemmas.List.{get_or-take, length-take-le}
 use Rattle.std.proofs.lemmas.List.Folds.{list_any_at}
 use Rattle.std.proofs.lemmas.Option.{slice_get_within}
 use Rattle.dbp_plan.specs.declared.plan.Plan.{Plan}
+use Rattle.dbp_plan.specs.Lookups.{declared}
 use Rattle.release_list.specs.Schedule.{aims, opens, seen_by}
 use Rattle.release_list.specs.declared.release.Release.TheVariants as release
 use Rattle.dbp_rules.specs.Moves as move
-use Rattle.dbp_rules.specs.Places.{declared, is_counted, link, link_entry, slot_at, task, task_entry, wired}
+use Rattle.dbp_rules.specs.Places.{is_counted, link, link_entry, slot_at, task, task_entry, wired}
 use Rattle.dbp_rules.specs.Rules as rule
 use Rattle.dbp_rules.specs.Shapes.{EntryShape, TaskShape, heard_by}
 use Rattle.dbp_rules.specs.Sound.{Sound}

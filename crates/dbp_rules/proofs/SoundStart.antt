@@ -6,8 +6,9 @@ use Rattle.std.proofs.lemmas.Option.{slice_get-get_or}
 use Rattle.std.proofs.Math.ListN.{get_or-map}
 use Rattle.dbp_plan.specs.declared.plan.Plan.{Plan}
 use Rattle.dbp_plan.specs.Closed.{place_count}
+use Rattle.dbp_plan.specs.Lookups.{declared, no_declared}
 use Rattle.sync_meaning.specs.SomeMeaningRows.{Solves, states_at-none}
-use Rattle.dbp_rules.specs.Places.{declared, is_counted, link, no_declared, no_link_entry, no_order, no_slot, no_task, no_task_wiring, slot_at, task, task_entry, wired}
+use Rattle.dbp_rules.specs.Places.{is_counted, link, no_link_entry, no_order, no_slot, no_task, no_task_wiring, slot_at, task, task_entry, wired}
 use Rattle.dbp_rules.specs.Shapes.{IsWired}
 use Rattle.dbp_rules.specs.Sound.{Sound}
 use Rattle.dbp_rules.specs.SoundParts.{TaskSound, passed}

@@ -3,9 +3,10 @@ use Rattle.std.proofs.Common.{◌≡◌, ◌≢◌, ℕ, ℤ, pos, ◌+◌, ◌<
 use Rattle.std.proofs.lemmas.Bool.{cases_eq, cond_both, ltb-false}
 use Rattle.std.proofs.lemmas.List.{ext_get_or}
 use Rattle.dbp_plan.specs.declared.plan.Plan.{Plan}
+use Rattle.dbp_plan.specs.Lookups.{declared}
 use Rattle.sync_meaning.specs.SomeMeaningRows.{states_at}
 use Rattle.dbp_rules.specs.Moves as move
-use Rattle.dbp_rules.specs.Places.{declared, link, link_entry, no_slot, slot_at, task, task_entry, wired}
+use Rattle.dbp_rules.specs.Places.{link, link_entry, no_slot, slot_at, task, task_entry, wired}
 use Rattle.dbp_rules.specs.Rules as rule
 use Rattle.dbp_rules.specs.Shapes.{EntryShape, IsShape, PlaceIn, TaskShape, heard_by, place_number, running}
 use Rattle.dbp_rules.specs.Sound.{Sound}

@@ -3,8 +3,9 @@
 use Rattle.std.proofs.Common.{◌≡◌, ℕ, ℤ, pos, ◌+◌, ◌<◌, ◌⊎◌, true, List, length, get_or, set, Some, None, refl, sym, ◌∙◌, ap, arith, inl, inr, get_or-set_other}
 use Rattle.std.proofs.lemmas.Bool.{cases_eq, eq-eqb, lt-ltb}
 use Rattle.dbp_plan.specs.declared.plan.Plan.{Plan}
+use Rattle.dbp_plan.specs.Lookups.{declared}
 use Rattle.dbp_rules.specs.Moves as move
-use Rattle.dbp_rules.specs.Places.{counts_link, declared, is_counted, link, link_entry, no_slot, slot_at, task, task_entry, wired}
+use Rattle.dbp_rules.specs.Places.{counts_link, is_counted, link, link_entry, no_slot, slot_at, task, task_entry, wired}
 use Rattle.dbp_rules.specs.Promises.{IsFilledByItsOwn, IsUnclaimed, SparesClaims, filled_of}
 use Rattle.dbp_rules.specs.Rules as rule
 use Rattle.dbp_rules.specs.Shapes.{heard_by, place_number, running}

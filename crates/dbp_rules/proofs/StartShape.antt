@@ -6,7 +6,8 @@ use Rattle.std.proofs.lemmas.List.FromFn.{get_or-map-range_with_len, length-rang
 use Rattle.std.proofs.Math.ListN.{get_or-map}
 use Rattle.dbp_plan.specs.declared.plan.Plan.{Plan}
 use Rattle.dbp_plan.specs.Closed.{place_count}
-use Rattle.dbp_rules.specs.Places.{declared, link, no_link_entry, no_order, no_slot, no_task, no_task_wiring, slot_at, task, task_entry, wired}
+use Rattle.dbp_plan.specs.Lookups.{declared}
+use Rattle.dbp_rules.specs.Places.{link, no_link_entry, no_order, no_slot, no_task, no_task_wiring, slot_at, task, task_entry, wired}
 use Rattle.dbp_rules.specs.Shapes.{EntryShape, IsShape, IsTaskWired, IsWired, SlotsFit, TaskShape}
 use Rattle.dbp_rules.specs.Start.{first_row, first_states, start_entry, start_of, start_slots, start_task}
 use Rattle.dbp_rules.specs.declared.state.Slot.{Slot}

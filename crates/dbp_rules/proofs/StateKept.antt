@@ -7,10 +7,11 @@ use Rattle.dbp_plan.specs.declared.diagram.Task.{Task}
 use Rattle.dbp_plan.specs.declared.plan.Plan.{Plan}
 use Rattle.dbp_plan.specs.declared.limits.TheConstants.{MAX_OCCURRENCES}
 use Rattle.dbp_plan.specs.Closed.{let_base}
+use Rattle.dbp_plan.specs.Lookups.{declared}
 use Rattle.release_list.specs.Schedule.{aims}
 use Rattle.release_list.specs.declared.release.Release.TheVariants as release
 use Rattle.dbp_rules.specs.Moves as move
-use Rattle.dbp_rules.specs.Places.{declared, link, task, task_entry, wired}
+use Rattle.dbp_rules.specs.Places.{link, task, task_entry, wired}
 use Rattle.dbp_rules.specs.Rules as rule
 use Rattle.dbp_rules.specs.Shapes.{EntryShape, IsShape, IsTaskWired, OrderFits, PlaceIn, TaskShape, heard_by, link_in, place_number, running, slot_owner}
 use Rattle.dbp_rules.specs.Work.{WorkWords}

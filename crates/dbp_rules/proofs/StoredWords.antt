@@ -3,8 +3,9 @@ use Rattle.std.proofs.Common.{◌≡◌, ◌≢◌, ℕ, ℤ, pos, ◌+◌, ◌<
 use Rattle.std.proofs.lemmas.Bool.{cases_eq}
 use Rattle.dbp_slots.specs.TableWords.{TableWord, gate, ended, aim, claim, stamp, word}
 use Rattle.dbp_plan.specs.declared.plan.Plan.{Plan}
+use Rattle.dbp_plan.specs.Lookups.{declared}
 use Rattle.dbp_rules.specs.Moves as move
-use Rattle.dbp_rules.specs.Places.{declared, link, no_order, no_slot, no_task, slot_at, task, task_entry, wired}
+use Rattle.dbp_rules.specs.Places.{link, no_order, no_slot, no_task, slot_at, task, task_entry, wired}
 use Rattle.dbp_rules.specs.Rules as rule
 use Rattle.dbp_rules.specs.Shapes.{IsShape, TaskShape, heard_by, place_number}
 use Rattle.dbp_rules.specs.SharedWords.{KeepsOtherParts, KeepsOtherWords, made_by, order_value, signed_value, stored_by, value_in}

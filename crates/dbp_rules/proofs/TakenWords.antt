@@ -4,22 +4,21 @@ use Rattle.std.proofs.lemmas.Option.{slice_get-get_or}
 use Rattle.dbp_plan.specs.declared.diagram.Read.{Read}
 use Rattle.dbp_plan.specs.declared.plan.Plan.{Plan}
 use Rattle.dbp_plan.specs.declared.table.Table.{Table}
-use Rattle.dbp_plan.specs.Occurrences.{count_until, times_of}
+use Rattle.dbp_plan.specs.Occurrences.{count_until, times_of, time_of}
 use Rattle.dbp_plan.specs.Table.{IsRow}
+use Rattle.dbp_plan.specs.Lookups.{declared, no_declared, no_read}
 use Rattle.dbp_plan.proofs.TableRows.{has_rows}
-use Rattle.release_list.specs.Schedule.{time_of}
 use Rattle.sync_meaning.proofs.OneMeaning.{one_meaning, read_is}
 use Rattle.sync_meaning.specs.Meaning.{IsMeaning, IsRead}
 use Rattle.sync_meaning.specs.SomeMeaning.{meaning_of, meaning_of-is}
 use Rattle.sync_meaning.specs.SomeMeaningRows.{word_at}
 use Rattle.sync_meaning.specs.SomeMeaningTables.{row_in, rows_in}
-use Rattle.dbp_rules.specs.Places.{declared, no_declared, read_at, task, task_entry, wired}
+use Rattle.dbp_rules.specs.Places.{read_at, task, task_entry, wired}
 use Rattle.dbp_rules.specs.Promises.{TakesTheMeaning}
 use Rattle.dbp_rules.specs.Rules as rule
 use Rattle.dbp_rules.specs.Shapes.{PlaceIn, TaskShape, running}
 use Rattle.dbp_rules.specs.Sound.{Sound}
 use Rattle.dbp_rules.specs.SoundParts.{last_shut, meant}
-use Rattle.dbp_rules.specs.Wired.{no_read}
 use Rattle.dbp_rules.specs.declared.parts.Place.{Place}
 use Rattle.dbp_rules.specs.declared.parts.Place.TheVariants as place
 use Rattle.dbp_rules.specs.declared.state.State.{State}

@@ -12,12 +12,12 @@ use Rattle.dbp_plan.specs.declared.schedule.Batch.{Batch}
 use Rattle.dbp_plan.specs.declared.schedule.Sample.{Sample}
 use Rattle.dbp_plan.specs.Occurrences.{names, occurrence_count, times_of}
 use Rattle.dbp_plan.specs.Places.{at_place}
+use Rattle.dbp_plan.specs.Lookups.{link_at, no_link, declared, no_declared}
 use Rattle.dbp_slots.specs.Slots.{longest_delay}
-use Rattle.release_list.specs.Links.{link_at, no_link}
 use Rattle.release_list.specs.Releases.{releases_of}
 use Rattle.release_list.proofs.Room.{released_few}
 use Rattle.dbp_rules.specs.declared.step.Count.{Count}
-use Rattle.dbp_rules.specs.Places.{declared, no_declared, no_task_wiring, wired}
+use Rattle.dbp_rules.specs.Places.{no_task_wiring, wired}
 use Rattle.dbp_rules.specs.Shapes.{HasSamples}
 use Rattle.dbp_rules.specs.Wired.{task_wiring, wiring_of}
 use Rattle.dbp_rules.proofs.Numbered.{length-made, made_or, made_place}

@@ -9,16 +9,16 @@ use Rattle.dbp_plan.specs.declared.diagram.Read.{Read}
 use Rattle.dbp_plan.specs.declared.diagram.Task.{Task}
 use Rattle.dbp_plan.specs.declared.plan.Plan.{Plan}
 use Rattle.dbp_plan.specs.Closed.{IsClosed}
-use Rattle.release_list.specs.Links.{link_at, no_link}
+use Rattle.dbp_plan.specs.Lookups.{link_at, no_link, declared, no_declared, no_read}
 use Rattle.release_list.specs.Releases.{links_into}
 use Rattle.release_list.proofs.Schedules.{scheduled}
 use Rattle.dbp_rules.specs.declared.step.Count.{Count}
 use Rattle.dbp_rules.specs.declared.step.Count.TheVariants.{Ranked, All}
 use Rattle.dbp_rules.specs.declared.wiring.TaskWiring.{TaskWiring}
 use Rattle.dbp_rules.specs.declared.wiring.Wiring.{Wiring}
-use Rattle.dbp_rules.specs.Places.{declared, link, no_declared, no_read_wiring, read_at, wired}
+use Rattle.dbp_rules.specs.Places.{link, no_read_wiring, read_at, wired}
 use Rattle.dbp_rules.specs.Shapes.{IsReadWired, IsTaskWired, IsWired, link_in, slot_owner}
-use Rattle.dbp_rules.specs.Wired.{in_turn, no_read, read_wiring, slot_count, task_wiring, wiring_of}
+use Rattle.dbp_rules.specs.Wired.{in_turn, read_wiring, slot_count, task_wiring, wiring_of}
 use Rattle.dbp_rules.proofs.IntoTask.{into_below, into_no_more, link_below, link_place, link_there}
 use Rattle.dbp_rules.proofs.Turns.{length-in_turn, read_of_turn}
 use Rattle.dbp_rules.proofs.WiringParts.{delay_kept, releases_few, samples_wired, times_few, wired_is, wired_tasks}

@@ -1,10 +1,7 @@
 -- What stands at the places of a wiring and of a state. Each kind has one default, for places that aren't there.
-use Rattle.std.specs.Prelude.{ℕ, ◌-◌, Bool, true, nat_lt, List, [], slice_index_or, None}
-use Rattle.dbp_plan.specs.declared.diagram.Clock.TheVariants.{On}
+use Rattle.std.specs.Prelude.{ℕ, ◌-◌, Bool, true, nat_lt, List, [], slice_index_or}
 use Rattle.dbp_plan.specs.declared.diagram.Link.{Link}
-use Rattle.dbp_plan.specs.declared.diagram.Task.{Task}
-use Rattle.dbp_plan.specs.declared.plan.Plan.{Plan}
-use Rattle.release_list.specs.Links.{link_at}
+use Rattle.dbp_plan.specs.Lookups.{link_at}
 use Rattle.dbp_rules.specs.declared.parts.Order.{Order}
 use Rattle.dbp_rules.specs.declared.parts.Place.TheVariants.{Idle}
 use Rattle.dbp_rules.specs.declared.parts.LinkEntry.{LinkEntry}
@@ -59,14 +56,6 @@ order s k = slice_index_or s.orders k no_order
 
 abbrev pub slot_at : List Slot → ℕ → Slot
 slot_at slots n = slice_index_or slots n no_slot
-
--- of a plan
-
-abbrev pub no_declared : Task
-no_declared = record { name = []; clock = On 0; prio = None; deadline = None; cost = 0; states = []; senses = []; reads = []; lets = []; order = []; nexts = []; outs = [] }
-
-abbrev pub declared : Plan → ℕ → Task
-declared p i = slice_index_or p.diagram.tasks i no_declared
 
 -- of a wiring
 

@@ -4,12 +4,12 @@ use Rattle.std.specs.List.{range_with_len}
 use Rattle.dbp_plan.specs.declared.diagram.Read.{Read}
 use Rattle.dbp_plan.specs.declared.plan.Plan.{Plan}
 use Rattle.dbp_plan.specs.declared.table.Table.{Table}
-use Rattle.dbp_plan.specs.Occurrences.{count_until, times_of}
+use Rattle.dbp_plan.specs.Occurrences.{count_until, times_of, time_of}
+use Rattle.dbp_plan.specs.Lookups.{declared}
 use Rattle.dbp_slots.specs.FreeSlot.{IsLeastFree}
-use Rattle.release_list.specs.Schedule.{time_of}
 use Rattle.sync_meaning.specs.Meaning.{IsRead}
 use Rattle.dbp_rules.specs.Moves.{own_slot}
-use Rattle.dbp_rules.specs.Places.{declared, is_counted, link, link_entry, slot_at, task, task_entry, wired}
+use Rattle.dbp_rules.specs.Places.{is_counted, link, link_entry, slot_at, task, task_entry, wired}
 use Rattle.dbp_rules.specs.Rules.{hears, next, refusal, staying}
 use Rattle.dbp_rules.specs.TenParts.{IsStanding, slot_of_claim}
 use Rattle.dbp_rules.specs.declared.state.State.{State}

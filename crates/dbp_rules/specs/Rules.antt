@@ -5,10 +5,11 @@ use Rattle.std.specs.Option.{option_or}
 use Rattle.dbp_plan.specs.declared.diagram.Diagram.{Diagram}
 use Rattle.dbp_plan.specs.declared.plan.Plan.{Plan}
 use Rattle.dbp_plan.specs.Samples.{input_value}
+use Rattle.dbp_plan.specs.Lookups.{declared}
 use Rattle.release_list.specs.declared.release.Release.{Release}
 use Rattle.release_list.specs.declared.release.Release.TheVariants as release
 use Rattle.dbp_rules.specs.Moves as move
-use Rattle.dbp_rules.specs.Places.{declared, task, task_entry, link_entry, order, slot_at, wired, link, read_at, time, is_counted}
+use Rattle.dbp_rules.specs.Places.{task, task_entry, link_entry, order, slot_at, wired, link, read_at, time, is_counted}
 use Rattle.dbp_rules.specs.declared.parts.LinkEntry.{LinkEntry}
 use Rattle.dbp_rules.specs.declared.parts.Order.{Order}
 use Rattle.dbp_rules.specs.declared.parts.Place.{Place}

@@ -6,9 +6,10 @@ use Rattle.dbp_plan.specs.declared.plan.Plan.{Plan}
 use Rattle.dbp_plan.specs.declared.schedule.Sample.{Sample}
 use Rattle.dbp_plan.specs.Closed.{IsClosedTask, place_count}
 use Rattle.dbp_plan.specs.Occurrences.{times_of}
+use Rattle.dbp_plan.specs.Lookups.{declared}
 use Rattle.release_list.specs.Schedule.{IsSchedule, aims}
 use Rattle.dbp_rules.specs.Moves.{heard_order}
-use Rattle.dbp_rules.specs.Places.{declared, link, link_entry, order, read_at, slot_at, task, task_entry, wired}
+use Rattle.dbp_rules.specs.Places.{link, link_entry, order, read_at, slot_at, task, task_entry, wired}
 use Rattle.dbp_rules.specs.Wired.{links_at}
 use Rattle.dbp_rules.specs.declared.parts.LinkEntry.{LinkEntry}
 use Rattle.dbp_rules.specs.declared.parts.Order.{Order}

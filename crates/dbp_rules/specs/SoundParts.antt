@@ -2,12 +2,13 @@
 use Rattle.std.specs.Prelude.{◌≡◌, ◌≢◌, ℕ, ℤ, pos, ◌+◌, ◌-◌, ◌<◌, ◌≤◌, ◌⊎◌, Bool, true, false, List, length, take, slice_index_or}
 use Rattle.dbp_plan.specs.declared.diagram.Read.{Read}
 use Rattle.dbp_plan.specs.declared.plan.Plan.{Plan}
-use Rattle.release_list.specs.Schedule.{claims, seen_by, time_of}
+use Rattle.dbp_plan.specs.Occurrences.{time_of}
+use Rattle.dbp_plan.specs.Lookups.{declared, no_read}
+use Rattle.release_list.specs.Schedule.{claims, seen_by}
 use Rattle.sync_meaning.specs.SomeMeaningRows.{states_at, word_at}
 use Rattle.dbp_rules.specs.Moves.{heard_order, ordered}
-use Rattle.dbp_rules.specs.Places.{declared, is_counted, link, read_at, slot_at, wired}
+use Rattle.dbp_rules.specs.Places.{is_counted, link, read_at, slot_at, wired}
 use Rattle.dbp_rules.specs.Shapes.{link_in}
-use Rattle.dbp_rules.specs.Wired.{no_read}
 use Rattle.dbp_rules.specs.declared.parts.LinkEntry.{LinkEntry}
 use Rattle.dbp_rules.specs.declared.parts.Order.{Order}
 use Rattle.dbp_rules.specs.declared.parts.Place.{Place}

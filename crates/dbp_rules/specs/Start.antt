@@ -4,7 +4,8 @@ use Rattle.std.specs.List.{range_with_len}
 use Rattle.dbp_plan.specs.declared.diagram.Task.{Task}
 use Rattle.dbp_plan.specs.declared.plan.Plan.{Plan}
 use Rattle.dbp_plan.specs.Closed.{place_count}
-use Rattle.dbp_rules.specs.Places.{declared, no_link_entry, no_order, wired}
+use Rattle.dbp_plan.specs.Lookups.{declared}
+use Rattle.dbp_rules.specs.Places.{no_link_entry, no_order, wired}
 use Rattle.dbp_rules.specs.declared.parts.Place.TheVariants.{Idle}
 use Rattle.dbp_rules.specs.declared.parts.TaskEntry.{TaskEntry}
 use Rattle.dbp_rules.specs.declared.state.Slot.{Slot}

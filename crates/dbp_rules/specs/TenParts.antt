@@ -3,10 +3,12 @@
 use Rattle.std.specs.Prelude.{◌≡◌, ◌≢◌, ℕ, ℤ, pos, ◌+◌, ◌-◌, ◌<◌, ◌≤◌, ◌⊎◌, false, List, length, take, slice_index_or}
 use Rattle.dbp_plan.specs.declared.plan.Plan.{Plan}
 use Rattle.dbp_plan.specs.Closed.{place_count}
-use Rattle.release_list.specs.Schedule.{aims, claims, opens, seen_by, time_of}
+use Rattle.dbp_plan.specs.Occurrences.{time_of}
+use Rattle.dbp_plan.specs.Lookups.{declared}
+use Rattle.release_list.specs.Schedule.{aims, claims, opens, seen_by}
 use Rattle.sync_meaning.specs.SomeMeaningRows.{states_at}
 use Rattle.dbp_rules.specs.Moves.{heard_order, ordered}
-use Rattle.dbp_rules.specs.Places.{declared, is_counted, link, link_entry, order, slot_at, task, task_entry, wired}
+use Rattle.dbp_rules.specs.Places.{is_counted, link, link_entry, order, slot_at, task, task_entry, wired}
 use Rattle.dbp_rules.specs.Rules.{order_word}
 use Rattle.dbp_rules.specs.Shapes.{PlaceIn, SlotsFit, heard_by, running}
 use Rattle.dbp_rules.specs.SoundParts.{Stands, last_filled, last_shut, meant, place_of_read, put_by, read_of, shut_by, taken_by}

@@ -1,5 +1,5 @@
 -- What the steps look up in a plan.
-use Rattle.std.specs.Prelude.{ℕ, ◌+◌, ◌==◌, ◌&&◌, ◌||◌, nat_lt, Bool, List, [], ◌++◌, length, map, filter, slice_index_or}
+use Rattle.std.specs.Prelude.{ℕ, ◌+◌, ◌==◌, ◌&&◌, ◌||◌, nat_lt, Bool, List, ◌++◌, length, map, filter, slice_index_or}
 use Rattle.std.specs.List.{count_by, enumerate_from, position_or_len, range_with_len}
 use Rattle.dbp_plan.specs.declared.diagram.Link.{Link}
 use Rattle.dbp_plan.specs.declared.diagram.Read.{Read}
@@ -7,9 +7,9 @@ use Rattle.dbp_plan.specs.declared.diagram.Task.{Task}
 use Rattle.dbp_plan.specs.declared.plan.Plan.{Plan}
 use Rattle.dbp_plan.specs.declared.schedule.Batch.{Batch}
 use Rattle.dbp_plan.specs.Occurrences.{times_of}
+use Rattle.dbp_plan.specs.Lookups.{link_at, no_read}
 use Rattle.dbp_slots.specs.Slots.{counts_of}
 use Rattle.release_list.specs.Releases.{links_into, releases_of}
-use Rattle.release_list.specs.Links.{link_at}
 use Rattle.dbp_rules.specs.declared.step.Count.{Count}
 use Rattle.dbp_rules.specs.declared.step.Count.TheVariants.{Ranked, All}
 use Rattle.dbp_rules.specs.declared.wiring.LinkEnd.{LinkEnd}
@@ -29,9 +29,6 @@ turn_of reads r = count_by (λ q. is_sooner q r) (enumerate_from 0 reads)
 -- the numbers of the reads in the order of their turns
 abbrev pub in_turn : List Read → List ℕ
 in_turn reads = map (λ (turn, _). position_or_len (λ r. turn_of reads r == turn) (enumerate_from 0 reads)) (enumerate_from 0 reads)
-
-abbrev pub no_read : Read
-no_read = record { name = []; link = 0; port = 0; at = 0 }
 
 -- the read with this number, as the steps see it: its order stands behind the task's own
 abbrev pub read_wiring : List Link → List ℕ → List Read → ℕ → ReadWiring

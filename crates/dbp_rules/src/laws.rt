@@ -4,15 +4,16 @@
 ghost use Rattle.std.specs.Prelude.{◌≡◌, ◌<◌, ℕ, List as Items, None, length, slice_index_or};
 ghost use Rattle.dbp_plan.specs.declared.plan.Plan.{Plan};
 ghost use Rattle.dbp_plan.specs.declared.table.Table.{Table};
+ghost use Rattle.dbp_plan.specs.Lookups.{declared, no_read};
 ghost use Rattle.sync_meaning.specs.Meaning.{IsMeaning};
 ghost use Rattle.sync_meaning.specs.SomeMeaningTables.{rows_in};
 ghost use Rattle.dbp_rules.specs.Lawful.{Leads};
-ghost use Rattle.dbp_rules.specs.Places.{declared, link};
+ghost use Rattle.dbp_rules.specs.Places.{link};
 ghost use Rattle.dbp_rules.specs.Promises.{IsUnclaimed, SparesClaims, TakesTheMeaning};
 ghost use Rattle.dbp_rules.specs.Rules.{IsNamed, hears, refusal};
 ghost use Rattle.dbp_rules.specs.Sound.{Sound};
 ghost use Rattle.dbp_rules.specs.Start.{start_of};
-ghost use Rattle.dbp_rules.specs.Wired.{no_read, wiring_of};
+ghost use Rattle.dbp_rules.specs.Wired.{wiring_of};
 ghost use Rattle.dbp_rules.specs.declared.state.State.{State};
 ghost use Rattle.dbp_rules.specs.declared.step.Count.{Count};
 ghost use Rattle.dbp_rules.specs.declared.step.Count.TheVariants.{All, Ranked};

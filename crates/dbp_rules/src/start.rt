@@ -3,8 +3,9 @@
 ghost use Rattle.std.specs.Prelude.{◌≡◌, ◌<◌, ◌≤◌, ◌^◌, IfOk, length, map, replicate};
 ghost use Rattle.std.specs.List.{range_with_len};
 ghost use Rattle.dbp_plan.specs.Closed.{place_count};
-ghost use Rattle.dbp_plan.specs.declared.limits.TheConstants.{MAX_BODY};
-ghost use Rattle.dbp_rules.specs.Places.{declared, no_link_entry, no_order, wired};
+ghost use Rattle.dbp_plan.specs.declared.limits.TheConstants.{MAX_BODY, MAX_OUTS};
+ghost use Rattle.dbp_plan.specs.Lookups.{declared};
+ghost use Rattle.dbp_rules.specs.Places.{no_link_entry, no_order, wired};
 ghost use Rattle.dbp_rules.specs.Shapes.{IsWired};
 ghost use Rattle.dbp_rules.specs.Start as start;
 
@@ -68,7 +69,7 @@ fn start_slots(alloc: Global, wired: &TaskWiring, row: &[i64]) -> Result<List<Sl
 fn start_task(alloc: Global, wired: &TaskWiring, task: &Task) -> Result<TaskState, NoMemory>
     requires slots { 0 < wired.now.slots }
     requires places { place_count task.now ≤ MAX_BODY }
-    requires outs { length task.now.outs ≤ 8 }
+    requires outs { length task.now.outs ≤ MAX_OUTS }
     ensures { IfOk result (λ state. state ≡ start.start_task wired.now task.now) }
 {
     let work = Work::start(alloc, task)?;

@@ -4,7 +4,7 @@ ghost use Rattle.std.specs.Prelude.{◌≡◌, ◌+◌, ◌<◌, ◌≤◌, ◌+
 ghost use Rattle.dbp_plan.specs.Closed.{IsClosedSomewhere, let_base, place_count};
 ghost use Rattle.sync_meaning.specs.Meaning.{outs_in};
 ghost use Rattle.sync_meaning.specs.SomeMeaningEnvs.{env_from, states_after};
-ghost use Rattle.dbp_plan.specs.declared.limits.TheConstants.{MAX_BODY};
+ghost use Rattle.dbp_plan.specs.declared.limits.TheConstants.{MAX_BODY, MAX_OUTS};
 ghost use Rattle.dbp_rules.specs.Moves as move;
 ghost use Rattle.dbp_rules.specs.Places.{no_task_wiring};
 ghost use Rattle.dbp_rules.specs.Start as start;
@@ -34,7 +34,7 @@ impl Work {
     /// Before the first instance: the row and the states have their first values, and all other words are 0.
     pub fn start(alloc: Global, task: &Task) -> Result<Work, NoMemory>
         requires places { place_count task.now ≤ MAX_BODY }
-        requires outs { length task.now.outs ≤ 8 }
+        requires outs { length task.now.outs ≤ MAX_OUTS }
         ensures { IfOk result (λ work. work ≡ (start.start_task no_task_wiring task.now).work) }
     {
         Ok(Work {
@@ -77,7 +77,7 @@ impl Work {
 }
 
 fn first_row(outs: &[Out]) -> Row
-    requires { length outs.now ≤ 8 }
+    requires { length outs.now ≤ MAX_OUTS }
     ensures { result ≡ map (λ o. o.first) outs.now }
 {
     let mut row = Row::new();

@@ -1,6 +1,7 @@
 // What a command makes of an input.
 
 ghost use Rattle.std.specs.Prelude.{◌≡◌, ◌≤◌, length, IfErr, IfOk};
+ghost use Rattle.dbp_plan.specs.declared.limits.TheConstants.{MAX_TEXT};
 ghost use Rattle.dbp_top.specs.Answer.{Answers, Makes, count_of};
 ghost use Rattle.dbp_top.specs.Stops.{IsStopOf};
 ghost use Rattle.dbp_top.specs.declared.command.Command.TheVariants.{Mean, Form, Plan as Slots, Replay};
@@ -25,7 +26,7 @@ pub(crate) fn answer(
     command: Command,
     input: &[u8],
 ) -> Result<(Status, Vec<u8>), NoMemory>
-    requires { length input.now ≤ 2000000000 }
+    requires { length input.now ≤ MAX_TEXT }
     ensures { IfOk result (λ (status, text). Answers input.now command status text.items) }
 {
     match text_of(alloc, command, input) {
@@ -37,7 +38,7 @@ pub(crate) fn answer(
 
 /// The text that the command makes of the input, or why it makes none.
 fn text_of(alloc: Global, command: Command, input: &[u8]) -> Result<Vec<u8>, Stop>
-    requires { length input.now ≤ 2000000000 }
+    requires { length input.now ≤ MAX_TEXT }
     ensures text { IfOk result (λ text. Makes input.now command text.items) }
     ensures stop { IfErr result (λ stop. IsStopOf input.now command stop) }
 {
@@ -51,7 +52,7 @@ fn text_of(alloc: Global, command: Command, input: &[u8]) -> Result<Vec<u8>, Sto
 
 /// The lines of the meaning of the input's plan.
 fn meaning_of(alloc: Global, input: &[u8]) -> Result<Vec<u8>, Stop>
-    requires { length input.now ≤ 2000000000 }
+    requires { length input.now ≤ MAX_TEXT }
     ensures text { IfOk result (λ text. Makes input.now Mean text.items) }
     ensures stop { IfErr result (λ stop. IsStopOf input.now Mean stop) }
 {
@@ -62,7 +63,7 @@ fn meaning_of(alloc: Global, input: &[u8]) -> Result<Vec<u8>, Stop>
 
 /// The canonical text of the input's document.
 fn form_of(alloc: Global, input: &[u8]) -> Result<Vec<u8>, Stop>
-    requires { length input.now ≤ 2000000000 }
+    requires { length input.now ≤ MAX_TEXT }
     ensures text { IfOk result (λ text. Makes input.now Form text.items) }
     ensures stop { IfErr result (λ stop. IsStopOf input.now Form stop) }
 {
@@ -72,7 +73,7 @@ fn form_of(alloc: Global, input: &[u8]) -> Result<Vec<u8>, Stop>
 
 /// The slots of the tasks of the input's plan.
 fn slots_of(alloc: Global, input: &[u8]) -> Result<Vec<u8>, Stop>
-    requires { length input.now ≤ 2000000000 }
+    requires { length input.now ≤ MAX_TEXT }
     ensures text { IfOk result (λ text. Makes input.now Slots text.items) }
     ensures stop { IfErr result (λ stop. IsStopOf input.now Slots stop) }
 {
@@ -82,7 +83,7 @@ fn slots_of(alloc: Global, input: &[u8]) -> Result<Vec<u8>, Stop>
 
 /// The steps of the input's script, with what they hear.
 fn replay_of(alloc: Global, ranked: bool, input: &[u8]) -> Result<Vec<u8>, Stop>
-    requires { length input.now ≤ 2000000000 }
+    requires { length input.now ≤ MAX_TEXT }
     ensures text { IfOk result (λ text. Makes input.now (Replay ranked) text.items) }
     ensures stop { IfErr result (λ stop. IsStopOf input.now (Replay ranked) stop) }
 {

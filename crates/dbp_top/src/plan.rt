@@ -1,6 +1,7 @@
 // The document of an input, and its plan.
 
 ghost use Rattle.std.specs.Prelude.{◌≡◌, ◌≤◌, IfErr, IfOk, length};
+ghost use Rattle.dbp_plan.specs.declared.limits.TheConstants.{MAX_TEXT};
 ghost use Rattle.dia_read.specs.Printable.{HasItemLines, IsPrintable};
 ghost use Rattle.trace_io.specs.Texts.{Accepts};
 ghost use Rattle.dbp_top.specs.Stops.{IsFaultOf};
@@ -14,7 +15,7 @@ use trace_io::read_trace;
 
 /// The document of the input and its plan, or why it has none.
 pub(crate) fn accepted(alloc: Global, input: &[u8]) -> Result<(Doc, Plan), Stop>
-    requires { length input.now ≤ 2000000000 }
+    requires { length input.now ≤ MAX_TEXT }
     ensures plan { IfOk result (λ (doc, plan). (a : Accepts input.now plan) × (a.doc ≡ doc)) }
     ensures printable { IfOk result (λ (doc, plan). IsPrintable doc.body) }
     ensures lines { IfOk result (λ (doc, plan). HasItemLines doc) }
@@ -29,7 +30,7 @@ pub(crate) fn accepted(alloc: Global, input: &[u8]) -> Result<(Doc, Plan), Stop>
 
 /// The plan of the input, or why it has none.
 pub(crate) fn plan_of(alloc: Global, input: &[u8]) -> Result<Plan, Stop>
-    requires { length input.now ≤ 2000000000 }
+    requires { length input.now ≤ MAX_TEXT }
     ensures plan { IfOk result (λ plan. Accepts input.now plan) }
     ensures fault { IfErr result (λ stop. IsFaultOf input.now stop) }
 {

@@ -22,6 +22,8 @@ use Rattle.dbp_plan.specs.declared.limits.TheConstants.{MAX_TASKS, MAX_INPUTS, M
 use Rattle.dbp_plan.specs.Closed.{let_base, place_count, body_count, IsClosedTask}
 use Rattle.dbp_plan.specs.LetOrder.{VariablesBelow}
 use Rattle.dbp_plan.specs.Places.{all_place, at_place}
+use Rattle.dbp_plan.specs.NameLists.{is_among, index_of}
+use Rattle.dbp_plan.proofs.NameLaws.{index-below, same-bytes, same-index}
 use Rattle.dia_lines.specs.declared.item.Decl.{Decl}
 use Rattle.dia_lines.specs.declared.item.Decl.TheVariants.{Input, Event}
 use Rattle.dia_lines.specs.declared.item.Part.{Part}
@@ -34,11 +36,11 @@ use Rattle.dia_read.specs.declared.document.RawTask.{RawTask}
 use Rattle.expr_eval.specs.LetOrders.{IsFrontOrder}
 use Rattle.dia_check.specs.Diagrams.{clock_of, state_of, sense_of, read_of, let_of, next_of, out_of, lets_of, task_of, input_of, IsTaskOf, IsDiagramOf}
 use Rattle.dia_check.specs.Faults.{is_repeated, is_unknown, is_self_link, is_past_cost, is_unknown_clock, task_fault, part_fault, has_strange, base_of, IsWhole}
-use Rattle.dia_check.specs.Names.{is_among, place_of, input_name, event_name, state_name, sense_name, read_name, let_name, next_name, out_name, env_names}
+use Rattle.dia_check.specs.Names.{input_name, event_name, state_name, sense_name, read_name, let_name, next_name, out_name, env_names}
 use Rattle.dia_check.specs.Placed.{placed}
 use Rattle.dia_check.proofs.Faultless.{IsFaultless}
 use Rattle.dia_check.proofs.LinkLists.{all-made}
-use Rattle.dia_check.proofs.PlaceLaws.{made-alike, made-count, only-one, all-places, place-below, same-place, is-same, placed-below}
+use Rattle.dia_check.proofs.PlaceLaws.{made-alike, made-count, only-one, all-places, placed-below}
 
 -- ---- counts of parts
 
@@ -133,7 +135,7 @@ known-clock body before t none = no-line-fault _ (is_unknown_clock body.decls t.
 
 -- ---- what holds of the items of one part
 
-each-sense : (P : Sense → Type 0) (inputs : List (List ℕ)) (p : Part) → ((n i : List ℕ) → p ≡ part.Sense n i → P (record { name = n; input = place_of inputs i })) → All P (sense_of inputs p)
+each-sense : (P : Sense → Type 0) (inputs : List (List ℕ)) (p : Part) → ((n i : List ℕ) → p ≡ part.Sense n i → P (record { name = n; input = index_of inputs i })) → All P (sense_of inputs p)
 each-sense P inputs (part.Sense n i) each = only-one P _ (each n i refl)
 each-sense P inputs _ each = All-nil P
 
@@ -145,7 +147,7 @@ each-let : (P : Let → Type 0) (names : List (List ℕ)) (p : Part) → ((n : L
 each-let P names (part.Let n e) each = only-one P _ (each n e refl)
 each-let P names _ each = All-nil P
 
-each-next : (P : Next → Type 0) (states names : List (List ℕ)) (p : Part) → ((n : List ℕ) (e : Expr (List ℕ)) → p ≡ part.Next n e → P (record { state = place_of states n; expr = placed names e })) → All P (next_of states names p)
+each-next : (P : Next → Type 0) (states names : List (List ℕ)) (p : Part) → ((n : List ℕ) (e : Expr (List ℕ)) → p ≡ part.Next n e → P (record { state = index_of states n; expr = placed names e })) → All P (next_of states names p)
 each-next P states names (part.Next n e) each = only-one P _ (each n e refl)
 each-next P states names _ each = All-nil P
 
@@ -159,7 +161,7 @@ next-among : (ps : List Part) (i j : ℕ) (n : List ℕ) (e : Expr (List ℕ)) �
 next-among [] i j n e less at = absurd cc
 next-among (p ∷ ps) i zero n e less at = absurd (omega arith)
 next-among (p ∷ ps) zero (suc j) n e less at =
-    subst (λ q. is_among (flat_map next_name (q ∷ take j ps)) n ≡ true) (sym (same_Some p (part.Next n e) at)) (rw (is-same n) refl)
+    subst (λ q. is_among (flat_map next_name (q ∷ take j ps)) n ≡ true) (sym (same_Some p (part.Next n e) at)) (rw (same-bytes n) refl)
 next-among (p ∷ ps) (suc i) (suc j) n e less at =
     list_any-append (λ m. bytes_eq m n) (next_name p) (flat_map next_name (take j ps)) ∙ or_right (is_among (next_name p) n) (is_among (flat_map next_name (take j ps)) n) (next-among ps i j n e (omega arith) at)
 
@@ -167,13 +169,13 @@ abbrev OtherState : Next → Next → Type 0
 OtherState m n = m.state ≢ n.state
 
 nexts-apart : (states names : List (List ℕ)) (ps : List Part)
-    → ((i j : ℕ) (m n : List ℕ) (e f : Expr (List ℕ)) → i < j → slice_get ps i ≡ Some (part.Next m e) → slice_get ps j ≡ Some (part.Next n f) → place_of states m ≢ place_of states n)
+    → ((i j : ℕ) (m n : List ℕ) (e f : Expr (List ℕ)) → i < j → slice_get ps i ≡ Some (part.Next m e) → slice_get ps j ≡ Some (part.Next n f) → index_of states m ≢ index_of states n)
     → AllPairs OtherState (flat_map (next_of states names) ps)
 nexts-apart states names [] apart = λ i j d less below. absurd (omega arith)
 nexts-apart states names (part.Next m e ∷ ps) apart =
-    AllPairs-cons OtherState (record { state = place_of states m; expr = placed names e }) (flat_map (next_of states names) ps)
-    (all-made (OtherState (record { state = place_of states m; expr = placed names e })) (next_of states names) ps (λ k p at.
-    each-next (OtherState (record { state = place_of states m; expr = placed names e })) states names p (λ n f is. apart 0 (suc k) m n e f (omega arith) refl (at ∙ ap (λ (q : Part). Some q) is))))
+    AllPairs-cons OtherState (record { state = index_of states m; expr = placed names e }) (flat_map (next_of states names) ps)
+    (all-made (OtherState (record { state = index_of states m; expr = placed names e })) (next_of states names) ps (λ k p at.
+    each-next (OtherState (record { state = index_of states m; expr = placed names e })) states names p (λ n f is. apart 0 (suc k) m n e f (omega arith) refl (at ∙ ap (λ (q : Part). Some q) is))))
     (nexts-apart states names ps (λ i j m' n' e' f' less at_i at_j. apart (suc i) (suc j) m' n' e' f' (omega arith) at_i at_j))
 nexts-apart states names (_ ∷ ps) apart = nexts-apart states names ps (λ i j m n e f less at_i at_j. apart (suc i) (suc j) m n e f (omega arith) at_i at_j)
 
@@ -204,11 +206,11 @@ module _ (body : Body) (t : RawTask) (fine : (j : ℕ) (p : Part) → slice_get 
 
   next-states-below : All (λ n. n.state < length (flat_map state_name t.parts)) (flat_map (next_of (flat_map state_name t.parts) (env_names t.parts)) t.parts)
   next-states-below = all-made (λ n. n.state < length (flat_map state_name t.parts)) (next_of (flat_map state_name t.parts) (env_names t.parts)) t.parts (λ j p at.
-      each-next (λ n. n.state < length (flat_map state_name t.parts)) (flat_map state_name t.parts) (env_names t.parts) p (λ n e is. place-below (flat_map state_name t.parts) n (next-known j p n e at is).0))
+      each-next (λ n. n.state < length (flat_map state_name t.parts)) (flat_map state_name t.parts) (env_names t.parts) p (λ n e is. index-below (flat_map state_name t.parts) n (next-known j p n e at is).0))
 
   one-next-each : AllPairs (λ m n. m.state ≢ n.state) (flat_map (next_of (flat_map state_name t.parts) (env_names t.parts)) t.parts)
   one-next-each = nexts-apart (flat_map state_name t.parts) (env_names t.parts) t.parts (λ i j m n e f less at_m at_n same.
-      let is : m ≡ n = same-place (flat_map state_name t.parts) m n (next-known i (part.Next m e) m e at_m refl).0 (next-known j (part.Next n f) n f at_n refl).0 same in
+      let is : m ≡ n = same-index (flat_map state_name t.parts) m n (next-known i (part.Next m e) m e at_m refl).0 (next-known j (part.Next n f) n f at_n refl).0 same in
       let first : is_among (flat_map next_name (take j t.parts)) n ≡ true = subst (λ k. is_among (flat_map next_name (take j t.parts)) k ≡ true) is (next-among t.parts i j m e less at_m) in
       let fresh : is_among (flat_map next_name (take j t.parts)) n ≡ false = (clean body t (take j t.parts) (part.Next n f) (fine j (part.Next n f) at_n)).0 in
       both_ways (is_among (flat_map next_name (take j t.parts)) n) fresh first)
@@ -216,7 +218,7 @@ module _ (body : Body) (t : RawTask) (fine : (j : ℕ) (p : Part) → slice_get 
   senses-below : All (λ s. s.input < length (flat_map input_name body.decls)) (flat_map (sense_of (flat_map input_name body.decls)) t.parts)
   senses-below = all-made (λ s. s.input < length (flat_map input_name body.decls)) (sense_of (flat_map input_name body.decls)) t.parts (λ j p at.
       each-sense (λ s. s.input < length (flat_map input_name body.decls)) (flat_map input_name body.decls) p (λ n i is.
-      place-below (flat_map input_name body.decls) i (not-false (is_among (flat_map input_name body.decls) i) (subst (λ q. is_unknown body t q ≡ false) is (names-known j p at)))))
+      index-below (flat_map input_name body.decls) i (not-false (is_among (flat_map input_name body.decls) i) (subst (λ q. is_unknown body t q ≡ false) is (names-known j p at)))))
 
   pointers-below : (number : ℕ) → All (λ r. r.at < t.cost) (flat_map (read_of body.tasks number) t.parts)
   pointers-below number = all-made (λ r. r.at < t.cost) (read_of body.tasks number) t.parts (λ j p at.
@@ -234,8 +236,8 @@ periodic-clock ds (On n) fits period offset is = absurd cc
 event-clock : (ds : List Decl) (c : RawClock) → is_unknown_clock ds c ≡ false → (event : ℕ) → clock_of (flat_map event_name ds) c ≡ clock.On event → event < length (flat_map event_name ds)
 event-clock ds (Every p o) known event is = absurd cc
 event-clock ds (On n) known event is =
-    let here : place_of (flat_map event_name ds) n ≡ event = cc in
-    subst (λ k. k < length (flat_map event_name ds)) here (place-below (flat_map event_name ds) n (not-false (is_among (flat_map event_name ds) n) known))
+    let here : index_of (flat_map event_name ds) n ≡ event = cc in
+    subst (λ k. k < length (flat_map event_name ds)) here (index-below (flat_map event_name ds) n (not-false (is_among (flat_map event_name ds) n) known))
 
 for-some : {A : Type 0} (o : Option A) (P : A → Type 0) → IfSome o P → ForSome o P
 for-some o P holds x is = MatchOption-at_some _ P x is holds

@@ -3,6 +3,7 @@ use Rattle.std.proofs.Common.{◌*◌, ◌≤◌, All, List, [], ◌∷◌, leng
 use Rattle.std.specs.Prelude.{sum_by}
 use Rattle.std.proofs.lemmas.List.Elements.{All-head, All-tail}
 use Rattle.std.proofs.lemmas.List.Sums.{sum_by-cons}
+use Rattle.dbp_plan.specs.declared.limits.TheConstants.{MAX_BODY}
 use Rattle.dbp_plan.specs.declared.diagram.Diagram.{Diagram}
 use Rattle.dbp_plan.specs.Closed.{IsClosed}
 use Rattle.dia_read.specs.declared.document.Body.{Body}
@@ -36,7 +37,7 @@ closed doc d printable lines none is =
     }
 
 -- the lines of the bodies are at most so many
-few-lines : (ts : List RawTask) → All IsPrintableTask ts → sum_by (λ t. length t.parts) ts ≤ length ts * 64
+few-lines : (ts : List RawTask) → All IsPrintableTask ts → sum_by (λ t. length t.parts) ts ≤ length ts * MAX_BODY
 few-lines [] each = omega arith
 few-lines (t ∷ ts) each = omega (arith, sum_by-cons (λ (u : RawTask). length u.parts) t ts, few-lines ts (All-tail IsPrintableTask t ts each), (All-head IsPrintableTask t ts each).body)
 

@@ -9,7 +9,8 @@ use Rattle.dia_read.specs.declared.document.Body.{Body}
 use Rattle.dia_read.specs.declared.document.Doc.{Doc}
 use Rattle.dia_read.specs.declared.document.RawTask.{RawTask}
 use Rattle.dia_read.specs.Printable.{HasItemLines}
-use Rattle.dia_check.specs.Faults.{decl_fault, task_fault, part_fault, faults_behind, task_faults, line_faults, first_fault}
+use Rattle.dia_check.specs.Faults.{decl_fault, task_fault, part_fault, task_faults, line_faults}
+use Rattle.dbp_plan.specs.FirstFault.{faults_behind, first_fault}
 
 -- no line of the body has a fault, item by item
 pub record IsFaultless (body : Body) : Type 0 where

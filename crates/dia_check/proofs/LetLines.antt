@@ -3,7 +3,7 @@ use Rattle.std.proofs.Common.{◌≡◌, ℕ, suc, ◌+◌, ◌<◌, List, ◌�
 use Rattle.dia_lines.specs.declared.item.Part.{Part}
 use Rattle.dia_lines.specs.declared.item.Part.TheVariants.{State, Sense, Read, Let, Next, Out}
 use Rattle.dia_check.specs.Faults.{let_lines}
-use Rattle.dia_check.proofs.FirstFaults.{split-at}
+use Rattle.dbp_plan.proofs.ListParts.{split-at}
 
 -- ---- one step
 

@@ -1,7 +1,6 @@
 pub mod ClosedTasks
 pub mod Closedness
 pub mod Faultless
-pub mod FirstFaults
 pub mod LetLines
 pub mod LinkLaws
 pub mod LinkLists

@@ -17,6 +17,9 @@ use Rattle.dbp_plan.specs.declared.diagram.Task.{Task}
 use Rattle.dbp_plan.specs.declared.limits.TheConstants.{MAX_READ_LINES}
 use Rattle.dbp_plan.specs.Limits.{max_delay}
 use Rattle.dbp_plan.specs.Places.{at_place, all_place}
+use Rattle.dbp_plan.specs.NameLists.{is_among, index_of}
+use Rattle.dbp_plan.proofs.FirstIndexes.{first-below, first-in-map, first-passes}
+use Rattle.dbp_plan.proofs.ListParts.{take-next}
 use Rattle.dia_lines.specs.declared.item.Part.{Part}
 use Rattle.dia_lines.specs.declared.item.Part.TheVariants as part
 use Rattle.dia_read.specs.declared.document.Body.{Body}
@@ -25,15 +28,14 @@ use Rattle.dia_read.specs.Printable.{IsPrintable, IsPrintableTask, IsPrintablePa
 use Rattle.dia_check.specs.declared.fail.LineFault.TheVariants.{Duplicate, Unknown, SelfLink, ReadPastCost}
 use Rattle.dia_check.specs.Diagrams.{is_same_link, link_of, links_used, links_of, link_number, read_of, out_of, IsDiagramOf}
 use Rattle.dia_check.specs.Faults.{is_repeated, is_unknown, is_self_link, is_past_cost}
-use Rattle.dia_check.specs.Names.{is_among, place_of, task_names, out_name, env_names, port_names}
+use Rattle.dia_check.specs.Names.{task_names, out_name, env_names, port_names}
 use Rattle.dia_check.proofs.Faultless.{IsFaultless}
-use Rattle.dia_check.proofs.FirstFaults.{take-next}
-use Rattle.dia_check.proofs.LinkLists.{same-links, all-firsts, firsts-few, firsts-differ, firsts-have, place-below, place-passes, place-in-map, all-made, all-front, all-behind, made-by-one, any-at, any-made, number-is, same-sums}
+use Rattle.dia_check.proofs.LinkLists.{same-links, all-firsts, firsts-few, firsts-differ, firsts-have, all-made, all-front, all-behind, made-by-one, any-at, any-made, number-is, same-sums}
 
 -- ---- the links of read lines
 
 all-of-part : (P : Link → Type 0) (tasks : List RawTask) (reader : ℕ) (p : Part)
-    → ((n : List ℕ) (delay : ℕ) (writer port : List ℕ) (at : ℕ) → p ≡ part.Read n delay writer port at → P (record { writer = place_of (task_names tasks) writer; reader = reader; delay = delay })) → All P (link_of tasks reader p)
+    → ((n : List ℕ) (delay : ℕ) (writer port : List ℕ) (at : ℕ) → p ≡ part.Read n delay writer port at → P (record { writer = index_of (task_names tasks) writer; reader = reader; delay = delay })) → All P (link_of tasks reader p)
 all-of-part P tasks reader (part.State n first) each = All-nil P
 all-of-part P tasks reader (part.Sense n input) each = All-nil P
 all-of-part P tasks reader (part.Read n delay writer port at) each = All-cons P _ [] (each n delay writer port at refl) (All-nil P)
@@ -142,7 +144,7 @@ outs_of o = elim o [ None ↦ [] | Some t ↦ flat_map out_name t.parts ]
 -- the task that has the port
 record HasPort (tasks : List RawTask) (writer port : List ℕ) : Type 0 where
   task : RawTask
-  at : slice_get tasks (place_of (task_names tasks) writer) ≡ Some task
+  at : slice_get tasks (index_of (task_names tasks) writer) ≡ Some task
   named : bytes_eq task.name writer ≡ true
   outs : port_names tasks writer ≡ flat_map out_name task.parts
 
@@ -161,8 +163,8 @@ writer-of tasks writer port among = found (find test tasks) refl
         let first : slice_get tasks (position_or_len test tasks) ≡ Some w = sym (find_at test tasks) ∙ is in
         record {
           task = w;
-          at = ap (slice_get tasks) (place-in-map (λ m. bytes_eq m writer) (λ t. t.name) tasks) ∙ first;
-          named = place-passes test tasks w first;
+          at = ap (slice_get tasks) (first-in-map (λ m. bytes_eq m writer) (λ t. t.name) tasks) ∙ first;
+          named = first-passes test tasks w first;
           outs = ap outs_of is;
         }
 
@@ -170,7 +172,7 @@ writer-of tasks writer port among = found (find test tasks) refl
 record IsReadLine (tasks : List RawTask) (reader delay : ℕ) (writer port : List ℕ) : Type 0 where
   source : HasPort tasks writer port
   among : is_among (port_names tasks writer) port ≡ true
-  other : place_of (task_names tasks) writer ≢ reader
+  other : index_of (task_names tasks) writer ≢ reader
   few : delay ≤ max_delay
 
 module _ (body : Body) (d : Diagram) (printable : IsPrintable body) (faultless : IsFaultless body) (is : IsDiagramOf body d) where
@@ -193,12 +195,12 @@ module _ (body : Body) (d : Diagram) (printable : IsPrintable body) (faultless :
   -- what holds of the link of each read line holds of each link
   all-links : (P : Link → Type 0)
       → ((i j : ℕ) (t : RawTask) (n : List ℕ) (delay : ℕ) (writer port : List ℕ) (at : ℕ) → slice_get body.tasks i ≡ Some t → slice_get t.parts j ≡ Some (part.Read n delay writer port at)
-      → P (record { writer = place_of (task_names body.tasks) writer; reader = i; delay = delay })) → All P d.links
+      → P (record { writer = index_of (task_names body.tasks) writer; reader = i; delay = delay })) → All P d.links
   all-links P each =
       let every : All P (links_used body.tasks 0 body.tasks) = all-used P body.tasks 0 body.tasks (λ i j t p at_t at_p.
       let number : i ≡ 0 + i = omega arith in
       all-of-part P body.tasks (0 + i) p (λ n delay writer port at is_read.
-      subst (λ m. P (record { writer = place_of (task_names body.tasks) writer; reader = m; delay = delay })) number
+      subst (λ m. P (record { writer = index_of (task_names body.tasks) writer; reader = m; delay = delay })) number
       (each i j t n delay writer port at at_t (at_p ∙ ap (λ (q : Part). Some q) is_read)))) in
       subst (All P) (sym is.links) (all-firsts P (links_used body.tasks 0 body.tasks) every)
 
@@ -233,7 +235,7 @@ module _ (body : Body) (d : Diagram) (printable : IsPrintable body) (faultless :
   pub ends : All (λ l. (l.writer < length d.tasks) × (l.reader < length d.tasks) × (l.writer ≢ l.reader)) d.links
   ends = all-links (λ l. (l.writer < length d.tasks) × (l.reader < length d.tasks) × (l.writer ≢ l.reader)) (λ i j t n delay writer port at at_t at_p.
       let line = read-line i j t n delay writer port at at_t at_p in
-      let below : place_of (task_names body.tasks) writer < length d.tasks = omega (arith, slice_get_within body.tasks _ line.source.task line.source.at, is.count) in
+      let below : index_of (task_names body.tasks) writer < length d.tasks = omega (arith, slice_get_within body.tasks _ line.source.task line.source.at, is.count) in
       let reader : i < length d.tasks = omega (arith, slice_get_within body.tasks i t at_t, is.count) in
       (below, reader, line.other))
 
@@ -245,14 +247,14 @@ module _ (body : Body) (d : Diagram) (printable : IsPrintable body) (faultless :
 
   -- the number of a read line's link
   link-there : (i j : ℕ) (t : RawTask) (n : List ℕ) (delay : ℕ) (writer port : List ℕ) (at : ℕ) → slice_get body.tasks i ≡ Some t → slice_get t.parts j ≡ Some (part.Read n delay writer port at)
-      → link_number (links_of body.tasks) (record { writer = place_of (task_names body.tasks) writer; reader = i; delay = delay }) < length d.links
+      → link_number (links_of body.tasks) (record { writer = index_of (task_names body.tasks) writer; reader = i; delay = delay }) < length d.links
   link-there i j t n delay writer port at at_t at_p =
-      let l : Link = record { writer = place_of (task_names body.tasks) writer; reader = i; delay = delay } in
+      let l : Link = record { writer = index_of (task_names body.tasks) writer; reader = i; delay = delay } in
       let Kept = λ (m : Link). list_any (λ k. is_same_link k m) (links_of body.tasks) ≡ true in
       let one = used-by-one Kept body.tasks 0 body.tasks i j t (part.Read n delay writer port at) at_t at_p (firsts-have (links_used body.tasks 0 body.tasks)) in
       let number : 0 + i ≡ i = omega arith in
-      let kept : Kept l = subst (λ m. Kept (record { writer = place_of (task_names body.tasks) writer; reader = m; delay = delay })) number (All-head Kept _ [] one) in
-      omega (arith, place-below (λ k. is_same_link k l) (links_of body.tasks) kept, ap length is.links)
+      let kept : Kept l = subst (λ m. Kept (record { writer = index_of (task_names body.tasks) writer; reader = m; delay = delay })) number (All-head Kept _ [] one) in
+      omega (arith, first-below (λ k. is_same_link k l) (links_of body.tasks) kept, ap length is.links)
 
   pub linked : (i : ℕ) (t : Task) → slice_get d.tasks i ≡ Some t → All (λ r. r.link < length d.links) t.reads
   linked i t at_t =
@@ -262,7 +264,7 @@ module _ (body : Body) (d : Diagram) (printable : IsPrintable body) (faultless :
 
   -- the link at a read line's number is its link
   link-is : (l m : Link) → slice_get d.links (link_number (links_of body.tasks) l) ≡ Some m → m ≡ l
-  link-is l m at = same-links m l (place-passes (λ k. is_same_link k l) (links_of body.tasks) m (ap (λ ks. slice_get ks (link_number (links_of body.tasks) l)) (sym is.links) ∙ at))
+  link-is l m at = same-links m l (first-passes (λ k. is_same_link k l) (links_of body.tasks) m (ap (λ ks. slice_get ks (link_number (links_of body.tasks) l)) (sym is.links) ∙ at))
 
   pub own : (i : ℕ) (t : Task) (r : Read) (l : Link) (j : ℕ) → slice_get d.tasks i ≡ Some t → slice_get t.reads j ≡ Some r → slice_get d.links r.link ≡ Some l → l.reader ≡ i
   own i t r l j at_t at_r at_l =
@@ -274,14 +276,14 @@ module _ (body : Body) (d : Diagram) (printable : IsPrintable body) (faultless :
 
   -- the number of a read line's port
   port-there : (i j : ℕ) (t : RawTask) (n : List ℕ) (delay : ℕ) (writer port : List ℕ) (at : ℕ) (v : Task) → slice_get body.tasks i ≡ Some t → slice_get t.parts j ≡ Some (part.Read n delay writer port at)
-      → slice_get d.tasks (place_of (task_names body.tasks) writer) ≡ Some v → place_of (port_names body.tasks writer) port < length v.outs
+      → slice_get d.tasks (index_of (task_names body.tasks) writer) ≡ Some v → index_of (port_names body.tasks writer) port < length v.outs
   port-there i j t n delay writer port at v at_t at_p at_v =
       let line = read-line i j t n delay writer port at at_t at_p in
       let ps = line.source.task.parts in
       let outs : length v.outs ≡ length (flat_map (out_of (env_names ps)) ps) = ap (λ u. length u.outs) (is.tasks _ line.source.task v line.source.at at_v).is in
       let same : length (flat_map (out_of (env_names ps)) ps) ≡ length (flat_map out_name ps) =
       length-flat_map (out_of (env_names ps)) ps ∙ ap (λ f. sum_by f ps) (λ k p. out-count (env_names ps) p k) ∙ sym (length-flat_map out_name ps) in
-      let below : place_of (port_names body.tasks writer) port < length (port_names body.tasks writer) = place-below (λ m. bytes_eq m port) (port_names body.tasks writer) line.among in
+      let below : index_of (port_names body.tasks writer) port < length (port_names body.tasks writer) = first-below (λ m. bytes_eq m port) (port_names body.tasks writer) line.among in
       omega (arith, outs, same, below, ap length line.source.outs)
 
   pub ports : (t w : Task) (r : Read) (l : Link) (i j : ℕ) → slice_get d.tasks i ≡ Some t → slice_get t.reads j ≡ Some r → slice_get d.links r.link ≡ Some l → slice_get d.tasks l.writer ≡ Some w → r.port < length w.outs
@@ -295,9 +297,9 @@ module _ (body : Body) (d : Diagram) (printable : IsPrintable body) (faultless :
 
   -- a read has the number of a read line's link
   read-used : (i j : ℕ) (t : RawTask) (n : List ℕ) (delay : ℕ) (writer port : List ℕ) (at : ℕ) → slice_get body.tasks i ≡ Some t → slice_get t.parts j ≡ Some (part.Read n delay writer port at)
-      → list_any (λ u. list_any (λ r. r.link == link_number (links_of body.tasks) (record { writer = place_of (task_names body.tasks) writer; reader = i; delay = delay })) u.reads) d.tasks ≡ true
+      → list_any (λ u. list_any (λ r. r.link == link_number (links_of body.tasks) (record { writer = index_of (task_names body.tasks) writer; reader = i; delay = delay })) u.reads) d.tasks ≡ true
   read-used i j t n delay writer port at at_t at_p =
-      let number = link_number (links_of body.tasks) (record { writer = place_of (task_names body.tasks) writer; reader = i; delay = delay }) in
+      let number = link_number (links_of body.tasks) (record { writer = index_of (task_names body.tasks) writer; reader = i; delay = delay }) in
       let test = λ (r : Read). r.link == number in
       let u = task-at i t at_t in
       let one : list_any test (flat_map (read_of body.tasks i) t.parts) ≡ true =

@@ -1,14 +1,14 @@
 -- Lists of links of which each is kept once, and lists that are made item by item.
-use Rattle.std.proofs.Common.{◌≡◌, ◌≢◌, ℕ, zero, suc, ◌+◌, ◌<◌, ◌≤◌, Bool, true, false, cond, All, List, [], ◌∷◌, ◌++◌, length, map, filter, get_or, slice_get, Some, refl, sym, ap, ◌∙◌, subst, arith, inl, inr}
+use Rattle.std.proofs.Common.{◌≡◌, ◌≢◌, ℕ, zero, suc, ◌+◌, ◌<◌, ◌≤◌, Bool, true, false, All, List, [], ◌∷◌, ◌++◌, length, filter, get_or, slice_get, Some, refl, sym, ap, ◌∙◌, subst, arith, inl, inr}
 use Rattle.std.specs.Prelude.{AllPairs, not, ◌&&◌, ◌||◌, ◌==◌, sum_by, if◌then◌else◌}
-use Rattle.std.specs.List.{flat_map, list_any, position_or_len}
+use Rattle.std.specs.List.{flat_map, list_any}
 use Rattle.std.proofs.lemmas.Bool.{cases_Bool, and_parts, eqb-true, eq-eqb, not-true, both_ways, false_from_ne_true, or_left, or_right}
 use Rattle.std.proofs.lemmas.Bool.Decides.{nat_tests}
 use Rattle.std.proofs.lemmas.List.{append-nil}
 use Rattle.std.proofs.lemmas.List.Elements.{All-nil, All-cons, All-head, All-tail, All-append, All-filter, filter-append, filter_passes}
 use Rattle.std.proofs.lemmas.List.Folds.{list_any-append, list_any_at}
 use Rattle.std.proofs.lemmas.List.Kept.{AllPairs-cons, AllPairs-filter}
-use Rattle.std.proofs.lemmas.List.Sums.{length-filter, count_by-le-length, sum_by-cons, position_or_len_is, passes_at_first}
+use Rattle.std.proofs.lemmas.List.Sums.{length-filter, count_by-le-length, sum_by-cons, position_or_len_is}
 use Rattle.std.proofs.lemmas.Option.{slice_get_within, get_or_from_slice_get, same_Some}
 use Rattle.dbp_plan.specs.declared.diagram.Link.{Link}
 use Rattle.dia_check.specs.Diagrams.{is_same_link, firsts, link_number}
@@ -109,23 +109,6 @@ firsts-have (x ∷ used) =
       | inr differs ↦ rw (differs, any-same x l links differs) among
     ]
 
--- ---- the first place
-
-pub place-below : {A : Type 0} (test : A → Bool) (xs : List A) → list_any test xs ≡ true → position_or_len test xs < length xs
-place-below test [] among = absurd cc
-place-below test (x ∷ xs) among = elim (cases_Bool (test x)) [
-  | inl passes ↦ rw passes (omega arith)
-  | inr fails ↦
-      let rest : list_any test xs ≡ true = rw fails at among in
-      let below : position_or_len test xs < length xs = place-below test xs rest in
-      rw fails (omega (arith, below))
-]
-
-pub place-passes : {A : Type 0} (test : A → Bool) (xs : List A) (x : A) → slice_get xs (position_or_len test xs) ≡ Some x → test x ≡ true
-place-passes test xs x at =
-    let first : get_or xs (position_or_len test xs) x ≡ x = get_or_from_slice_get xs (position_or_len test xs) x x at in
-    subst (λ y. test y ≡ true) first (passes_at_first test xs x (slice_get_within xs (position_or_len test xs) x at))
-
 -- each link's number is its place
 pub number-is : (links : List Link) (k : ℕ) (l : Link) → AllPairs (λ m n. m ≢ n) links → slice_get links k ≡ Some l → link_number links l ≡ k
 number-is links k l differ at =
@@ -135,10 +118,6 @@ number-is links k l differ at =
     let apart : (j : ℕ) → j < k → test (get_or links j l) ≡ false =
     λ j less. false_from_ne_true (test (get_or links j l)) (λ same. differ j k l less below (same-links (get_or links j l) l same ∙ sym here)) in
     position_or_len_is test links k l (omega (arith, below)) apart (λ inside. ap test here ∙ link-itself l)
-
-pub place-in-map : {A B : Type 0} (test : B → Bool) (f : A → B) (xs : List A) → position_or_len test (map f xs) ≡ position_or_len (λ x. test (f x)) xs
-place-in-map test f [] = refl
-place-in-map test f (x ∷ xs) = ap (λ n. cond (not (test (f x))) (1 + n) 0) (place-in-map test f xs)
 
 -- ---- lists that are made item by item
 

@@ -4,35 +4,33 @@ use Rattle.std.specs.Prelude.{◌||◌}
 use Rattle.std.specs.List.{flat_map, list_any}
 use Rattle.std.specs.Str.{bytes_eq}
 use Rattle.std.proofs.lemmas.List.Folds.{list_any-append}
+use Rattle.dbp_plan.specs.NameLists.{is_among}
+use Rattle.dbp_plan.proofs.NameLaws.{among_flat_map, among_map}
 use Rattle.dia_lines.specs.declared.item.Decl.{Decl}
 use Rattle.dia_lines.specs.declared.item.Decl.TheVariants.{Input, Event}
 use Rattle.dia_lines.specs.declared.item.Part.{Part}
 use Rattle.dia_lines.specs.declared.item.Part.TheVariants.{State, Sense, Read, Let, Next, Out}
 use Rattle.dia_read.specs.declared.document.RawTask.{RawTask}
-use Rattle.dia_check.specs.Names.{is_among, next_name, declared_name, input_name, event_name, decl_name, task_names, state_name, sense_name, read_name, let_name, out_name, env_names}
+use Rattle.dia_check.specs.Names.{next_name, declared_name, input_name, event_name, decl_name, task_names, state_name, sense_name, read_name, let_name, out_name, env_names}
 use Rattle.dia_check.specs.Tests.{is_input, is_event, is_decl, is_task, is_state, is_out, is_next, is_place, is_declared}
 
 or-false : (b : Bool) → (b || false) ≡ b
 or-false true = refl
 or-false false = refl
 
-among-all : {A : Type 0} (names : A → List (List ℕ)) (n : List ℕ) (test : A → Bool) → ((x : A) → is_among (names x) n ≡ test x) → (xs : List A) → is_among (flat_map names xs) n ≡ list_any test xs
-among-all names n test each [] = refl
-among-all names n test each (x ∷ xs) = list_any-append (λ m. bytes_eq m n) (names x) (flat_map names xs) ∙ rw (each x, among-all names n test each xs) refl
-
 among-inputs-each : (n : List ℕ) (d : Decl) → is_among (input_name d) n ≡ is_input n d
 among-inputs-each n (Input m v) = or-false (bytes_eq m n)
 among-inputs-each n (Event m) = refl
 
 pub among_inputs : (n : List ℕ) (ds : List Decl) → is_among (flat_map input_name ds) n ≡ list_any (is_input n) ds
-among_inputs n = among-all input_name n (is_input n) (among-inputs-each n)
+among_inputs n = among_flat_map input_name n (is_input n) (among-inputs-each n)
 
 among-events-each : (n : List ℕ) (d : Decl) → is_among (event_name d) n ≡ is_event n d
 among-events-each n (Input m v) = refl
 among-events-each n (Event m) = or-false (bytes_eq m n)
 
 pub among_events : (n : List ℕ) (ds : List Decl) → is_among (flat_map event_name ds) n ≡ list_any (is_event n) ds
-among_events n = among-all event_name n (is_event n) (among-events-each n)
+among_events n = among_flat_map event_name n (is_event n) (among-events-each n)
 
 among-states-each : (n : List ℕ) (p : Part) → is_among (state_name p) n ≡ is_state n p
 among-states-each n (State m v) = or-false (bytes_eq m n)
@@ -43,7 +41,7 @@ among-states-each n (Next m e) = refl
 among-states-each n (Out m v e) = refl
 
 pub among_states : (n : List ℕ) (ps : List Part) → is_among (flat_map state_name ps) n ≡ list_any (is_state n) ps
-among_states n = among-all state_name n (is_state n) (among-states-each n)
+among_states n = among_flat_map state_name n (is_state n) (among-states-each n)
 
 among-outs-each : (n : List ℕ) (p : Part) → is_among (out_name p) n ≡ is_out n p
 among-outs-each n (State m v) = refl
@@ -54,7 +52,7 @@ among-outs-each n (Next m e) = refl
 among-outs-each n (Out m v e) = or-false (bytes_eq m n)
 
 pub among_outs : (n : List ℕ) (ps : List Part) → is_among (flat_map out_name ps) n ≡ list_any (is_out n) ps
-among_outs n = among-all out_name n (is_out n) (among-outs-each n)
+among_outs n = among_flat_map out_name n (is_out n) (among-outs-each n)
 
 among-nexts-each : (n : List ℕ) (p : Part) → is_among (next_name p) n ≡ is_next n p
 among-nexts-each n (State m v) = refl
@@ -65,7 +63,7 @@ among-nexts-each n (Next m e) = or-false (bytes_eq m n)
 among-nexts-each n (Out m v e) = refl
 
 pub among_nexts : (n : List ℕ) (ps : List Part) → is_among (flat_map next_name ps) n ≡ list_any (is_next n) ps
-among_nexts n = among-all next_name n (is_next n) (among-nexts-each n)
+among_nexts n = among_flat_map next_name n (is_next n) (among-nexts-each n)
 
 among-declared-each : (n : List ℕ) (p : Part) → is_among (declared_name p) n ≡ is_declared n p
 among-declared-each n (State m v) = or-false (bytes_eq m n)
@@ -76,7 +74,7 @@ among-declared-each n (Next m e) = refl
 among-declared-each n (Out m v e) = or-false (bytes_eq m n)
 
 pub among_declared : (n : List ℕ) (ps : List Part) → is_among (flat_map declared_name ps) n ≡ list_any (is_declared n) ps
-among_declared n = among-all declared_name n (is_declared n) (among-declared-each n)
+among_declared n = among_flat_map declared_name n (is_declared n) (among-declared-each n)
 
 -- ---- the environment
 
@@ -132,15 +130,11 @@ among_env n ps = env-four n ps ∙ four-is n ps
 
 -- ---- names of items
 
-among-map : {A : Type 0} (f : A → List ℕ) (n : List ℕ) (xs : List A) → is_among (map f xs) n ≡ list_any (λ x. bytes_eq (f x) n) xs
-among-map f n [] = refl
-among-map f n (x ∷ xs) = ap (λ b. bytes_eq (f x) n || b) (among-map f n xs)
-
 pub among_decls : (n : List ℕ) (ds : List Decl) → is_among (map decl_name ds) n ≡ list_any (is_decl n) ds
-among_decls n ds = among-map decl_name n ds
+among_decls n ds = among_map decl_name n ds
 
 pub among_tasks : (n : List ℕ) (ts : List RawTask) → is_among (task_names ts) n ≡ list_any (is_task n) ts
-among_tasks n ts = among-map (λ t. t.name) n ts
+among_tasks n ts = among_map (λ t. t.name) n ts
 
 pub among_both : (n : List ℕ) (ds : List Decl) (ts : List RawTask) → is_among (map decl_name ds ++ task_names ts) n ≡ (list_any (is_decl n) ds || list_any (is_task n) ts)
 among_both n ds ts = list_any-append (λ m. bytes_eq m n) (map decl_name ds) (task_names ts) ∙ rw (among_decls n ds, among_tasks n ts) refl

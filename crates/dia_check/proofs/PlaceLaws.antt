@@ -1,21 +1,19 @@
 -- Places of names, and lists that are made part by part.
-use Rattle.std.proofs.Common.{◌≡◌, ℕ, zero, suc, ◌<◌, Bool, true, false, All, List, [], ◌∷◌, length, map, get_or, slice_get, Some, refl, sym, ap, ◌∙◌, subst, length-append}
+use Rattle.std.proofs.Common.{◌≡◌, ℕ, zero, suc, ◌<◌, Bool, true, false, All, List, [], ◌∷◌, length, map, get_or, slice_get, Some, refl, sym, ◌∙◌, subst, length-append}
 use Rattle.std.specs.Prelude.{cond, count_by}
 use Rattle.std.specs.List.{flat_map, list_any}
-use Rattle.std.specs.Str.{bytes_eq}
 use Rattle.std.proofs.lemmas.Bool.{not-false, or_parts}
 use Rattle.std.proofs.lemmas.List.Elements.{All-nil, All-cons}
-use Rattle.std.proofs.lemmas.List.Sums.{passes_at_first, sum_by-cons}
+use Rattle.std.proofs.lemmas.List.Sums.{sum_by-cons}
 use Rattle.std.proofs.lemmas.Option.{slice_get-get_or}
-use Rattle.std.proofs.lemmas.Slice.Eq.{bytes_eq-Decides}
 use Rattle.dbp_plan.specs.declared.expr.Expr.{Expr}
 use Rattle.dbp_plan.specs.declared.node.Node.{Node}
 use Rattle.dbp_plan.specs.declared.node.Node.TheVariants.{Num, Var, Un, Bin, Pick}
 use Rattle.dbp_plan.specs.LetOrder.{VariablesBelow}
-use Rattle.dia_check.specs.Names.{is_among, place_of}
+use Rattle.dbp_plan.specs.NameLists.{is_among, index_of}
+use Rattle.dbp_plan.proofs.NameLaws.{index-below}
 use Rattle.dia_check.specs.Placed.{placed_node, placed, nodes-of-placed}
 use Rattle.dia_check.specs.Faults.{is_strange, has_strange}
-use Rattle.dia_check.proofs.LinkLists.{place-below as first-below}
 
 -- parts that make as many items
 pub made-alike : {A B C : Type 0} (f : A → List B) (g : A → List C) → ((x : A) → length (f x) ≡ length (g x)) → (xs : List A) → length (flat_map f xs) ≡ length (flat_map g xs)
@@ -34,29 +32,14 @@ only-one P x holds = All-cons P x [] holds (All-nil P)
 pub all-places : {A : Type 0} (P : A → Type 0) (xs : List A) → ((k : ℕ) (x : A) → slice_get xs k ≡ Some x → P x) → All P xs
 all-places P xs each k d below = each k (get_or xs k d) (slice_get-get_or xs k d below)
 
--- ---- the place of a name
-
-pub place-below : (names : List (List ℕ)) (n : List ℕ) → is_among names n ≡ true → place_of names n < length names
-place-below names n among = first-below (λ m. bytes_eq m n) names among
-
-named-there : (names : List (List ℕ)) (n : List ℕ) → is_among names n ≡ true → get_or names (place_of names n) [] ≡ n
-named-there names n among = (bytes_eq-Decides (get_or names (place_of names n) []) n).0 (passes_at_first (λ m. bytes_eq m n) names [] (place-below names n among))
-
--- names with one place are one
-pub same-place : (names : List (List ℕ)) (m n : List ℕ) → is_among names m ≡ true → is_among names n ≡ true → place_of names m ≡ place_of names n → m ≡ n
-same-place names m n first second same = sym (named-there names m first) ∙ ap (λ k. get_or names k []) same ∙ named-there names n second
-
-pub is-same : (n : List ℕ) → bytes_eq n n ≡ true
-is-same n = (bytes_eq-Decides n n).1 refl
-
 -- ---- variables
 
 nodes-below : (names : List (List ℕ)) (nodes : List (Node (List ℕ))) → list_any (is_strange names) nodes ≡ false → VariablesBelow (length names) (map (placed_node names) nodes)
 nodes-below names [] none k v at = absurd cc
 nodes-below names (Var n ∷ nodes) none zero v at =
     let known : is_among names n ≡ true = not-false (is_among names n) (or_parts (is_strange names (Var n)) (list_any (is_strange names) nodes) none).0 in
-    let is : place_of names n ≡ v = cc in
-    subst (λ w. w < length names) is (place-below names n known)
+    let is : index_of names n ≡ v = cc in
+    subst (λ w. w < length names) is (index-below names n known)
 nodes-below names (Num z ∷ nodes) none zero v at = absurd cc
 nodes-below names (Un op a ∷ nodes) none zero v at = absurd cc
 nodes-below names (Bin op a b ∷ nodes) none zero v at = absurd cc

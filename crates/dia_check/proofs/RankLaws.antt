@@ -17,15 +17,16 @@ use Rattle.dbp_plan.specs.declared.diagram.Task.{Task}
 use Rattle.dbp_plan.specs.Closed.{IsClosed}
 use Rattle.dbp_plan.specs.Ranked.{IsRanked}
 use Rattle.dbp_plan.specs.Ranks.{ranks_of}
+use Rattle.dbp_plan.specs.FirstFault.{faults_behind, first_fault}
 use Rattle.dbp_plan.proofs.RankLaws.{length-ranks_of, ranks-apart}
+use Rattle.dbp_plan.proofs.ListParts.{split-at}
+use Rattle.dbp_plan.proofs.FirstFaults.{first-append, first-front}
 use Rattle.dia_check.specs.declared.fail.RankFault.{RankFault}
 use Rattle.dia_check.specs.declared.fail.RankFault.TheVariants.{MissingPrio, MissingDeadline, UndelayedUpward}
 use Rattle.dia_check.specs.declared.shaped.ReadLine.{ReadLine}
 use Rattle.dia_check.specs.declared.shaped.Shaped.{Shaped}
-use Rattle.dia_check.specs.Faults.{faults_behind, first_fault}
 use Rattle.dia_check.specs.RankFaults.{task_rank_fault, link_rank_fault, read_rank_fault, rank_faults, HasNoRankFault, ranked_diagram}
 use Rattle.dia_check.specs.Shapes.{HasLines}
-use Rattle.dia_check.proofs.FirstFaults.{split-at, first-append, first-front}
 
 -- ---- the loop over the read lines
 

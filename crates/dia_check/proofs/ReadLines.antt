@@ -7,6 +7,7 @@ use Rattle.std.proofs.lemmas.List.Sums.{sum_by-cons}
 use Rattle.dbp_plan.specs.declared.diagram.Diagram.{Diagram}
 use Rattle.dbp_plan.specs.declared.diagram.Task.{Task}
 use Rattle.dbp_plan.specs.declared.diagram.Link.{Link}
+use Rattle.dbp_plan.proofs.ListParts.{split-at}
 use Rattle.dia_lines.specs.declared.item.Part.{Part}
 use Rattle.dia_lines.specs.declared.item.Part.TheVariants as part
 use Rattle.dia_read.specs.declared.document.Doc.{Doc}
@@ -15,7 +16,6 @@ use Rattle.dia_read.specs.declared.document.RawTask.{RawTask}
 use Rattle.dia_check.specs.declared.shaped.ReadLine.{ReadLine}
 use Rattle.dia_check.specs.Diagrams.{link_of, links_of, link_number, read_of, IsDiagramOf}
 use Rattle.dia_check.specs.Shapes.{body_read_lines, read_lines_from, read_lines_of, HasLines}
-use Rattle.dia_check.proofs.FirstFaults.{split-at}
 
 module _ (tasks : List RawTask) (reader : ℕ) (ps : List Part) (ns : List ℕ) (k : ℕ) (p : Part) (n : ℕ) (in_ps : k < length ps) (in_ns : k < length ns) (is_p : p ≡ get_or ps k p) (is_n : n ≡ get_or ns k n) where
   from-here : body_read_lines tasks reader (drop k ps) (drop k ns)

@@ -6,6 +6,7 @@ use Rattle.dbp_plan.specs.Closed.{let_base}
 use Rattle.dbp_plan.specs.declared.diagram.Diagram.{Diagram}
 use Rattle.dbp_plan.specs.declared.diagram.Let.{Let}
 use Rattle.dbp_plan.specs.declared.diagram.Task.{Task}
+use Rattle.dbp_plan.specs.FirstFault.{first_fault}
 use Rattle.dia_read.specs.declared.document.Body.{Body}
 use Rattle.dia_read.specs.declared.document.Doc.{Doc}
 use Rattle.dia_read.specs.declared.document.RawTask.{RawTask}
@@ -15,7 +16,7 @@ use Rattle.dia_check.specs.declared.fail.CheckCode.TheVariants.{NoOut}
 use Rattle.dia_check.specs.declared.fail.LineFault.{LineFault}
 use Rattle.dia_check.specs.declared.shaped.Shaped.{Shaped}
 use Rattle.dia_check.specs.Diagrams.{lets_of, task_of, IsTaskOf, IsDiagramOf}
-use Rattle.dia_check.specs.Faults.{code_of, IsSameCode, same, cycles, first_fault, line_faults, let_lines, base_of, part_lines, IsWhole, HasTaskFault, no_out, a_cycle, HasNoShapeFault, IsShapeFault, of_a_line, of_a_task}
+use Rattle.dia_check.specs.Faults.{code_of, IsSameCode, same, cycles, line_faults, let_lines, base_of, part_lines, IsWhole, HasTaskFault, no_out, a_cycle, HasNoShapeFault, IsShapeFault, of_a_line, of_a_task}
 use Rattle.dia_check.specs.Shapes.{IsShapeOf}
 use Rattle.dia_check.specs.Checks.{IsCheckFault, of_shape, of_ranks}
 use Rattle.dia_check.specs.RankFaults.{IsRankFault, code_of_rank}

@@ -6,8 +6,10 @@ use Rattle.std.proofs.lemmas.List.Sums.{sum_by-cons}
 use Rattle.dia_read.specs.declared.document.Body.{Body}
 use Rattle.dia_read.specs.declared.document.RawTask.{RawTask}
 use Rattle.dia_check.specs.declared.fail.LineFault.{LineFault}
-use Rattle.dia_check.specs.Faults.{faults_behind, task_faults, task_fault, part_fault, first_fault}
-use Rattle.dia_check.proofs.FirstFaults.{at-any, split-at, take-next, nothing-behind, first-append, first-front}
+use Rattle.dia_check.specs.Faults.{task_faults, task_fault, part_fault}
+use Rattle.dbp_plan.specs.FirstFault.{faults_behind, first_fault}
+use Rattle.dbp_plan.proofs.ListParts.{at-any, split-at, take-next, nothing-behind}
+use Rattle.dbp_plan.proofs.FirstFaults.{first-append, first-front}
 
 -- the rest of a slice
 pub rest-is : (n : ℕ) (xs : List ℕ) → take (length xs - n) (drop n xs) ≡ drop n xs

@@ -4,6 +4,7 @@ use Rattle.std.specs.List.{flat_map}
 use Rattle.std.proofs.lemmas.Option.{slice_get_within}
 use Rattle.dbp_plan.specs.Closed.{let_base}
 use Rattle.dbp_plan.specs.LetOrder.{VariablesBelow}
+use Rattle.dbp_plan.specs.declared.limits.TheConstants.{MAX_BODY}
 use Rattle.dbp_plan.specs.declared.diagram.Clock.{Clock}
 use Rattle.dbp_plan.specs.declared.diagram.Task.{Task}
 use Rattle.dbp_plan.specs.declared.diagram.Let.{Let}
@@ -33,9 +34,9 @@ module _ (t : RawTask) (names : List (List ℕ)) (lets : List Let) (named : name
   pub counts-add : base_of t + length lets ≡ length names
   counts-add = ap (λ (ls : List Let). base_of t + length ls) lets-are ∙ base-and-lets t ∙ sym (ap (λ (ns : List (List ℕ)). length ns) named)
 
-  pub few-lets : length t.parts ≤ 64 → (length lets ≤ 64) × (length names ≤ 64)
+  pub few-lets : length t.parts ≤ MAX_BODY → (length lets ≤ MAX_BODY) × (length names ≤ MAX_BODY)
   few-lets few =
-      let all : length names ≤ 64 = omega (arith, few-names t.parts, few, ap (λ (ns : List (List ℕ)). length ns) named) in
+      let all : length names ≤ MAX_BODY = omega (arith, few-names t.parts, few, ap (λ (ns : List (List ℕ)). length ns) named) in
       (omega (arith, counts-add, all), all)
 
   pub variables-below : (body : Body) → HasFaultlessParts body t → All (λ l. VariablesBelow (length names - length lets + length lets) l.expr.nodes) lets

@@ -6,6 +6,8 @@ use Rattle.std.proofs.lemmas.List.Sums.{sum_by_push, sum_by-take-drop, sum_by-dr
 use Rattle.std.proofs.lemmas.List.{length-drop, drop-drop}
 use Rattle.std.proofs.lemmas.Option.{slice_get_read, slice_get_within, slice_get-get_or, same_Some}
 use Rattle.dbp_plan.specs.declared.diagram.Task.{Task}
+use Rattle.dbp_plan.specs.FirstFault.{first_fault}
+use Rattle.dbp_plan.proofs.ListParts.{take-next}
 use Rattle.dia_read.specs.declared.document.Doc.{Doc}
 use Rattle.dia_read.specs.declared.document.RawTask.{RawTask}
 use Rattle.dia_read.specs.Printable.{HasItemLines}
@@ -14,9 +16,8 @@ use Rattle.dia_check.specs.declared.fail.CheckFail.{CheckFail}
 use Rattle.dia_check.specs.declared.fail.CheckFail.TheVariants.{Refused, NoMemory}
 use Rattle.dia_check.specs.Scopes.{IsTaskRefusal}
 use Rattle.dia_check.specs.Diagrams.{IsTaskOf}
-use Rattle.dia_check.specs.Faults.{IsWhole, HasTaskFault, part_lines, first_fault, line_faults, IsShapeFault, of_a_task}
+use Rattle.dia_check.specs.Faults.{IsWhole, HasTaskFault, part_lines, line_faults, IsShapeFault, of_a_task}
 use Rattle.dia_check.specs.Shapes.{AreTasksOf, AreWhole, IsShapeRefusal}
-use Rattle.dia_check.proofs.FirstFaults.{take-next}
 
 data Pushed {A : Type 0} (made : List A) (x : A) (i : ℕ) (y : A) : Type 0 where
   before : slice_get made i ≡ Some y → Pushed made x i y

@@ -14,6 +14,7 @@ use Rattle.dbp_plan.specs.declared.diagram.Sense.{Sense}
 use Rattle.dbp_plan.specs.declared.diagram.State.{State}
 use Rattle.dbp_plan.specs.declared.diagram.Task.{Task}
 use Rattle.dbp_plan.specs.Closed.{let_base}
+use Rattle.dbp_plan.specs.NameLists.{index_of}
 use Rattle.dia_lines.specs.declared.item.Decl.{Decl}
 use Rattle.dia_lines.specs.declared.item.Decl.TheVariants as decl
 use Rattle.dia_lines.specs.declared.item.Part.{Part}
@@ -23,7 +24,7 @@ use Rattle.dia_lines.specs.declared.item.RawClock.TheVariants.{Every, On}
 use Rattle.dia_read.specs.declared.document.Body.{Body}
 use Rattle.dia_read.specs.declared.document.RawTask.{RawTask}
 use Rattle.expr_eval.specs.LetOrders.{IsFrontOrder}
-use Rattle.dia_check.specs.Names.{place_of, input_name, event_name, task_names, state_name, env_names, port_names}
+use Rattle.dia_check.specs.Names.{input_name, event_name, task_names, state_name, env_names, port_names}
 use Rattle.dia_check.specs.Placed.{placed}
 
 -- ---- links
@@ -33,7 +34,7 @@ is_same_link k l = k.writer == l.writer && k.reader == l.reader && k.delay == l.
 
 -- the link that a line of this task's body reads over, where it is a read
 abbrev pub link_of : List RawTask → ℕ → Part → List Link
-link_of tasks reader (part.Read n delay writer port at) = record { writer = place_of (task_names tasks) writer; reader = reader; delay = delay } ∷ []
+link_of tasks reader (part.Read n delay writer port at) = record { writer = index_of (task_names tasks) writer; reader = reader; delay = delay } ∷ []
 link_of tasks reader _ = []
 
 -- the links of the read lines of these tasks, in their order, where the first task has this number
@@ -56,22 +57,22 @@ link_number links l = position_or_len (λ k. is_same_link k l) links
 
 abbrev pub clock_of : List (List ℕ) → RawClock → Clock
 clock_of events (Every period offset) = clock.Every period offset
-clock_of events (On event) = clock.On (place_of events event)
+clock_of events (On event) = clock.On (index_of events event)
 
 abbrev pub state_of : Part → List State
 state_of (part.State n first) = record { name = n; first = first } ∷ []
 state_of _ = []
 
 abbrev pub sense_of : List (List ℕ) → Part → List Sense
-sense_of inputs (part.Sense n input) = record { name = n; input = place_of inputs input } ∷ []
+sense_of inputs (part.Sense n input) = record { name = n; input = index_of inputs input } ∷ []
 sense_of inputs _ = []
 
 abbrev pub read_of : List RawTask → ℕ → Part → List Read
 read_of tasks reader (part.Read n delay writer port at) =
     record {
       name = n;
-      link = link_number (links_of tasks) (record { writer = place_of (task_names tasks) writer; reader = reader; delay = delay });
-      port = place_of (port_names tasks writer) port;
+      link = link_number (links_of tasks) (record { writer = index_of (task_names tasks) writer; reader = reader; delay = delay });
+      port = index_of (port_names tasks writer) port;
       at = at;
     }
     ∷ []
@@ -82,7 +83,7 @@ let_of names (part.Let n e) = record { name = n; expr = placed names e } ∷ []
 let_of names _ = []
 
 abbrev pub next_of : List (List ℕ) → List (List ℕ) → Part → List Next
-next_of states names (part.Next n e) = record { state = place_of states n; expr = placed names e } ∷ []
+next_of states names (part.Next n e) = record { state = index_of states n; expr = placed names e } ∷ []
 next_of states names _ = []
 
 abbrev pub out_of : List (List ℕ) → Part → List Out

@@ -5,6 +5,8 @@ use Rattle.std.specs.Str.{bytes_eq}
 use Rattle.dbp_plan.specs.declared.expr.Expr.{Expr}
 use Rattle.dbp_plan.specs.declared.node.Node.{Node}
 use Rattle.dbp_plan.specs.declared.node.Node.TheVariants.{Var}
+use Rattle.dbp_plan.specs.FirstFault.{faults_behind, first_fault}
+use Rattle.dbp_plan.specs.NameLists.{is_among}
 use Rattle.dia_lines.specs.declared.item.Decl.{Decl}
 use Rattle.dia_lines.specs.declared.item.Part.{Part}
 use Rattle.dia_lines.specs.declared.item.Part.TheVariants.{State, Sense, Read, Let, Next, Out}
@@ -20,7 +22,7 @@ use Rattle.dia_check.specs.declared.fail.CheckCode.TheVariants.{LetCycle, NoOut}
 use Rattle.dia_check.specs.declared.fail.LineFault.{LineFault}
 use Rattle.dia_check.specs.declared.fail.LineFault.TheVariants.{Duplicate, Unknown, SelfLink, ReadPastCost}
 use Rattle.dia_check.specs.Diagrams.{lets_of}
-use Rattle.dia_check.specs.Names.{is_among, next_name, declared_name, input_name, event_name, decl_name, task_names, state_name, sense_name, read_name, out_name, env_names, port_names}
+use Rattle.dia_check.specs.Names.{next_name, declared_name, input_name, event_name, decl_name, task_names, state_name, sense_name, read_name, out_name, env_names, port_names}
 
 -- ---- tests on a line
 
@@ -87,11 +89,6 @@ part_fault body t before p =
 
 -- ---- the first of the lines with a fault
 
--- each item with the number of its line and its first fault, behind the items before it
-abbrev pub faults_behind : {A F : Type 0} → (List A → A → Option F) → List A → List A → List ℕ → List (ℕ × Option F)
-faults_behind fault before (x ∷ xs) (n ∷ ns) = (n, fault before x) ∷ faults_behind fault (before ++ x ∷ []) xs ns
-faults_behind fault before _ _ = []
-
 -- each task with the number of its line and its first fault, and the lines of its body behind it
 abbrev pub task_faults : Body → List RawTask → List RawTask → List ℕ → List ℕ → List (ℕ × Option LineFault)
 task_faults body before (t ∷ ts) (n ∷ ns) parts =
@@ -101,12 +98,6 @@ task_faults body before _ _ parts = []
 -- the lines of declarations, tasks and bodies, where each of them has a number
 abbrev pub line_faults : Doc → List (ℕ × Option LineFault)
 line_faults doc = faults_behind decl_fault [] doc.body.decls doc.lines.decls ++ task_faults doc.body [] doc.body.tasks doc.lines.tasks doc.lines.parts
-
--- the first line that has a fault, with its first fault
-abbrev pub first_fault : {F : Type 0} → List (ℕ × Option F) → Option (ℕ × F)
-first_fault [] = None
-first_fault ((n, None) ∷ rest) = first_fault rest
-first_fault ((n, Some fault) ∷ rest) = Some (n, fault)
 
 abbrev pub code_of : LineFault → CheckCode
 code_of Duplicate = code.Duplicate

@@ -1,19 +1,12 @@
--- The names that a document declares, and where they are looked up.
-use Rattle.std.specs.Prelude.{ℕ, Bool, List, [], ◌∷◌, ◌++◌, map, Some, None}
-use Rattle.std.specs.List.{flat_map, find, list_any, position_or_len}
+-- The names that a document declares.
+use Rattle.std.specs.Prelude.{ℕ, List, [], ◌∷◌, ◌++◌, map, Some, None}
+use Rattle.std.specs.List.{flat_map, find}
 use Rattle.std.specs.Str.{bytes_eq}
 use Rattle.dia_lines.specs.declared.item.Decl.{Decl}
 use Rattle.dia_lines.specs.declared.item.Decl.TheVariants.{Input, Event}
 use Rattle.dia_lines.specs.declared.item.Part.{Part}
 use Rattle.dia_lines.specs.declared.item.Part.TheVariants.{State, Sense, Read, Let, Next, Out}
 use Rattle.dia_read.specs.declared.document.RawTask.{RawTask}
-
-abbrev pub is_among : List (List ℕ) → List ℕ → Bool
-is_among names n = list_any (λ m. bytes_eq m n) names
-
--- the place of the name: the first, where it stands at several, and behind all where it stands at none
-abbrev pub place_of : List (List ℕ) → List ℕ → ℕ
-place_of names n = position_or_len (λ m. bytes_eq m n) names
 
 -- ---- of the document
 

@@ -7,19 +7,19 @@ use Rattle.dbp_plan.specs.declared.node.Node.TheVariants.{Num, Var, Un, Bin, Pic
 use Rattle.dbp_plan.specs.declared.expr.Expr.{Expr}
 use Rattle.dbp_plan.specs.declared.limits.TheConstants.{MAX_NODES}
 use Rattle.dbp_plan.specs.Tree.{Tree, number, variable, unary, binary, choice, size_of, root_of, nodes_of}
-use Rattle.dia_check.specs.Names.{place_of}
+use Rattle.dbp_plan.specs.NameLists.{index_of}
 
 -- the node with the place of its name
 abbrev pub placed_node : List (List ℕ) → Node (List ℕ) → Node ℕ
 placed_node names (Num z) = Num z
-placed_node names (Var n) = Var (place_of names n)
+placed_node names (Var n) = Var (index_of names n)
 placed_node names (Un op a) = Un op a
 placed_node names (Bin op a b) = Bin op a b
 placed_node names (Pick c a b) = Pick c a b
 
 abbrev pub placed_tree : List (List ℕ) → Tree (List ℕ) → Tree ℕ
 placed_tree names (number z) = number z
-placed_tree names (variable n) = variable (place_of names n)
+placed_tree names (variable n) = variable (index_of names n)
 placed_tree names (unary op t) = unary op (placed_tree names t)
 placed_tree names (binary op l r) = binary op (placed_tree names l) (placed_tree names r)
 placed_tree names (choice c x y) = choice (placed_tree names c) (placed_tree names x) (placed_tree names y)

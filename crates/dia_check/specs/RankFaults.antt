@@ -7,6 +7,7 @@ use Rattle.dbp_plan.specs.declared.diagram.Policy.{Policy}
 use Rattle.dbp_plan.specs.declared.diagram.Policy.TheVariants.{Fp, Edf}
 use Rattle.dbp_plan.specs.declared.diagram.Task.{Task}
 use Rattle.dbp_plan.specs.Ranks.{ranks_of}
+use Rattle.dbp_plan.specs.FirstFault.{faults_behind, first_fault}
 use Rattle.dia_check.specs.declared.fail.CheckCode.{CheckCode}
 use Rattle.dia_check.specs.declared.fail.CheckCode.TheVariants as code
 use Rattle.dia_check.specs.declared.fail.CheckFail.{CheckFail}
@@ -15,7 +16,6 @@ use Rattle.dia_check.specs.declared.fail.RankFault.{RankFault}
 use Rattle.dia_check.specs.declared.fail.RankFault.TheVariants.{MissingPrio, MissingDeadline, UndelayedUpward}
 use Rattle.dia_check.specs.declared.shaped.ReadLine.{ReadLine}
 use Rattle.dia_check.specs.declared.shaped.Shaped.{Shaped}
-use Rattle.dia_check.specs.Faults.{faults_behind, first_fault}
 
 -- of a task: what the policy ranks it by is missing
 abbrev pub task_rank_fault : Policy → Task → Option RankFault

@@ -1,7 +1,8 @@
 // The first line with a fault.
 
 ghost use Rattle.std.specs.Prelude.{◌≡◌, ◌≤◌, [], length};
-ghost use Rattle.dia_check.specs.Faults.{decl_fault, part_fault, faults_behind, task_faults, line_faults, first_fault};
+ghost use Rattle.dia_check.specs.Faults.{decl_fault, part_fault, task_faults, line_faults};
+ghost use Rattle.dbp_plan.specs.FirstFault.{faults_behind, first_fault};
 ghost use Rattle.dia_read.specs.Printable.{HasItemLines};
 
 use crate::fail::LineFault;

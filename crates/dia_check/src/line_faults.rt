@@ -4,7 +4,8 @@ ghost use Rattle.std.specs.Prelude.{◌≡◌, ◌<◌, ◌↔◌, IsTrue, lengt
 ghost use Rattle.std.specs.List.{flat_map, find, list_any};
 ghost use Rattle.std.specs.Option.{option_copied};
 ghost use Rattle.dia_check.specs.Faults.{is_repeated, is_strange, has_strange, is_unknown, is_self_link, is_past_cost, is_unknown_clock, decl_fault, task_fault, part_fault};
-ghost use Rattle.dia_check.specs.Names.{is_among, input_name, event_name, decl_name, task_names, state_name, out_name, env_names, port_names, next_name, declared_name};
+ghost use Rattle.dia_check.specs.Names.{input_name, event_name, decl_name, task_names, state_name, out_name, env_names, port_names, next_name, declared_name};
+ghost use Rattle.dbp_plan.specs.NameLists.{is_among};
 ghost use Rattle.dia_check.specs.Tests.{is_input, is_event, is_decl, is_task, is_state, is_out, is_next, is_place, is_declared};
 
 use crate::fail::LineFault;

@@ -4,11 +4,12 @@ ghost use Rattle.std.specs.Prelude.{◌≡◌, ◌+◌, ◌<◌, ◌≤◌, ◌^
 ghost use Rattle.std.specs.List.{flat_map, list_any};
 ghost use Rattle.std.specs.Option.{option_to_list};
 ghost use Rattle.dbp_plan.specs.declared.diagram.Link.{Link as AnyLink};
+ghost use Rattle.dbp_plan.specs.NameLists.{index_of};
 ghost use Rattle.dia_read.specs.declared.document.RawTask.{RawTask as AnyTask};
 ghost use Rattle.dia_check.specs.Diagrams.{link_of, links_of, links_used, firsts, is_same_link, link_number};
-ghost use Rattle.dia_check.specs.Names.{place_of, task_names};
+ghost use Rattle.dia_check.specs.Names.{task_names};
 
-use crate::names::place_of;
+use crate::names::index_of;
 use dbp_plan::{Link, List, Name, NoMemory};
 use dia_lines::Part;
 use dia_read::RawTask;
@@ -21,7 +22,7 @@ pub(crate) fn link_of(names: &[Name], reader: u32, part: &Part) -> Option<Link>
 {
     match part {
         Part::Read { delay, task, .. } => Some(Link {
-            writer: place_of(names, task),
+            writer: index_of(names, task),
             reader,
             delay: *delay,
         }),

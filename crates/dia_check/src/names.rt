@@ -4,7 +4,9 @@ ghost use Rattle.std.specs.Prelude.{◌≡◌, ◌+◌, ◌<◌, ◌≤◌, ◌^
 ghost use Rattle.std.specs.List.{flat_map};
 ghost use Rattle.std.specs.Option.{option_to_list};
 ghost use Rattle.dia_check.specs.Kinds.{named};
-ghost use Rattle.dia_check.specs.Names.{place_of, input_name, event_name, task_names, state_name, env_names};
+ghost use Rattle.dia_check.specs.Names.{input_name, event_name, task_names, state_name, env_names};
+ghost use Rattle.dbp_plan.specs.declared.limits.TheConstants.{MAX_BODY};
+ghost use Rattle.dbp_plan.specs.NameLists.{index_of};
 
 use dbp_plan::{List, Name, NoMemory};
 use dia_lines::{Decl, Part};
@@ -21,9 +23,9 @@ pub(crate) enum Kind {
 }
 
 /// The place of the name, the first of them; behind all where it isn't among them.
-pub(crate) fn place_of(names: &[Name], name: &Name) -> u32
+pub(crate) fn index_of(names: &[Name], name: &Name) -> u32
     requires { length names.now < 2 ^ 32 }
-    ensures { result ≡ place_of names.now name.now }
+    ensures { result ≡ index_of names.now name.now }
 {
     names
         .iter()
@@ -96,7 +98,7 @@ fn push_named(names: &mut List<Name>, kind: Kind, parts: &[Part]) -> Result<(), 
 }
 
 pub(crate) fn state_names(alloc: Global, parts: &[Part]) -> Result<List<Name>, NoMemory>
-    requires { length parts.now ≤ 64 }
+    requires { length parts.now ≤ MAX_BODY }
     ensures { IfOk result (λ names. names ≡ flat_map state_name parts.now) }
 {
     let mut names = List::new(alloc);
@@ -106,7 +108,7 @@ pub(crate) fn state_names(alloc: Global, parts: &[Part]) -> Result<List<Name>, N
 
 /// The names of the task's environment.
 pub(crate) fn env_names(alloc: Global, parts: &[Part]) -> Result<List<Name>, NoMemory>
-    requires { length parts.now ≤ 64 }
+    requires { length parts.now ≤ MAX_BODY }
     ensures { IfOk result (λ names. names ≡ env_names parts.now) }
 {
     let mut names = List::new(alloc);

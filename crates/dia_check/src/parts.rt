@@ -3,17 +3,18 @@
 ghost use Rattle.std.specs.Prelude.{◌≡◌, ◌<◌, ◌≤◌, ◌^◌, length, IfOk};
 ghost use Rattle.std.specs.List.{flat_map};
 ghost use Rattle.std.specs.Option.{option_to_list};
+ghost use Rattle.dbp_plan.specs.declared.limits.TheConstants.{MAX_BODY};
 ghost use Rattle.dia_check.specs.Diagrams.{state_of, sense_of, let_of, next_of, out_of};
 ghost use Rattle.dia_check.specs.Names.{input_name};
 
-use crate::names::place_of;
+use crate::names::index_of;
 use crate::placing::placed;
 use dbp_plan::{Let, List, Name, Next, NoMemory, Out, Sense, State};
 use dia_lines::Part;
 use std::alloc::Global;
 
 pub(crate) fn states_of(alloc: Global, parts: &[Part]) -> Result<List<State>, NoMemory>
-    requires few { length parts.now ≤ 64 }
+    requires few { length parts.now ≤ MAX_BODY }
     ensures { IfOk result (λ states. states ≡ flat_map state_of parts.now) }
 {
     let mut states = List::new(alloc);
@@ -33,7 +34,7 @@ pub(crate) fn senses_of(
     inputs: &[Name],
     parts: &[Part],
 ) -> Result<List<Sense>, NoMemory>
-    requires few { length parts.now ≤ 64 }
+    requires few { length parts.now ≤ MAX_BODY }
     requires inputs { length inputs.now < 2 ^ 32 }
     ensures { IfOk result (λ senses. senses ≡ flat_map (sense_of inputs.now) parts.now) }
 {
@@ -42,7 +43,7 @@ pub(crate) fn senses_of(
         if let Part::Sense(name, input) = part {
             senses.push(Sense {
                 name: *name,
-                input: place_of(inputs, input),
+                input: index_of(inputs, input),
             })?;
         }
     }
@@ -63,7 +64,7 @@ fn let_of(alloc: Global, names: &[Name], part: &Part) -> Result<Option<Let>, NoM
 }
 
 pub(crate) fn lets_of(alloc: Global, names: &[Name], parts: &[Part]) -> Result<List<Let>, NoMemory>
-    requires few { length parts.now ≤ 64 }
+    requires few { length parts.now ≤ MAX_BODY }
     requires names { length names.now < 2 ^ 32 }
     ensures { IfOk result (λ lets. lets ≡ flat_map (let_of names.now) parts.now) }
 {
@@ -88,7 +89,7 @@ fn next_of(
 {
     match part {
         Part::Next(state, expr) => Ok(Some(Next {
-            state: place_of(states, state),
+            state: index_of(states, state),
             expr: placed(alloc, names, expr)?,
         })),
         _ => Ok(None),
@@ -101,7 +102,7 @@ pub(crate) fn nexts_of(
     names: &[Name],
     parts: &[Part],
 ) -> Result<List<Next>, NoMemory>
-    requires few { length parts.now ≤ 64 }
+    requires few { length parts.now ≤ MAX_BODY }
     requires states { length states.now < 2 ^ 32 }
     requires names { length names.now < 2 ^ 32 }
     ensures { IfOk result (λ nexts. nexts ≡ flat_map (next_of states.now names.now) parts.now) }
@@ -130,7 +131,7 @@ fn out_of(alloc: Global, names: &[Name], part: &Part) -> Result<Option<Out>, NoM
 }
 
 pub(crate) fn outs_of(alloc: Global, names: &[Name], parts: &[Part]) -> Result<List<Out>, NoMemory>
-    requires few { length parts.now ≤ 64 }
+    requires few { length parts.now ≤ MAX_BODY }
     requires names { length names.now < 2 ^ 32 }
     ensures { IfOk result (λ outs. outs ≡ flat_map (out_of names.now) parts.now) }
 {

@@ -3,7 +3,7 @@
 ghost use Rattle.std.specs.Prelude.{◌≡◌, ◌<◌, ◌^◌, length, map, IfOk};
 ghost use Rattle.dia_check.specs.Placed.{placed_node, placed};
 
-use crate::names::place_of;
+use crate::names::index_of;
 use dbp_plan::{Expr, List, Name, NoMemory, Node};
 use std::alloc::Global;
 
@@ -13,7 +13,7 @@ fn placed_node(names: &[Name], node: Node<Name>) -> Node<u32>
 {
     match node {
         Node::Num(value) => Node::Num(value),
-        Node::Var(name) => Node::Var(place_of(names, &name)),
+        Node::Var(name) => Node::Var(index_of(names, &name)),
         Node::Un(op, operand) => Node::Un(op, operand),
         Node::Bin(op, left, right) => Node::Bin(op, left, right),
         Node::Pick(condition, one, other) => Node::Pick(condition, one, other),

@@ -3,7 +3,7 @@
 ghost use Rattle.std.specs.Prelude.{◌≡◌, ◌<◌, ◌≤◌, All, IfErr, IfOk, [], length, map};
 ghost use Rattle.dbp_plan.specs.Closed.{IsClosed};
 ghost use Rattle.dbp_plan.specs.Ranked.{IsRanked};
-ghost use Rattle.dia_check.specs.Faults.{faults_behind, first_fault};
+ghost use Rattle.dbp_plan.specs.FirstFault.{faults_behind, first_fault};
 ghost use Rattle.dia_check.specs.RankFaults.{task_rank_fault, link_rank_fault, read_rank_fault, HasNoRankFault, IsRankRefusal, ranked_diagram};
 ghost use Rattle.dia_read.specs.declared.document.Doc.{Doc as AnyDoc};
 ghost use Rattle.dia_check.specs.Checks.{IsCheckedOf};

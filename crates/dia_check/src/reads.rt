@@ -5,14 +5,16 @@ ghost use Rattle.std.specs.List.{flat_map};
 ghost use Rattle.std.specs.Option.{option_to_list};
 ghost use Rattle.dia_read.specs.declared.document.Body.{Body as AnyBody};
 ghost use Rattle.dia_check.specs.Diagrams.{read_of};
-ghost use Rattle.dia_check.specs.Names.{place_of, out_name, port_names};
+ghost use Rattle.dia_check.specs.Names.{out_name, port_names};
+ghost use Rattle.dbp_plan.specs.declared.limits.TheConstants.{MAX_BODY};
+ghost use Rattle.dbp_plan.specs.NameLists.{index_of};
 ghost use Rattle.dia_check.specs.Scopes.{IsScopeOf};
 ghost use Rattle.dia_check.specs.Shapes.{body_read_lines, read_lines_of};
 ghost use Rattle.dia_read.specs.Printable.{HasItemLines};
 
 use crate::line_faults::find_task;
 use crate::links::{link_number, link_of};
-use crate::names::place_of;
+use crate::names::index_of;
 use crate::scope::Scope;
 use crate::shaped::ReadLine;
 use dbp_plan::{Link, List, Name, NoMemory, Read};
@@ -23,7 +25,7 @@ use std::alloc::Global;
 /// The place of the name among the body's outs; behind all where it isn't there.
 fn out_place(parts: &[Part], name: &Name) -> u32
     requires { length parts.now < 2 ^ 32 }
-    ensures { result ≡ place_of (flat_map out_name parts.now) name.now }
+    ensures { result ≡ index_of (flat_map out_name parts.now) name.now }
 {
     let mut place = 0;
     for part in parts {
@@ -39,7 +41,7 @@ fn out_place(parts: &[Part], name: &Name) -> u32
 
 /// The place of the out among those of the first task with the name.
 fn port_place(tasks: &[RawTask], writer: &Name, port: &Name) -> u32
-    ensures { result ≡ place_of (port_names tasks.now writer.now) port.now }
+    ensures { result ≡ index_of (port_names tasks.now writer.now) port.now }
 {
     match find_task(tasks, writer) {
         Some(task) => out_place(task.parts.items(), port),
@@ -60,7 +62,7 @@ fn read_of(body: &Body, scope: &Scope, reader: u32, part: &Part) -> Option<Read>
             at,
         } => {
             let link = Link {
-                writer: place_of(scope.tasks.items(), task),
+                writer: index_of(scope.tasks.items(), task),
                 reader,
                 delay: *delay,
             };
@@ -84,7 +86,7 @@ pub(crate) fn reads_of(
     parts: &[Part],
 ) -> Result<List<Read>, NoMemory>
     requires scope { IsScopeOf body.now scope.now }
-    requires few { length parts.now ≤ 64 }
+    requires few { length parts.now ≤ MAX_BODY }
     ensures { IfOk result (λ reads. reads ≡ flat_map (read_of body.now.tasks reader) parts.now) }
 {
     let mut reads = List::new(alloc);

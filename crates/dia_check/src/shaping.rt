@@ -3,9 +3,10 @@
 ghost use Rattle.std.specs.Prelude.{◌≡◌, ◌<◌, ◌^◌, [], None, length, IfOk, IfErr};
 ghost use Rattle.std.specs.List.{flat_map};
 ghost use Rattle.dbp_plan.specs.Closed.{IsClosed};
+ghost use Rattle.dbp_plan.specs.FirstFault.{first_fault};
 ghost use Rattle.dia_read.specs.Printable.{IsPrintable, HasItemLines};
 ghost use Rattle.dia_check.specs.Diagrams.{IsDiagramOf, input_of};
-ghost use Rattle.dia_check.specs.Faults.{first_fault, line_faults};
+ghost use Rattle.dia_check.specs.Faults.{line_faults};
 ghost use Rattle.dia_check.specs.Scopes.{IsScopeOf};
 ghost use Rattle.dia_check.specs.Shapes.{IsShapeOf, IsShapeRefusal, HasLines, AreTasksOf, AreWhole};
 

@@ -1,6 +1,7 @@
 // The tasks of a document.
 
 ghost use Rattle.std.specs.Prelude.{◌≡◌, ◌<◌, ◌≤◌, ℕ, Some, length, slice_get, sum_by, IfOk, IfErr};
+ghost use Rattle.dbp_plan.specs.declared.limits.TheConstants.{MAX_BODY};
 ghost use Rattle.dia_check.specs.Diagrams.{IsTaskOf, clock_of, lets_of};
 ghost use Rattle.dia_check.specs.Faults.{IsWhole, base_of, let_lines};
 ghost use Rattle.dia_check.specs.Names.{env_names};
@@ -8,7 +9,7 @@ ghost use Rattle.dia_check.specs.Scopes.{IsScopeOf, HasFaultlessParts, HasNoCycl
 ghost use Rattle.expr_eval.specs.LetOrders.{IsFailOf};
 
 use crate::fail::{CheckCode, CheckFail};
-use crate::names::{env_names, place_of, state_names};
+use crate::names::{env_names, index_of, state_names};
 use crate::parts::{lets_of, nexts_of, outs_of, senses_of, states_of};
 use crate::reads::reads_of;
 use crate::scope::Scope;
@@ -59,7 +60,7 @@ fn clock_of(scope: &Scope, clock: &RawClock) -> Clock
             offset: *offset,
         },
         RawClock::On(event) => Clock::On {
-            event: place_of(scope.events.items(), event),
+            event: index_of(scope.events.items(), event),
         },
     }
 }
@@ -79,7 +80,7 @@ fn ordered_lets(
     names: &[Name],
 ) -> Result<OrderedLets, LetFail>
     requires names { names.now ≡ env_names raw.now.parts }
-    requires few { length raw.now.parts ≤ 64 }
+    requires few { length raw.now.parts ≤ MAX_BODY }
     requires faultless { HasFaultlessParts body.now raw.now }
     ensures lets { IfOk result (λ ordered. AreOrderedLets raw.now ordered) }
     ensures whole { IfOk result (λ _. HasNoCycle raw.now) }
@@ -101,7 +102,7 @@ struct Work {
 }
 
 fn work_of(alloc: Global, body: &Body, raw: &RawTask) -> Result<Work, TaskFail>
-    requires few { length raw.now.parts ≤ 64 }
+    requires few { length raw.now.parts ≤ MAX_BODY }
     requires faultless { HasFaultlessParts body.now raw.now }
     ensures work { IfOk result (λ work. IsWorkOf raw.now work) }
     ensures whole { IfOk result (λ _. IsWhole raw.now) }
@@ -140,7 +141,7 @@ fn given_to(
     parts: &[Part],
 ) -> Result<Given, NoMemory>
     requires scope { IsScopeOf body.now scope.now }
-    requires few { length parts.now ≤ 64 }
+    requires few { length parts.now ≤ MAX_BODY }
     ensures { IfOk result (λ given. IsGivenTo body.now number parts.now given) }
 {
     Ok(Given {
@@ -159,7 +160,7 @@ fn task_of(
     raw: &RawTask,
 ) -> Result<Task, TaskFail>
     requires scope { IsScopeOf body.now scope.now }
-    requires few { length raw.now.parts ≤ 64 }
+    requires few { length raw.now.parts ≤ MAX_BODY }
     requires faultless { HasFaultlessParts body.now raw.now }
     ensures task { IfOk result (λ task. IsTaskOf body.now number raw.now task) }
     ensures whole { IfOk result (λ _. IsWhole raw.now) }
@@ -232,7 +233,7 @@ pub(crate) fn checked_task(
     lines: &[u32],
 ) -> Result<Task, CheckFail>
     requires scope { IsScopeOf body.now scope.now }
-    requires few { length raw.now.parts ≤ 64 }
+    requires few { length raw.now.parts ≤ MAX_BODY }
     requires lines { length raw.now.parts ≤ length lines.now }
     requires faultless { HasFaultlessParts body.now raw.now }
     ensures task { IfOk result (λ task. IsTaskOf body.now number raw.now task) }

@@ -1,6 +1,7 @@
 -- There is room in a draft for one more line.
 use Rattle.std.proofs.Common.{ℕ, ◌+◌, ◌*◌, ◌<◌, ◌≤◌, List, [], ◌∷◌, ◌++◌, length, Option, Some, None, arith, length-append}
 use Rattle.std.specs.Option.{option_to_list, IfSome}
+use Rattle.dbp_plan.specs.declared.limits.TheConstants.{MAX_TEXT}
 use Rattle.dia_lines.specs.declared.item.Line.{Line}
 use Rattle.dia_lines.specs.declared.item.Line.TheVariants as line
 use Rattle.dia_read.specs.declared.document.RawTask.{RawTask}
@@ -84,7 +85,7 @@ below None n number h l = tt
 below (Some t) n number h l = omega arith
 
 -- where so many bytes were read, there is room for a line of the bytes that are left
-pub has-room : (d : Draft) (lines number bytes line : ℕ) → Bounded d lines (2 * bytes) → lines < number → bytes + line ≤ 2000000000 → HasRoom d number line
+pub has-room : (d : Draft) (lines number bytes line : ℕ) → Bounded d lines (2 * bytes) → lines < number → bytes + line ≤ MAX_TEXT → HasRoom d number line
 has-room d lines number bytes line b l w = record {
   decls = omega (arith, b.decls);
   tasks = omega (arith, b.tasks);

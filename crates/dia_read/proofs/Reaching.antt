@@ -1,6 +1,7 @@
 -- How far a text was read.
 use Rattle.std.proofs.Common.{◌≡◌, ℕ, ◌+◌, ◌-◌, ◌*◌, ◌^◌, ◌<◌, ◌≤◌, true, List, [], ◌∷◌, ◌++◌, length, reverse, slice_get, Some, refl, sym, ap, subst, ◌∙◌, append_assoc, arith, length-append}
 use Rattle.std.proofs.lemmas.List.{take_at, length-reverse}
+use Rattle.dbp_plan.specs.declared.limits.TheConstants.{MAX_TEXT}
 use Rattle.dbp_plan.specs.Places.{behind_place}
 use Rattle.dia_tokens.proofs.SpellingLaws.{no-feed}
 use Rattle.dia_lines.specs.declared.fault.ReadCode.{ReadCode}
@@ -122,10 +123,10 @@ module _ (bytes rest : List ℕ) (number : ℕ) (position : Position) (draft : D
         within = omega (arith, reached.within);
       }
 
-  pub room-here : length bytes ≤ 2000000000 → HasRoom draft (number + 1) (length text)
+  pub room-here : length bytes ≤ MAX_TEXT → HasRoom draft (number + 1) (length text)
   room-here size = has-room draft number (number + 1) reached.used (length text) reached.bounded (omega arith) (omega (arith, reached.within))
 
-  pub few-here : length bytes ≤ 2000000000 → number + 1 < 2 ^ 31
+  pub few-here : length bytes ≤ MAX_TEXT → number + 1 < 2 ^ 31
   few-here size = omega (arith, reached.few, reached.within)
 
   -- the line has a fault

@@ -1,6 +1,7 @@
 // Reading a text, line by line.
 
 ghost use Rattle.std.specs.Prelude.{◌≡◌, ℕ, ◌≤◌, length, IfOk, IfErr};
+ghost use Rattle.dbp_plan.specs.declared.limits.TheConstants.{MAX_TEXT};
 ghost use Rattle.dia_lines.specs.declared.fault.ReadCode.{ReadCode as Code};
 ghost use Rattle.dia_read.specs.declared.document.Doc.{Doc as Document};
 ghost use Rattle.dia_read.specs.declared.fault.ReadFail.TheVariants.{Refused};
@@ -18,7 +19,7 @@ use std::alloc::Global;
 
 /// The document that the text spells, or its first fault.
 fn read_text(alloc: Global, bytes: &[u8]) -> Result<Doc, ReadFail>
-    requires { length bytes.now ≤ 2000000000 }
+    requires { length bytes.now ≤ MAX_TEXT }
     ensures found { IfOk result (λ doc. Spells bytes.now doc) }
     ensures printable { IfOk result (λ doc. IsPrintable doc.body) }
     ensures lines { IfOk result (λ doc. HasItemLines doc) }
@@ -50,7 +51,7 @@ fn read_text(alloc: Global, bytes: &[u8]) -> Result<Doc, ReadFail>
 /// The document that a text spells, or the text's first fault. docs/LANGUAGE.md says which texts spell documents, and
 /// in which order faults are tried.
 pub fn read_doc(alloc: Global, bytes: &[u8]) -> Result<Doc, ReadFail>
-    requires { length bytes.now ≤ 2000000000 }
+    requires { length bytes.now ≤ MAX_TEXT }
     // The text spells the document.
     ensures found { IfOk result (λ doc. Spells bytes.now doc) }
     // A document that the text spells is given, unless memory runs out.

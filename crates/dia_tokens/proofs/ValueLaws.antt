@@ -10,6 +10,7 @@ use Rattle.std.specs.Str.Parse.{ParsesSigned}
 use Rattle.std.proofs.lemmas.Bool.{cases_Bool}
 use Rattle.std.proofs.lemmas.Bool.Decides.{nat_tests}
 use Rattle.std.proofs.lemmas.Str.Parse.{IsDigitsTest, IsNumeralModel, numerals_by_fold, parse_signed_digits, parse_signed_minus}
+use Rattle.dbp_plan.specs.declared.limits.TheConstants.{MAX_NAME}
 use Rattle.dbp_plan.specs.Name.{IsName, is_name_byte}
 use Rattle.dia_tokens.specs.declared.token.Symbol.TheVariants.{Unequal, Minus}
 use Rattle.dia_tokens.specs.declared.token.Token.{Token}
@@ -33,13 +34,13 @@ passes-each [] p k d h = absurd (omega arith)
 passes-each (b ∷ bs) p zero d h = name-byte b p.0
 passes-each (b ∷ bs) p (suc k) d h = passes-each bs p.1 k d (omega arith)
 
-pub name-from-text : (text : List ℕ) → IsNameText text → nat_le (length text) 24 ≡ true → IsName text
+pub name-from-text : (text : List ℕ) → IsNameText text → nat_le (length text) MAX_NAME ≡ true → IsName text
 name-from-text text (letters b bs e p) h = record { begins = letter-begins b e; each = passes-each (b ∷ bs) (ap is_name_kind e, p); fits = grind (arith, nat_tests) }
 
-pub name-too-long : (text : List ℕ) → IsNameText text → (IsName text → ⊥) → nat_le (length text) 24 ≡ false
-name-too-long text s n = elim (cases_Bool (nat_le (length text) 24)) [ inl y ↦ absurd (n (name-from-text text s y)) | inr e ↦ e ]
+pub name-too-long : (text : List ℕ) → IsNameText text → (IsName text → ⊥) → nat_le (length text) MAX_NAME ≡ false
+name-too-long text s n = elim (cases_Bool (nat_le (length text) MAX_NAME)) [ inl y ↦ absurd (n (name-from-text text s y)) | inr e ↦ e ]
 
-pub name-fits : (text : List ℕ) → IsName text → nat_le (length text) 24 ≡ true
+pub name-fits : (text : List ℕ) → IsName text → nat_le (length text) MAX_NAME ≡ true
 name-fits text n = let f = n.fits in grind (arith, nat_tests)
 
 -- ---- numbers

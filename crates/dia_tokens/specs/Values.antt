@@ -1,5 +1,6 @@
 -- The values of tokens.
 use Rattle.std.specs.Prelude.{◌≡◌, ℕ, ℤ, pos, neg_ℤ, ◌+◌, ◌-◌, ◌*◌, ◌^◌, Bool, true, nat_le, nat_lt, ◌==◌, List, [], ◌∷◌, length, drop, get_or, if◌then◌else◌}
+use Rattle.dbp_plan.specs.declared.limits.TheConstants.{MAX_NAME}
 use Rattle.dia_tokens.specs.declared.token.Symbol.{Symbol}
 use Rattle.dia_tokens.specs.declared.token.Word.{Word}
 use Rattle.dia_tokens.specs.declared.token.Token.{Token}
@@ -32,15 +33,15 @@ abbrev pub is_narrow : Piece → Bool
 is_narrow (number text) = is_in_range text
 is_narrow _ = true
 
--- the token isn't a name of more than 24 bytes
+-- the token isn't a name of more than `MAX_NAME` bytes
 abbrev pub is_short : Piece → Bool
-is_short (name text) = nat_le (length text) 24
+is_short (name text) = nat_le (length text) MAX_NAME
 is_short _ = true
 
 -- the token's text has the value
 pub data HasValue : Piece → Token → Type 0 where
   of_word : (w : Word) → HasValue (word w) (value.Word w)
-  of_name : (text : List ℕ) → nat_le (length text) 24 ≡ true → HasValue (name text) (value.Name text)
+  of_name : (text : List ℕ) → nat_le (length text) MAX_NAME ≡ true → HasValue (name text) (value.Name text)
   of_number : (text : List ℕ) → is_in_range text ≡ true → HasValue (number text) (value.Number (number_of text))
   of_symbol : (s : Symbol) → HasValue (symbol s) (value.Symbol s)
 

@@ -7,7 +7,7 @@ use Rattle.std.proofs.lemmas.List.{map-id, append-nil}
 use Rattle.std.proofs.lemmas.List.FromFn.{filter_of_map_range_with_len_more, length-range_with_len}
 use Rattle.std.proofs.lemmas.List.Sums.{length-filter, count_by-le-length}
 use Rattle.dbp_plan.specs.declared.diagram.Link.{Link}
-use Rattle.release_list.specs.Links.{link_at}
+use Rattle.dbp_plan.specs.Lookups.{link_at}
 use Rattle.release_list.specs.Releases.{into_among}
 use Rattle.dbp_plan.proofs.Counts.{count-cons}
 use Rattle.release_list.proofs.Counts.{count-append}

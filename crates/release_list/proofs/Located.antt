@@ -6,8 +6,8 @@ use Rattle.std.proofs.lemmas.List.Elements.{All-take}
 use Rattle.dbp_plan.specs.declared.diagram.Link.{Link}
 use Rattle.dbp_plan.specs.declared.schedule.Batch.{Batch}
 use Rattle.dbp_plan.specs.Occurrences.{times_of}
+use Rattle.dbp_plan.specs.Lookups.{link_at}
 use Rattle.release_list.specs.declared.release.Release.{Release}
-use Rattle.release_list.specs.Links.{link_at}
 use Rattle.release_list.specs.Releases.{releases_at, releases_of}
 use Rattle.release_list.specs.Schedule.{is_aim, is_claim, is_open, aims, claims, opens}
 use Rattle.release_list.proofs.Counts.{count-append, split}

@@ -9,17 +9,17 @@ use Rattle.std.proofs.lemmas.Option.{get_or_from_slice_get, slice_get-get_or, sl
 use Rattle.dbp_plan.specs.declared.diagram.Diagram.{Diagram}
 use Rattle.dbp_plan.specs.declared.schedule.Batch.{Batch}
 use Rattle.dbp_plan.specs.declared.schedule.Sample.{Sample}
-use Rattle.dbp_plan.specs.Occurrences.{count_until, names, times_of}
+use Rattle.dbp_plan.specs.Occurrences.{count_until, names, times_of, time_of}
 use Rattle.dbp_plan.specs.Places.{all_place, at_place}
 use Rattle.dbp_plan.specs.Plan.{IsPlan}
 use Rattle.dbp_plan.specs.Times.{Rises, times-rise}
+use Rattle.dbp_plan.specs.Lookups.{link_at}
 use Rattle.dbp_plan.proofs.Numbers.{Rise, rise, number-is}
 use Rattle.dbp_plan.proofs.OccurrenceLemmas.{time_here}
 use Rattle.release_list.specs.declared.release.Release.{Release}
 use Rattle.release_list.specs.declared.release.Release.TheVariants.{Aim, Claim, OpenGate}
-use Rattle.release_list.specs.Links.{link_at}
 use Rattle.release_list.specs.Releases.{releases_at, releases_of}
-use Rattle.release_list.specs.Schedule.{AtAim, AtClaim, AtOpen, IsSchedule, aims, claims, opens, is_aim, is_claim, is_open, seen_by, time_of}
+use Rattle.release_list.specs.Schedule.{AtAim, AtClaim, AtOpen, IsSchedule, aims, claims, opens, is_aim, is_claim, is_open, seen_by}
 use Rattle.release_list.proofs.BatchParts.{AmongClaims, AmongOpens, InOrder, at_claim_part, at_open_part, claimed_there, in_order, whole_aims, whole_claims, whole_opens}
 use Rattle.release_list.proofs.Counts.{before_few, found}
 use Rattle.release_list.proofs.Located.{Located, locate, every_aim, every_claim, every_open, aims_at, claims_at, opens_at}

@@ -3,9 +3,9 @@ use Rattle.std.specs.Prelude.{ℕ, ◌==◌, List, ◌++◌, length, map, filter
 use Rattle.std.specs.List.{flat_map, range_with_len}
 use Rattle.dbp_plan.specs.declared.diagram.Link.{Link}
 use Rattle.dbp_plan.specs.declared.schedule.Batch.{Batch}
+use Rattle.dbp_plan.specs.Lookups.{link_at}
 use Rattle.release_list.specs.declared.release.Release.{Release}
 use Rattle.release_list.specs.declared.release.Release.TheVariants.{Aim, Claim, OpenGate}
-use Rattle.release_list.specs.Links.{link_at}
 
 -- the numbers of the links into the task among the first so many links, and among all, in order
 abbrev pub into_among : List Link → ℕ → ℕ → List ℕ

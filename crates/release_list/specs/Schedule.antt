@@ -1,12 +1,12 @@
 -- What a list of the releaser's actions says before each of its places.
-use Rattle.std.specs.Prelude.{◌≡◌, ℕ, zero, suc, ◌+◌, ◌-◌, ◌<◌, ◌≤◌, ◌==◌, Bool, false, List, length, count_by, take, slice_get, slice_index_or, Some}
+use Rattle.std.specs.Prelude.{◌≡◌, ℕ, zero, suc, ◌+◌, ◌<◌, ◌≤◌, ◌==◌, Bool, false, List, length, count_by, take, slice_get, Some}
 use Rattle.dbp_plan.specs.declared.diagram.Diagram.{Diagram}
 use Rattle.dbp_plan.specs.declared.diagram.Link.{Link}
 use Rattle.dbp_plan.specs.declared.schedule.Batch.{Batch}
-use Rattle.dbp_plan.specs.Occurrences.{times_of, count_until}
+use Rattle.dbp_plan.specs.Occurrences.{times_of, time_of, count_until}
+use Rattle.dbp_plan.specs.Lookups.{link_at}
 use Rattle.release_list.specs.declared.release.Release.{Release}
 use Rattle.release_list.specs.declared.release.Release.TheVariants.{Aim, Claim, OpenGate}
-use Rattle.release_list.specs.Links.{link_at}
 
 -- whether the action aims the task, claims the link, opens the task's gate
 abbrev pub is_aim : ℕ → Release → Bool
@@ -33,10 +33,6 @@ claims releases place link = count_by (is_claim link) (take place releases)
 
 abbrev pub opens : List Release → ℕ → ℕ → ℕ
 opens releases place task = count_by (is_open task) (take place releases)
-
--- the time of the task's instance, counted from 1
-abbrev pub time_of : List Batch → ℕ → ℕ → ℕ
-time_of batches task n = slice_index_or (times_of batches task) (n - 1) 0
 
 -- the number of the writer's last instance at the release of the reader's n-th; none before the first
 abbrev pub seen_by : List Link → List Batch → ℕ → ℕ → ℕ

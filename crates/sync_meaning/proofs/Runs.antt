@@ -4,7 +4,7 @@ use Rattle.std.specs.Prelude.{All, slice_index, replicate}
 use Rattle.std.specs.List.{refill}
 use Rattle.std.proofs.lemmas.List.{length-map, length-set}
 use Rattle.std.proofs.lemmas.Option.{slice_get-get_or, slice_get_within, get_or_from_slice_get}
-use Rattle.dbp_plan.specs.declared.limits.TheConstants.{MAX_OCCURRENCES}
+use Rattle.dbp_plan.specs.declared.limits.TheConstants.{MAX_OCCURRENCES, MAX_OUTS}
 use Rattle.dbp_plan.specs.declared.diagram.Diagram.{Diagram}
 use Rattle.dbp_plan.specs.declared.diagram.Task.{Task}
 use Rattle.dbp_plan.specs.declared.table.TaskRows.{TaskRows}
@@ -79,7 +79,7 @@ next_writers d i t run next k e below =
     omega (arith, ends.0, next.reached.steps.size, length-ranks d next.ranked)
 
 -- its row has room
-pub next_fits : (d : Diagram) (i : ℕ) (t : Task) (run : Run) (rows : TaskRows) → IsNext d i t run → slice_get run.table.tasks i ≡ Some rows → length rows.words + 8 < 2 ^ 32
+pub next_fits : (d : Diagram) (i : ℕ) (t : Task) (run : Run) (rows : TaskRows) → IsNext d i t run → slice_get run.table.tasks i ≡ Some rows → length rows.words + MAX_OUTS < 2 ^ 32
 next_fits d i t run rows next at =
     let m : ℕ = get_or run.done.items i 0 in
     let n : ℕ = get_or run.named.items i 0 in

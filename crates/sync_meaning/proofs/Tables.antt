@@ -65,9 +65,9 @@ rows_step i m t old new tasks done table has at_t at_m at_old ports words = reco
 }
 
 -- there is room for one more row
-pub row_fits : (outs m : ℕ) (rows : TaskRows) → HasRowsOf outs m rows → outs ≤ MAX_OUTS → m < MAX_OCCURRENCES → length rows.words + 8 < 2 ^ 32
+pub row_fits : (outs m : ℕ) (rows : TaskRows) → HasRowsOf outs m rows → outs ≤ MAX_OUTS → m < MAX_OCCURRENCES → length rows.words + MAX_OUTS < 2 ^ 32
 row_fits outs m rows has few less =
-    let most : (m + 1) * outs ≤ (m + 1) * 8 = mul-le-mul_left (m + 1) few in
+    let most : (m + 1) * outs ≤ (m + 1) * MAX_OUTS = mul-le-mul_left (m + 1) few in
     omega (arith, has.size, most)
 
 -- before the first batch each task has one row

@@ -35,7 +35,7 @@ fn first_rows(alloc: Global, task: &Task) -> Result<TaskRows, NoMemory>
 
 // Adds the row at the end.
 pub(crate) fn push_row(rows: &mut TaskRows, row: &Row) -> Result<(), NoMemory>
-    requires { length rows.old.words + 8 < 2 ^ 32 }
+    requires { length rows.old.words + MAX_OUTS < 2 ^ 32 }
     ensures ports { OnOk result (rows.new.ports ≡ rows.old.ports) }
     ensures words { OnOk result (rows.new.words ≡ rows.old.words ++ row.now) }
 {

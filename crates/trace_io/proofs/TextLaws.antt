@@ -6,12 +6,12 @@ use Rattle.dbp_plan.specs.declared.plan.Plan.{Plan}
 use Rattle.dbp_plan.specs.declared.schedule.Batch.{Batch}
 use Rattle.dbp_plan.specs.declared.schedule.Sample.{Sample}
 use Rattle.dbp_plan.specs.Plan.{IsPlan}
+use Rattle.dbp_plan.specs.FirstFault.{first_fault}
 use Rattle.std.proofs.Props.{props}
 use mathlib.Core.HLevel.{Σ_prop_path}
 use Rattle.std.proofs.lemmas.Option.{same_Some}
 use Rattle.dia_check.specs.declared.fail.CheckCode.{CheckCode}
 use Rattle.dia_check.specs.Checks.{IsCheckedOf, IsCheckFault}
-use Rattle.dia_check.specs.Faults.{first_fault}
 use Rattle.dia_check.specs.Faults as checking
 use Rattle.dia_lines.specs.declared.fault.ReadCode.{ReadCode}
 use Rattle.dia_read.specs.declared.document.Doc.{Doc}

@@ -7,7 +7,7 @@ use Rattle.dbp_plan.specs.declared.diagram.Diagram.{Diagram}
 use Rattle.dbp_plan.specs.declared.schedule.Sample.{Sample}
 use Rattle.dbp_plan.specs.Ranked.{IsRanked}
 use Rattle.dbp_plan.specs.Samples.{is_before}
-use Rattle.dia_check.specs.Faults.{first_fault}
+use Rattle.dbp_plan.specs.FirstFault.{first_fault}
 use Rattle.dia_read.specs.declared.document.Doc.{Doc}
 use Rattle.dia_read.specs.Printable.{IsPrintable, HasItemLines}
 use Rattle.trace_rows.specs.Records.{records_of}

@@ -5,8 +5,8 @@ use Rattle.std.proofs.lemmas.Bool.Decides.{nat_tests}
 use Rattle.dbp_plan.specs.declared.diagram.Diagram.{Diagram}
 use Rattle.dbp_plan.specs.declared.limits.TheConstants.{MAX_OCCURRENCES}
 use Rattle.dbp_plan.specs.declared.schedule.Sample.{Sample}
-use Rattle.dia_check.specs.Faults.{first_fault}
-use Rattle.dia_check.proofs.FirstFaults.{first-append, first-front}
+use Rattle.dbp_plan.specs.FirstFault.{first_fault}
+use Rattle.dbp_plan.proofs.FirstFaults.{first-append, first-front}
 use Rattle.dia_read.specs.declared.document.Doc.{Doc}
 use Rattle.trace_rows.specs.declared.fail.TraceCode.{TraceCode}
 use Rattle.trace_rows.specs.declared.fail.TraceFail.{TraceFail}

@@ -5,7 +5,7 @@ use Rattle.dbp_plan.specs.declared.diagram.Diagram.{Diagram}
 use Rattle.dbp_plan.specs.declared.limits.TheConstants.{MAX_OCCURRENCES}
 use Rattle.dbp_plan.specs.declared.plan.Plan.{Plan}
 use Rattle.dbp_plan.specs.declared.schedule.Sample.{Sample}
-use Rattle.dia_check.specs.Faults.{first_fault}
+use Rattle.dbp_plan.specs.FirstFault.{first_fault}
 use Rattle.dia_read.specs.declared.document.Doc.{Doc}
 pub use Rattle.trace_rows.specs.declared.fail.TraceCode.{TraceCode}
 pub use Rattle.trace_rows.specs.declared.fail.TraceCode.TheVariants.{BadHeader, BadRow, BadCell, TimeNotRising, TimePastEnd, TooManyOccurrences, TooManyRows}

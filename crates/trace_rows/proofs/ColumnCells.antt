@@ -9,7 +9,7 @@ use Rattle.std.proofs.lemmas.List.Elements.{filter-append}
 use Rattle.csv.specs.Records.{field_at}
 use Rattle.csv.proofs.RecordFacts.{field-get, field-there}
 use Rattle.dbp_plan.specs.declared.diagram.Input.{Input}
-use Rattle.dia_check.specs.Names.{place_of}
+use Rattle.dbp_plan.specs.NameLists.{index_of}
 use Rattle.trace_rows.specs.Cells.{is_one, value_in, time_of}
 use Rattle.trace_rows.specs.Columns.{cell_at, column_samples, marked_times}
 use Rattle.trace_rows.specs.Values.{row_samples, sample_of, samples_of}
@@ -64,12 +64,12 @@ sample-next columns k d row below =
     ∙ ap (λ one. column_samples 0 (take k columns) row ++ one) (append-nil (sample_of (time_of row) k (value_in (cell_at column row))))
 
 row-samples : (columns : List (List ℕ)) (number : ℕ) (inputs : List Input) (row : List (List ℕ))
-    → column_samples number (map (λ input. place_of columns input.name) inputs) row ≡ row_samples columns number inputs row
+    → column_samples number (map (λ input. index_of columns input.name) inputs) row ≡ row_samples columns number inputs row
 row-samples columns number [] row = refl
 row-samples columns number (input ∷ inputs) row =
-    ap (λ rest. sample_of (time_of row) number (value_in (cell_at (place_of columns input.name) row)) ++ rest) (row-samples columns (number + 1) inputs row)
+    ap (λ rest. sample_of (time_of row) number (value_in (cell_at (index_of columns input.name) row)) ++ rest) (row-samples columns (number + 1) inputs row)
 
 pub all-samples : (columns : List (List ℕ)) (inputs : List Input) (rows : List (List (List ℕ)))
-    → flat_map (column_samples 0 (map (λ input. place_of columns input.name) inputs)) rows ≡ samples_of columns rows inputs
+    → flat_map (column_samples 0 (map (λ input. index_of columns input.name) inputs)) rows ≡ samples_of columns rows inputs
 all-samples columns inputs [] = refl
 all-samples columns inputs (row ∷ rows) = λ j. row-samples columns 0 inputs row j ++ all-samples columns inputs rows j

@@ -7,23 +7,20 @@ use Rattle.std.specs.Str.{bytes_eq}
 use Rattle.std.proofs.lemmas.Bool.{cases_Bool, and_parts, or_parts, both_ways, not-true, false_from_ne_true}
 use Rattle.std.proofs.lemmas.Grind.{get_or_after_one}
 use Rattle.std.proofs.lemmas.List.{append-nil, get_or-take, length-drop, length-take-le, take_more}
-use Rattle.std.proofs.lemmas.List.Folds.{list_any-append, list_any_at}
+use Rattle.std.proofs.lemmas.List.Folds.{list_any_at}
 use Rattle.std.proofs.lemmas.List.Sums.{prefix_len-drop_no, prefix_len-drop_yes}
 use Rattle.std.proofs.lemmas.Slice.Eq.{bytes_eq-Decides}
 use Rattle.csv.specs.Records.{field_at}
 use Rattle.dbp_plan.specs.declared.diagram.Input.{Input}
-use Rattle.dia_check.specs.Names.{is_among, place_of}
-use Rattle.dia_check.proofs.FirstFaults.{split-at}
+use Rattle.dbp_plan.specs.NameLists.{is_among, index_of}
+use Rattle.dbp_plan.proofs.ListParts.{split-at}
+use Rattle.dbp_plan.proofs.NameLaws.{among_append, among_map}
 use Rattle.trace_rows.specs.Headers.{input_names, are_distinct, is_header}
 
 -- ---- names
 
 pub among_inputs : (inputs : List Input) (name : List ℕ) → is_among (input_names inputs) name ≡ list_any (λ i. bytes_eq i.name name) inputs
-among_inputs [] name = refl
-among_inputs (input ∷ inputs) name = ap (λ b. bytes_eq input.name name || b) (among_inputs inputs name)
-
-pub among_both : (names others : List (List ℕ)) (name : List ℕ) → is_among (names ++ others) name ≡ (is_among names name || is_among others name)
-among_both names others name = list_any-append (λ m. bytes_eq m name) names others
+among_inputs inputs name = among_map (λ (i : Input). i.name) name inputs
 
 -- ---- cells by their places
 
@@ -66,18 +63,18 @@ one-more fields k field some below is = next-column fields k field some below �
 
 -- what stands from a place on decides the place of the name
 abbrev pub PlaceFrom : List (List ℕ) → List ℕ → ℕ → Type 0
-PlaceFrom fields name k = place_of (drop 1 fields) name ≡ (k - 1) + place_of (drop k fields) name
+PlaceFrom fields name k = index_of (drop 1 fields) name ≡ (k - 1) + index_of (drop k fields) name
 
-pub place-here : (fields : List (List ℕ)) (name : List ℕ) (k : ℕ) → PlaceFrom fields name k → k < length fields → has_cell fields k name ≡ true → k - 1 ≡ place_of (drop 1 fields) name
+pub place-here : (fields : List (List ℕ)) (name : List ℕ) (k : ℕ) → PlaceFrom fields name k → k < length fields → has_cell fields k name ≡ true → k - 1 ≡ index_of (drop 1 fields) name
 place-here fields name k so_far below here =
     let is : bytes_eq (get_or fields k []) name ≡ true = sym (has-cell fields k name below) ∙ here in
-    let none : place_of (drop k fields) name ≡ 0 = prefix_len-drop_no (λ m. not (bytes_eq m name)) fields k [] below (ap not is) in
+    let none : index_of (drop k fields) name ≡ 0 = prefix_len-drop_no (λ m. not (bytes_eq m name)) fields k [] below (ap not is) in
     omega arith
 
 pub place-later : (fields : List (List ℕ)) (name : List ℕ) (k : ℕ) → 1 ≤ k → PlaceFrom fields name k → k < length fields → has_cell fields k name ≡ false → PlaceFrom fields name (k + 1)
 place-later fields name k some so_far below other =
     let is : bytes_eq (get_or fields k []) name ≡ false = sym (has-cell fields k name below) ∙ other in
-    let one : place_of (drop k fields) name ≡ 1 + place_of (drop (k + 1) fields) name = prefix_len-drop_yes (λ m. not (bytes_eq m name)) fields k [] below (ap not is) in
+    let one : index_of (drop k fields) name ≡ 1 + index_of (drop (k + 1) fields) name = prefix_len-drop_yes (λ m. not (bytes_eq m name)) fields k [] below (ap not is) in
     omega arith
 
 -- ---- a name that stands at an earlier column
@@ -85,7 +82,7 @@ place-later fields name k some so_far below other =
 pub not-repeated : (fields : List (List ℕ)) (name : List ℕ) (k : ℕ) → 1 ≤ k → k < length fields → is_among (columns_before fields k) name ≡ false → has_cell fields k name ≡ false → is_among (columns_before fields (k + 1)) name ≡ false
 not-repeated fields name k some below before other =
     let is : bytes_eq (get_or fields k []) name ≡ false = sym (has-cell fields k name below) ∙ other in
-    ap (λ names. is_among names name) (next-column fields k [] some below) ∙ among_both (columns_before fields k) (get_or fields k [] ∷ []) name ∙ rw (before, is) refl
+    ap (λ names. is_among names name) (next-column fields k [] some below) ∙ among_append (columns_before fields k) (get_or fields k [] ∷ []) name ∙ rw (before, is) refl
 
 pub repeated-there : (fields : List (List ℕ)) (name : List ℕ) (k place : ℕ) → 1 ≤ k → k < place → place ≤ length fields → has_cell fields k name ≡ true → is_among (columns_before fields place) name ≡ true
 repeated-there fields name k place some before within here =
@@ -117,7 +114,7 @@ distinct-more [] column h new = refl
 distinct-more (b ∷ before) column h new =
     let here = and_parts (not (is_among before b)) (are_distinct before) h in
     let none = or_parts (bytes_eq b column) (is_among before column) new in
-    let other : is_among (before ++ column ∷ []) b ≡ false = among_both before (column ∷ []) b ∙ or-nothing (is_among before b) (is_among (column ∷ []) b) (not-true _ here.0) (or-nothing (bytes_eq column b) false (swapped b column none.0) refl) in
+    let other : is_among (before ++ column ∷ []) b ≡ false = among_append before (column ∷ []) b ∙ or-nothing (is_among before b) (is_among (column ∷ []) b) (not-true _ here.0) (or-nothing (bytes_eq column b) false (swapped b column none.0) refl) in
     rw (other, distinct-more before column here.1 none.1) refl
 
 not-distinct : (before columns : List (List ℕ)) (column : List ℕ) → is_among before column ≡ true → are_distinct (before ++ column ∷ columns) ≡ false
@@ -126,7 +123,7 @@ not-distinct (b ∷ before) columns column there =
     elim (cases_Bool (bytes_eq b column)) [
       | inl y ↦
           let same : bytes_eq column b ≡ true = (bytes_eq-Decides column b).1 (sym ((bytes_eq-Decides b column).0 y)) in
-          let found : is_among (before ++ column ∷ columns) b ≡ true = among_both before (column ∷ columns) b ∙ rw same (or-true (is_among before b)) in
+          let found : is_among (before ++ column ∷ columns) b ≡ true = among_append before (column ∷ columns) b ∙ rw same (or-true (is_among before b)) in
           rw found refl
       | inr n ↦ rw (not-distinct before columns column (rw n at there)) (and-false (not (is_among (before ++ column ∷ columns) b)))
     ]

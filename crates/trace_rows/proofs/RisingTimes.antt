@@ -5,7 +5,7 @@ use Rattle.std.specs.Prelude.{filter, nat_le, nat_lt, not, ◌==◌, if◌then�
 use Rattle.std.specs.List.Sorted.{IsStrictlyIncreasing}
 use Rattle.std.proofs.lemmas.Bool.{cases_Bool, leb-false}
 use Rattle.std.proofs.lemmas.List.{length_push}
-use Rattle.dia_check.specs.Faults.{faults_behind, first_fault}
+use Rattle.dbp_plan.specs.FirstFault.{faults_behind, first_fault}
 use Rattle.trace_rows.specs.Cells.{time_of}
 use Rattle.trace_rows.specs.Rows.{fault_behind, is_not_after, last_time, row_fault, row_fits}
 use Rattle.trace_rows.specs.declared.fail.TraceCode.{TraceCode}

@@ -6,7 +6,7 @@ use Rattle.std.proofs.lemmas.List.{length-map}
 use Rattle.std.proofs.lemmas.List.Elements.{All-map}
 use Rattle.dbp_plan.specs.declared.diagram.Input.{Input}
 use Rattle.dbp_plan.specs.Samples.{is_before}
-use Rattle.dia_check.specs.Faults.{first_fault}
+use Rattle.dbp_plan.specs.FirstFault.{first_fault}
 use Rattle.trace_rows.specs.declared.cell.Kind.{Kind}
 use Rattle.trace_rows.specs.declared.rows.TheConstants.{MAX_ROWS}
 use Rattle.trace_rows.specs.Rows.{row_faults}

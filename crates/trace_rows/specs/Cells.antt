@@ -4,7 +4,7 @@ use Rattle.std.specs.List.{list_all}
 use Rattle.std.specs.Str.{bytes_eq}
 use Rattle.dia_tokens.specs.Kinds.{is_digit}
 use Rattle.dia_tokens.specs.Values.{digits_value, is_negative, number_of, is_in_range}
-use Rattle.dia_check.specs.Names.{place_of}
+use Rattle.dbp_plan.specs.NameLists.{index_of}
 use Rattle.trace_rows.specs.declared.cell.Kind.{Kind}
 use Rattle.trace_rows.specs.declared.cell.Kind.TheVariants.{Value, Mark}
 
@@ -48,4 +48,4 @@ time_of row = digits_value (slice_index_or row 0 [])
 
 -- of a row with a cell for each column: its cell in the column with this name, and an empty one where there is no such column
 abbrev pub cell_under : List (List ℕ) → List ℕ → List (List ℕ) → List ℕ
-cell_under columns name row = slice_index_or (drop 1 row) (place_of columns name) []
+cell_under columns name row = slice_index_or (drop 1 row) (index_of columns name) []

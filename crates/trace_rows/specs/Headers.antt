@@ -3,7 +3,7 @@ use Rattle.std.specs.Prelude.{ℕ, Bool, true, false, not, ◌&&◌, if◌then�
 use Rattle.std.specs.List.{list_all}
 use Rattle.std.specs.Str.{bytes_eq}
 use Rattle.dbp_plan.specs.declared.diagram.Input.{Input}
-use Rattle.dia_check.specs.Names.{is_among}
+use Rattle.dbp_plan.specs.NameLists.{is_among}
 use Rattle.trace_rows.specs.declared.cell.Kind.{Kind}
 use Rattle.trace_rows.specs.declared.cell.Kind.TheVariants.{Value, Mark}
 

@@ -1,6 +1,6 @@
 -- The first fault of the rows of a trace section.
 use Rattle.std.specs.Prelude.{ℕ, ◌+◌, Bool, false, not, ◌==◌, nat_le, nat_lt, if◌then◌else◌, List, [], ◌∷◌, length, Option, Some, None}
-use Rattle.dia_check.specs.Faults.{faults_behind}
+use Rattle.dbp_plan.specs.FirstFault.{faults_behind}
 use Rattle.trace_rows.specs.Cells.{is_time, cells_fit, time_of}
 use Rattle.trace_rows.specs.declared.cell.Kind.{Kind}
 use Rattle.trace_rows.specs.declared.fail.TraceCode.{TraceCode}

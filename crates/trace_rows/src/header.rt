@@ -5,7 +5,7 @@ ghost use Rattle.std.specs.List.{list_any};
 ghost use Rattle.std.specs.Option.{option_map_or};
 ghost use Rattle.std.specs.Str.{bytes_eq};
 ghost use Rattle.csv.specs.Records.{field_at, fields_of};
-ghost use Rattle.dia_check.specs.Names.{is_among, place_of};
+ghost use Rattle.dbp_plan.specs.NameLists.{is_among, index_of};
 ghost use Rattle.trace_rows.specs.Headers.{input_names, is_header, kind_of_column};
 
 use crate::cell::Kind;
@@ -28,7 +28,7 @@ fn is_among(names: &[Name], name: &[u8]) -> bool
 }
 
 /// Whether an input or an event has the name.
-#[tactic(auto, using(crate::proofs::HeaderColumns::among_both, crate::proofs::HeaderColumns::among_inputs))]
+#[tactic(auto, using(dbp_plan::proofs::NameLaws::among_append, crate::proofs::HeaderColumns::among_inputs))]
 fn is_known(inputs: &[Input], events: &[Name], name: &[u8]) -> bool
     ensures { result ≡ is_among (input_names inputs.now ++ events.now) name.now }
 {
@@ -106,8 +106,8 @@ pub fn kinds(alloc: Global, inputs: &[Input], header: &ByteRecord) -> Result<Vec
 }
 
 /// The place of the name among the columns, and how many columns there are where it isn't among them.
-pub(crate) fn place_of(header: &ByteRecord, name: &[u8]) -> usize
-    ensures { result ≡ place_of (drop 1 (fields_of header.now)) name.now }
+pub(crate) fn index_of(header: &ByteRecord, name: &[u8]) -> usize
+    ensures { result ≡ index_of (drop 1 (fields_of header.now)) name.now }
 {
     for place in 1..header.len() {
         if is_cell(header, place, name) {

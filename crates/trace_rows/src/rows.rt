@@ -2,7 +2,7 @@
 
 ghost use Rattle.std.specs.Prelude.{◌≡◌, ◌+◌, ◌<◌, ◌≤◌, ◌^◌, ℕ, IfOk, MatchOption, MatchResult, true, false, None, Some, length, map};
 ghost use Rattle.csv.specs.Records.{fields_of};
-ghost use Rattle.dia_check.specs.Faults.{first_fault};
+ghost use Rattle.dbp_plan.specs.FirstFault.{first_fault};
 ghost use Rattle.trace_rows.specs.Cells.{time_of};
 ghost use Rattle.trace_rows.specs.Rows.{row_fault, row_faults, row_fits};
 ghost use Rattle.trace_rows.specs.declared.fail.TraceCode.{TraceCode as AnyCode};

@@ -2,15 +2,15 @@
 
 ghost use Rattle.std.specs.Prelude.{◌≡◌, ◌+◌, ◌<◌, ◌≤◌, ◌^◌, ◌++◌, IfOk, OnOk, drop, length, map};
 ghost use Rattle.csv.specs.Records.{fields_of};
-ghost use Rattle.dia_check.specs.Names.{place_of};
 ghost use Rattle.trace_rows.specs.Cells.{time_of};
 ghost use Rattle.trace_rows.specs.Columns.{cell_at, column_samples, marked_times};
 ghost use Rattle.trace_rows.specs.Values.{event_times, samples_of};
 ghost use Rattle.trace_rows.specs.declared.rows.TheConstants.{MAX_ROWS};
 ghost use Rattle.dbp_plan.specs.declared.limits.TheConstants.{MAX_INPUTS};
+ghost use Rattle.dbp_plan.specs.NameLists.{index_of};
 
 use crate::cell::value_in;
-use crate::header::place_of;
+use crate::header::index_of;
 use csv::ByteRecord;
 use dbp_plan::{Input, List, Name, NoMemory, Sample};
 use std::alloc::Global;
@@ -57,7 +57,7 @@ pub fn event_times(
 {
     let mut found = Vec::new(alloc);
     for event in events {
-        let column = place_of(header, event.bytes());
+        let column = index_of(header, event.bytes());
         found.push(times_under(alloc, column, times, rows)?)?;
     }
     Ok(found)
@@ -69,11 +69,11 @@ fn input_columns(
     inputs: &[Input],
     header: &ByteRecord,
 ) -> Result<Vec<usize>, NoMemory>
-    ensures { IfOk result (λ columns. columns.items ≡ map (λ input. place_of (drop 1 (fields_of header.now)) input.name) inputs.now) }
+    ensures { IfOk result (λ columns. columns.items ≡ map (λ input. index_of (drop 1 (fields_of header.now)) input.name) inputs.now) }
 {
     let mut columns = Vec::new(alloc);
     for input in inputs {
-        columns.push(place_of(header, input.name.bytes()))?;
+        columns.push(index_of(header, input.name.bytes()))?;
     }
     Ok(columns)
 }

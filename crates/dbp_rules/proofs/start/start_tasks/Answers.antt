@@ -4,7 +4,8 @@ use Rattle.std.proofs.lemmas.List.{length-map}
 use Rattle.std.proofs.lemmas.List.FromFn.{length-range_with_len, map-range_with_len_more}
 use Rattle.std.proofs.lemmas.Option.{get_or_from_slice_get}
 use Rattle.dbp_plan.specs.Places.{read_place}
-use Rattle.dbp_rules.specs.Places.{declared, no_declared, no_task_wiring, wired}
+use Rattle.dbp_plan.specs.Lookups.{declared, no_declared}
+use Rattle.dbp_rules.specs.Places.{no_task_wiring, wired}
 use Rattle.dbp_rules.specs.Start.{start_task}
 use Rattle.dbp_rules.specs.declared.state.TaskState.{TaskState}
 use Rattle.dbp_rules.proofs.start.start_tasks.Goals as goal

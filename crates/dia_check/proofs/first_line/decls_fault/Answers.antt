@@ -1,6 +1,6 @@
 use Rattle.std.proofs.Common.{◌≡◌, ◌<◌, None, length, ◌∙◌, rules}
 use Rattle.dia_check.specs.Faults.{decl_fault}
-use Rattle.dia_check.proofs.FirstFaults.{first-later}
+use Rattle.dbp_plan.proofs.FirstFaults.{first-later}
 use Rattle.dia_check.proofs.first_line.decls_fault.Goals as goal
 
 pub loop-place-preserved : goal.loop-place-preserved

@@ -1,5 +1,5 @@
 use Rattle.dia_check.specs.Faults.{decl_fault}
-use Rattle.dia_check.proofs.FirstFaults.{FirstFrom}
+use Rattle.dbp_plan.proofs.FirstFaults.{FirstFrom}
 use Rattle.dia_check.proofs.first_line.decls_fault.Given as goal
 
 abbrev pub invariant-loop-place : goal.invariant-loop-place

@@ -1,6 +1,7 @@
 use Rattle.std.proofs.Common.{◌≡◌, [], None, Some, sym, ◌∙◌, rules}
-use Rattle.dia_check.specs.Faults.{decl_fault, task_faults, faults_behind}
-use Rattle.dia_check.proofs.FirstFaults.{first-append, first-front}
+use Rattle.dia_check.specs.Faults.{decl_fault, task_faults}
+use Rattle.dbp_plan.specs.FirstFault.{faults_behind}
+use Rattle.dbp_plan.proofs.FirstFaults.{first-append, first-front}
 use Rattle.dia_check.proofs.first_line.first_line_fault.Goals as goal
 
 pub returns-in-Some : goal.returns-in-Some

@@ -3,9 +3,9 @@ use Rattle.std.specs.Prelude.{sum_by}
 use Rattle.std.specs.List.{flat_map}
 use Rattle.std.proofs.lemmas.List.Sums.{sum_by_push}
 use Rattle.dbp_plan.specs.declared.diagram.Link.{Link}
+use Rattle.dbp_plan.proofs.ListParts.{take-next}
 use Rattle.dia_read.specs.declared.document.RawTask.{RawTask}
 use Rattle.dia_check.specs.Diagrams.{link_of, links_used, firsts}
-use Rattle.dia_check.proofs.FirstFaults.{take-next}
 use Rattle.dia_check.proofs.LinkLaws.{links-used-add}
 use Rattle.dia_check.proofs.links.links_of.Goals as goal
 

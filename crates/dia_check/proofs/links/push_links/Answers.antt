@@ -3,10 +3,10 @@ use Rattle.std.specs.List.{flat_map, list_any}
 use Rattle.std.specs.Option.{option_to_list}
 use Rattle.std.proofs.lemmas.List.{append-nil, flat_map_more}
 use Rattle.dbp_plan.specs.declared.diagram.Link.{Link}
+use Rattle.dbp_plan.proofs.ListParts.{take-next}
 use Rattle.dia_lines.specs.declared.item.Part.{Part}
 use Rattle.dia_read.specs.declared.document.RawTask.{RawTask}
 use Rattle.dia_check.specs.Diagrams.{link_of, firsts, is_same_link}
-use Rattle.dia_check.proofs.FirstFaults.{take-next}
 use Rattle.dia_check.proofs.LinkLists.{add-new, add-known}
 use Rattle.dia_check.proofs.links.push_links.Goals as goal
 use Rattle.dia_check.proofs.links.push_links.Goals.{in-Some+then-not-is_among+in_ok-push, in-Some+else-not-is_among, in_default}

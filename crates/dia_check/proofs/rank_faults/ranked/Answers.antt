@@ -1,6 +1,6 @@
 use Rattle.std.proofs.Common.{◌≡◌, Some, None, refl, sym, ◌∙◌, rules}
 use Rattle.dbp_plan.specs.Ranks.{ranks_of}
-use Rattle.dia_check.specs.Faults.{first_fault}
+use Rattle.dbp_plan.specs.FirstFault.{first_fault}
 use Rattle.dia_check.specs.RankFaults.{HasNoRankFault}
 use Rattle.dia_check.proofs.RankLaws.{task_lines_faults, read_lines_faults, task-first, reads-decide, ends-ranked, reads-linked, is-ranked, no-rank-fault}
 use Rattle.dia_check.proofs.rank_faults.ranked.Goals as goal

@@ -1,5 +1,5 @@
 use Rattle.dia_check.specs.RankFaults.{task_rank_fault}
-use Rattle.dia_check.proofs.FirstFaults.{FirstFrom}
+use Rattle.dbp_plan.proofs.FirstFaults.{FirstFrom}
 use Rattle.dia_check.proofs.rank_faults.tasks_rank_fault.Given as goal
 
 abbrev pub invariant-loop-place : goal.invariant-loop-place

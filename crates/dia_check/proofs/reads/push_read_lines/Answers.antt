@@ -2,7 +2,7 @@ use Rattle.std.proofs.Common.{◌≡◌, ◌<◌, ℕ, List, [], ◌∷◌, ◌+
 use Rattle.std.specs.Option.{option_to_list}
 use Rattle.dia_check.specs.declared.shaped.ReadLine.{ReadLine}
 use Rattle.dia_check.specs.Diagrams.{link_of, links_of, link_number}
-use Rattle.dia_check.proofs.FirstFaults.{at-any}
+use Rattle.dbp_plan.proofs.ListParts.{at-any}
 use Rattle.dia_check.proofs.ReadLines.{no-read, one-read}
 use Rattle.dia_check.proofs.reads.push_read_lines.Goals as goal
 use Rattle.dia_check.proofs.reads.push_read_lines.Goals.{in-Some+in_ok-push, in_default}

@@ -1,6 +1,6 @@
 use Rattle.std.proofs.Common.{◌≡◌, ◌<◌, ◌+◌, ℕ, suc, List, ◌∷◌, length, drop, get_or, slice_get, refl, sym, ap, ◌∙◌, arith, rules}
 use Rattle.dia_check.specs.Faults.{let_lines}
-use Rattle.dia_check.proofs.FirstFaults.{at-any}
+use Rattle.dbp_plan.proofs.ListParts.{at-any}
 use Rattle.dia_check.proofs.LetLines.{lines-here, another-line, get-behind}
 use Rattle.dia_check.proofs.tasks.let_line.Goals as goal
 use Rattle.dia_check.proofs.tasks.let_line.Goals.{in-Let+else-left-eq0, in_default}

@@ -2,8 +2,8 @@
 use Rattle.std.proofs.Common.{◌≡◌, ◌≢◌, ◌∙◌, ◌+◌, ◌++◌, ◌∷◌, [], List, ℕ, append_assoc, ap, sym, arith, length, length-append, map}
 use Rattle.std.proofs.lemmas.List.{length-map, map-append}
 use Rattle.dbp_plan.specs.declared.diagram.Link.{Link}
+use Rattle.dbp_plan.specs.Lookups.{link_at}
 use Rattle.release_list.specs.declared.release.Release.{Release}
-use Rattle.release_list.specs.Links.{link_at}
 use Rattle.release_list.specs.Releases.{into_among}
 use Rattle.release_list.specs.declared.release.Release.TheVariants.{Claim}
 use Rattle.release_list.proofs.IntoLinks.{into_few, one_more, no_more}

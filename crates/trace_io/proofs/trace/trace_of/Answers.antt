@@ -2,7 +2,7 @@ use Rattle.std.proofs.Common.{◌≡◌, ◌∙◌, ◌+◌, ◌-◌, Err, ◌�
 use Rattle.std.specs.Prelude.{replicate}
 use Rattle.std.proofs.lemmas.List.{length-map, length-drop}
 use Rattle.std.proofs.lemmas.Result.{err_from_is_err_and}
-use Rattle.dia_check.specs.Faults.{first_fault}
+use Rattle.dbp_plan.specs.FirstFault.{first_fault}
 use Rattle.trace_rows.specs.declared.fail.TraceCode.{TraceCode}
 use Rattle.trace_rows.specs.declared.fail.TraceFail.TheVariants.{Refused}
 use Rattle.trace_rows.specs.Headers.{is_header, kind_of_column}

@@ -1,6 +1,6 @@
 use Rattle.std.proofs.Common.{◌≡◌, false}
 use Rattle.csv.specs.Records.{fields_of}
-use Rattle.dia_check.specs.Names.{is_among}
+use Rattle.dbp_plan.specs.NameLists.{is_among}
 use Rattle.trace_rows.proofs.HeaderColumns.{columns_before}
 use Rattle.trace_rows.proofs.header.is_repeated.Given as goal
 

@@ -1,7 +1,8 @@
 use Rattle.std.proofs.Common.{◌≡◌, ◌+◌, ◌-◌, ◌<◌, ◌≤◌, ℕ, Some, None, List, [], ◌∷◌, ◌++◌, length, map, take, get_or, slice_get, sym, ap, ◌∙◌, arith}
 use Rattle.std.proofs.lemmas.List.{get_or-map, length-map, map-append}
 use Rattle.csv.specs.Records.{fields_of}
-use Rattle.dia_check.proofs.FirstFaults.{at-any, first-here, first-later, take-next}
+use Rattle.dbp_plan.proofs.ListParts.{at-any, take-next}
+use Rattle.dbp_plan.proofs.FirstFaults.{first-here, first-later}
 use Rattle.trace_rows.specs.Cells.{time_of}
 use Rattle.trace_rows.specs.Rows.{fault_behind, row_fault}
 use Rattle.trace_rows.proofs.RowTimes.{fault-at, few-behind}

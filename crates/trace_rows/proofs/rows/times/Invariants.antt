@@ -1,6 +1,6 @@
 use Rattle.std.proofs.Common.{◌≡◌, ◌≤◌, map, take}
 use Rattle.csv.specs.Records.{fields_of}
-use Rattle.dia_check.proofs.FirstFaults.{FirstFrom}
+use Rattle.dbp_plan.proofs.FirstFaults.{FirstFrom}
 use Rattle.trace_rows.specs.Cells.{time_of}
 use Rattle.trace_rows.specs.Rows.{fault_behind}
 use Rattle.trace_rows.specs.declared.rows.TheConstants.{MAX_ROWS}

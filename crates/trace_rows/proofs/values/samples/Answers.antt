@@ -2,8 +2,8 @@ use Rattle.std.proofs.Common.{◌≡◌, ℕ, ◌<◌, List, [], ◌++◌, lengt
 use Rattle.std.specs.List.{flat_map}
 use Rattle.std.proofs.lemmas.List.{flat_map_more, get_or-map, length-map, take_all}
 use Rattle.csv.specs.Records.{fields_of}
-use Rattle.dia_check.proofs.FirstFaults.{take-next}
-use Rattle.dia_check.specs.Names.{place_of}
+use Rattle.dbp_plan.proofs.ListParts.{take-next}
+use Rattle.dbp_plan.specs.NameLists.{index_of}
 use Rattle.trace_rows.specs.Cells.{time_of}
 use Rattle.trace_rows.specs.Columns.{column_samples}
 use Rattle.trace_rows.proofs.ColumnCells.{all-samples}
@@ -26,7 +26,7 @@ loop-place-preserved c =
     let below : k < length rows = omega (arith, length-map c.args.rows.now fields_of) in
     let is : row ≡ get_or rows k row = ap fields_of c.index-rows-place.is ∙ sym (get_or-map fields_of c.args.rows.now k c.index-rows-place.result row (omega arith)) in
     let size : length columns ≡ length c.args.inputs.now =
-    ap (λ (cs : List ℕ). length cs) c.in_ok-columns.ensures ∙ length-map c.args.inputs.now (λ input. place_of (drop 1 (fields_of c.args.header.now)) input.name) in
+    ap (λ (cs : List ℕ). length cs) c.in_ok-columns.ensures ∙ length-map c.args.inputs.now (λ input. index_of (drop 1 (fields_of c.args.header.now)) input.name) in
     let lent : length c.deref.result.now ≡ length columns = ap (λ (cs : List ℕ). length cs) c.deref.ensures.value in
     record {
       found = c.in_ok-push_samples.ensures.samples ∙ (λ j. c.loop-place.invariant.found j ++ column_samples 0 (c.deref.ensures.value j) row)

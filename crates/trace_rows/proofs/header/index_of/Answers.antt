@@ -1,7 +1,7 @@
 use Rattle.std.proofs.Common.{sym, ◌∙◌, arith}
 use Rattle.csv.specs.Records.{fields_of}
 use Rattle.trace_rows.proofs.HeaderColumns.{place-here, place-later}
-use Rattle.trace_rows.proofs.header.place_of.Goals as goal
+use Rattle.trace_rows.proofs.header.index_of.Goals as goal
 
 pub returns-then-is_cell : goal.returns-then-is_cell
 returns-then-is_cell c =

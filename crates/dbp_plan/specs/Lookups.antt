@@ -1,0 +1,23 @@
+-- What stands at the indexes of a diagram. Each kind has one default, for an index that isn't there.
+use Rattle.std.specs.Prelude.{ℕ, List, [], slice_index_or, None}
+use Rattle.dbp_plan.specs.declared.diagram.Clock.TheVariants.{On}
+use Rattle.dbp_plan.specs.declared.diagram.Link.{Link}
+use Rattle.dbp_plan.specs.declared.diagram.Read.{Read}
+use Rattle.dbp_plan.specs.declared.diagram.Task.{Task}
+use Rattle.dbp_plan.specs.declared.plan.Plan.{Plan}
+
+abbrev pub no_declared : Task
+no_declared = record { name = []; clock = On 0; prio = None; deadline = None; cost = 0; states = []; senses = []; reads = []; lets = []; order = []; nexts = []; outs = [] }
+
+-- the task of the plan's diagram
+abbrev pub declared : Plan → ℕ → Task
+declared p i = slice_index_or p.diagram.tasks i no_declared
+
+abbrev pub no_link : Link
+no_link = record { writer = 0; reader = 0; delay = 0 }
+
+abbrev pub link_at : List Link → ℕ → Link
+link_at links k = slice_index_or links k no_link
+
+abbrev pub no_read : Read
+no_read = record { name = []; link = 0; port = 0; at = 0 }
