@@ -169,16 +169,20 @@ class Build:
             room.give_back()
 
     def prove_all(self):
-        """Proves the crates with the longest chain above them first, as many side by side as there is room for."""
+        """Proves the crates with the longest chain above them first, as many side by side as there is room for.
+
+        The first gets a job for each processor, the second half of that, and the others one.
+        """
         longest = chains(self.crates)
         left = sorted(self.crates, key=lambda it: -longest[it])
-        at_once = max(1, min(processors() - 1, free_memory() // MEMORY))
+        at_once = max(1, min(processors(), free_memory() // MEMORY))
         running, proved = {}, set()
         with ThreadPoolExecutor(at_once) as pool:
             while left or running:
                 ready = [it for it in left if proved.issuperset(self.crates[it].below)]
                 for name in ready[: at_once - len(running)]:
-                    jobs = processors() if name == left[0] else 1
+                    before = sum(longest[it] > longest[name] for it in running.values())
+                    jobs = max(1, processors() // (before + 1)) if before < 2 else 1
                     left.remove(name)
                     running[pool.submit(self.prove, name, jobs)] = name
                 for it in wait(running, return_when=FIRST_COMPLETED).done:
