@@ -3,26 +3,15 @@
 mod lets;
 mod showing;
 
-ghost use Rattle.std.specs.Prelude.{IfOk};
 ghost use Rattle.dia_read.specs.Printable.{HasItemLines, IsPrintable};
 
 use dia_check::{CheckCode, CheckFail, ranked, ranks, shape};
-use dia_read::{Doc, ReadFail, read_doc};
+use crate::inputs::doc_in;
+use dia_read::Doc;
 use showing::{push_names, shown};
 use std::alloc::Global;
 use std::fmt::Write;
 use std::test::Fail;
-
-// The document that the text spells.
-pub(crate) fn read(alloc: Global, text: &[u8]) -> Result<Doc, ReadFail>
-    ensures printable { IfOk result (λ doc. IsPrintable doc.body) }
-    ensures lines { IfOk result (λ doc. HasItemLines doc) }
-{
-    if text.len() > 10_000_000 {
-        return Err(ReadFail::NoMemory);
-    }
-    read_doc(alloc, text)
-}
 
 // A document with all kinds of lines. Of its tasks, numbered from 0, the first is the lowest, and the last reads the
 // second twice over one link.
@@ -109,7 +98,7 @@ read line 29 3";
 #[test]
 fn a_document_has_its_diagram(rt: HostRuntime) -> Result<(), Fail> {
     let alloc = rt.alloc();
-    let doc = read(alloc, TEXT)?;
+    let doc = doc_in(alloc, TEXT)?;
     let Ok(shaped) = shape(alloc, &doc) else {
         return Err(Fail::new("no shape"));
     };
@@ -152,7 +141,7 @@ static REFUSED: [(&str, &str); 7] = [
         "dbp 1\npolicy fp\nuntil 9\ntask t every 5 prio 1 cost 3\nlet p = p\nout y = 0 then p\ndone\n",
         "5: p",
     ),
-    // behind the first task, whose lets have a cycle, stands one with no out
+    // after the first task, whose lets have a cycle, stands one with no out
     (
         "dbp 1\npolicy fp\nuntil 9\ntask t every 5 prio 1 cost 3\nlet p = p\nout y = 0 then 1\ntask u every 5 cost 1\ndone\n",
         "5: p",
@@ -185,7 +174,7 @@ static REFUSED: [(&str, &str); 7] = [
 fn refusals_have_their_values(rt: HostRuntime) -> Result<(), Fail> {
     let alloc = rt.alloc();
     for (text, want) in &REFUSED {
-        let doc = read(alloc, text.as_bytes())?;
+        let doc = doc_in(alloc, text.as_bytes())?;
         assert_eq!(rt; refusal(alloc, &doc)?.as_str(), *want);
     }
     Ok(())

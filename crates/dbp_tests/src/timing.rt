@@ -5,27 +5,14 @@ mod rows;
 ghost use Rattle.std.specs.Prelude.{◌≡◌};
 ghost use Rattle.dbp_plan.specs.Closed.{place_count};
 
-use crate::checking::read;
+use crate::inputs::planned;
 use dbp_plan::{Batch, List, MAX_BODY, Plan, Sample, Task};
 use dbp_slots::free_slot;
-use dia_check::{ranked, shape};
 use std::alloc::Global;
 use std::fmt::Write;
 use std::test::Fail;
 use sync_meaning::{env_of, mean};
-use trace_io::{lines, read_trace};
-
-// The plan of the text.
-fn plan_in(alloc: Global, text: &[u8]) -> Result<Plan, Fail> {
-    let doc = read(alloc, text)?;
-    let Ok(shaped) = shape(alloc, &doc) else {
-        return Err(Fail::new("no shape"));
-    };
-    let Ok(diagram) = ranked(alloc, shaped) else {
-        return Err(Fail::new("no ranks"));
-    };
-    Ok(read_trace(alloc, diagram, &doc)?)
-}
+use trace_io::lines;
 
 // Two tasks on an event, and a third one at a period.
 const EVENTFUL: &[u8] = b"dbp 1
@@ -48,7 +35,7 @@ time,e,i
 done
 ";
 
-// Each batch as `time:task,..` with a blank behind it.
+// Each batch as `time:task,..` with a space after it.
 fn shown(alloc: Global, batches: &List<Batch>) -> Result<String, Fail> {
     let mut text = String::new(alloc);
     for batch in batches.items() {
@@ -70,7 +57,7 @@ fn lines_of(alloc: Global, plan: &Plan) -> Result<Vec<u8>, Fail> {
 #[test]
 fn a_plan_has_samples_batches_and_lines(rt: HostRuntime) -> Result<(), Fail> {
     let alloc = rt.alloc();
-    let plan = plan_in(alloc, EVENTFUL)?;
+    let (_, plan) = planned(alloc, EVENTFUL)?;
     let sample = Sample {
         time: 4,
         input: 0,
@@ -112,7 +99,7 @@ fn first_environments_have_the_first_states(rt: HostRuntime) -> Result<(), Fail>
         let text = format!(in alloc;
             "dbp 1\npolicy fp\nuntil 9\ninput i = 5\ntask t every 5 prio 1 cost 1\n{body}out y = 0 then 1\ndone\n"
         )?;
-        let plan = plan_in(alloc, text.as_bytes())?;
+        let (_, plan) = planned(alloc, text.as_bytes())?;
         let task = plan.diagram.tasks.get(0).ok_or("no task")?;
         if places(task) > u64::from(MAX_BODY) {
             return Err(Fail::new("too many places"));

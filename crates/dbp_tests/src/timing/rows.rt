@@ -1,6 +1,6 @@
 // The records of trace sections, and what they give to the inputs a and b and to the events e and f.
 
-use crate::checking::read;
+use crate::inputs::doc_in;
 use csv::ByteRecord;
 use dbp_plan::{Input, Name, Sample};
 use std::alloc::Global;
@@ -10,10 +10,10 @@ use trace_rows::{
     Kind, TraceCode, TraceFail, event_times, is_header, kinds, records, samples, times,
 };
 
-// The cells of each record of the lines behind `trace`, each cell behind a bar, and a semicolon behind the record.
+// The cells of each record of the lines after `trace`, each cell after a bar, and a semicolon after the record.
 fn cells(alloc: Global, section: &str) -> Result<String, Fail> {
     let text = format!(in alloc; "dbp 1\npolicy fp\nuntil 9\ntrace\n{section}done\n")?;
-    let doc = read(alloc, text.as_bytes())?;
+    let doc = doc_in(alloc, text.as_bytes())?;
     let Some(kept) = &doc.body.trace else {
         return Err(Fail::new("no section"));
     };

@@ -1,6 +1,7 @@
 use Rattle.std.proofs.Common.{◌≡◌, ◌≤◌, ◌+◌, drop}
 use Rattle.std.specs.List.{flat_map}
-use Rattle.dia_check.specs.Names.{index_of, out_name}
+use Rattle.dbp_plan.specs.NameLists.{index_of}
+use Rattle.dia_check.specs.Names.{out_name}
 use Rattle.dia_check.proofs.reads.out_place.Given as goal
 
 abbrev pub invariant-loop-part : goal.invariant-loop-part
