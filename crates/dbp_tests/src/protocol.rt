@@ -190,47 +190,6 @@ static SERVED: &[(Step, Heard)] = &[
     (Step::End { task: 1 }, Heard::Stored),
 ];
 
-// Steps from the start of a document's core, and the only word of a task's row after them.
-struct Run {
-    document: &'static str,
-    count: Count,
-    steps: &'static [(Step, Heard)],
-    task: u32,
-    word: i64,
-}
-
-// Before the first step a row has its first values.
-static RUNS: [Run; 4] = [
-    Run {
-        document: THREE_RATES,
-        count: Count::All,
-        steps: &[],
-        task: 2,
-        word: -1,
-    },
-    Run {
-        document: TWO_RATES,
-        count: Count::All,
-        steps: WAITING,
-        task: 0,
-        word: 1,
-    },
-    Run {
-        document: THREE_RATES,
-        count: Count::All,
-        steps: DELAYED,
-        task: 2,
-        word: 0,
-    },
-    Run {
-        document: ONE_DEADLINE,
-        count: Count::Ranked,
-        steps: SERVED,
-        task: 1,
-        word: 6,
-    },
-];
-
 // A step that is refused after so many steps of `WAITING`.
 struct Refusal {
     document: &'static str,
@@ -402,11 +361,16 @@ fn make(rt: &impl Abort, core: &mut Core, steps: &[(Step, Heard)]) -> Result<(),
     Ok(())
 }
 
-// Makes the steps of the run, and compares the word.
-fn take(rt: &impl Abort, alloc: Global, run: &Run) -> Result<(), Fail> {
-    let mut core = core_of(alloc, run.document, run.count)?;
-    make(rt, &mut core, run.steps)?;
-    assert_eq!(rt; word_of(&core, run.task)?, run.word);
+// Makes the steps from the start, and compares the only word of the task's row after them.
+fn take(
+    rt: &impl Abort,
+    mut core: Core,
+    steps: &[(Step, Heard)],
+    task: u32,
+    word: i64,
+) -> Result<(), Fail> {
+    make(rt, &mut core, steps)?;
+    assert_eq!(rt; word_of(&core, task)?, word);
     Ok(())
 }
 
@@ -425,10 +389,13 @@ fn refuse(rt: &impl Abort, alloc: Global, refusal: &Refusal) -> Result<(), Fail>
 
 #[test]
 fn steps_compute_rows(rt: HostRuntime) -> Result<(), Fail> {
-    for run in &RUNS {
-        take(&rt, rt.alloc(), run)?;
-    }
-    Ok(())
+    let alloc = rt.alloc();
+    // before the first step a row has its first values
+    take(&rt, core_of(alloc, THREE_RATES, Count::All)?, &[], 2, -1)?;
+    take(&rt, core_of(alloc, TWO_RATES, Count::All)?, WAITING, 0, 1)?;
+    take(&rt, core_of(alloc, THREE_RATES, Count::All)?, DELAYED, 2, 0)?;
+    let ranked = core_of(alloc, ONE_DEADLINE, Count::Ranked)?;
+    take(&rt, ranked, SERVED, 1, 6)
 }
 
 #[test]
