@@ -5,8 +5,8 @@ mod showing;
 
 ghost use Rattle.dia_read.specs.Printable.{HasItemLines, IsPrintable};
 
-use dia_check::{CheckCode, CheckFail, ranked, ranks, shape};
 use crate::inputs::doc_in;
+use dia_check::{CheckCode, CheckFail, ranked, ranks, shape};
 use dia_read::Doc;
 use showing::{push_names, shown};
 use std::alloc::Global;

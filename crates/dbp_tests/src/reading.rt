@@ -13,15 +13,17 @@ use std::test::Fail;
 #[test]
 fn tokens_of_a_line(rt: HostRuntime) -> Result<(), Fail> {
     let tokens = tokens(rt.alloc(), b"let x == -007 # all")?;
-    assert!(rt; matches!(
-        tokens.as_slice(),
-        [
-            Token::Word(Word::Let),
-            Token::Name(_),
-            Token::Symbol(Symbol::Equal),
-            Token::Number(-7),
-        ]
-    ));
+    assert!(rt;
+        matches!(
+            tokens.as_slice(),
+            [
+                Token::Word(Word::Let),
+                Token::Name(_),
+                Token::Symbol(Symbol::Equal),
+                Token::Number(-7),
+            ]
+        )
+    );
     Ok(())
 }
 
@@ -56,26 +58,25 @@ fn expression_of(alloc: Global, text: &[u8]) -> Result<Expr<Name>, Fail> {
 // A node stands after its operands.
 #[test]
 fn nodes_of_an_expression(rt: HostRuntime) -> Result<(), Fail> {
-    let found = expression_of(
-        rt.alloc(),
-        b"if not a then min (1, -5) else 2 - 3 + 4",
-    )?;
-    assert!(rt; matches!(
-        found.nodes.items(),
-        [
-            Node::Var(_),
-            Node::Un(UnOp::Not, 0),
-            Node::Num(1),
-            Node::Num(-5),
-            Node::Bin(BinOp::Min, 2, 3),
-            Node::Num(2),
-            Node::Num(3),
-            Node::Bin(BinOp::Sub, 5, 6),
-            Node::Num(4),
-            Node::Bin(BinOp::Add, 7, 8),
-            Node::Pick(1, 4, 9),
-        ]
-    ));
+    let found = expression_of(rt.alloc(), b"if not a then min (1, -5) else 2 - 3 + 4")?;
+    assert!(rt;
+        matches!(
+            found.nodes.items(),
+            [
+                Node::Var(_),
+                Node::Un(UnOp::Not, 0),
+                Node::Num(1),
+                Node::Num(-5),
+                Node::Bin(BinOp::Min, 2, 3),
+                Node::Num(2),
+                Node::Num(3),
+                Node::Bin(BinOp::Sub, 5, 6),
+                Node::Num(4),
+                Node::Bin(BinOp::Add, 7, 8),
+                Node::Pick(1, 4, 9),
+            ]
+        )
+    );
     Ok(())
 }
 
@@ -98,14 +99,16 @@ fn a_line_after_others(rt: HostRuntime) -> Result<(), Fail> {
         last = said;
         position = next;
     }
-    assert!(rt; matches!(
-        last,
-        Line::Part(Part::Read {
-            delay: 1,
-            at: 3,
-            ..
-        })
-    ));
+    assert!(rt;
+        matches!(
+            last,
+            Line::Part(Part::Read {
+                delay: 1,
+                at: 3,
+                ..
+            })
+        )
+    );
     assert_eq!(rt; position.counts.events, 1);
     assert_eq!(rt; position.counts.body, 2);
     assert_eq!(rt; position.counts.links, 1);
@@ -151,7 +154,8 @@ fn push_task(alloc: Global, printer: &mut Printer) -> Result<(), Fail> {
     Ok(())
 }
 
-static PRINTED_LINES: &[u8] = b"dbp 1\npolicy edf\nuntil 1000000000\ninput g = -9223372036854775808\n\
+static PRINTED_LINES: &[u8] =
+    b"dbp 1\npolicy edf\nuntil 1000000000\ninput g = -9223372036854775808\n\
     task a every 3 from 0 prio 0 deadline 2 cost 1\nout y = 9 then -5\n";
 
 #[test]
@@ -163,29 +167,28 @@ fn lines_are_printed(rt: HostRuntime) -> Result<(), Fail> {
     Ok(())
 }
 
-static TOKENS: [Token; 12] = [
-    Token::Symbol(Symbol::Minus),
-    Token::Number(5),
-    Token::Symbol(Symbol::Minus),
-    Token::Number(-5),
-    Token::Word(Word::Min),
-    Token::Symbol(Symbol::Open),
-    Token::Symbol(Symbol::Open),
-    Token::Symbol(Symbol::Minus),
-    Token::Symbol(Symbol::Comma),
-    Token::Word(Word::Not),
-    Token::Symbol(Symbol::Open),
-    Token::Symbol(Symbol::Close),
-];
-
 // No space stands between some of the tokens.
 static SPACED: &[u8] = b"- 5 - -5 min((-, not () 18446744073709551615\n kept7";
 
 #[test]
 fn tokens_are_printed(rt: HostRuntime) -> Result<(), Fail> {
     let mut printer = Printer::new(rt.alloc());
-    for token in &TOKENS {
-        printer.push(*token)?;
+    let tokens = [
+        Token::Symbol(Symbol::Minus),
+        Token::Number(5),
+        Token::Symbol(Symbol::Minus),
+        Token::Number(-5),
+        Token::Word(Word::Min),
+        Token::Symbol(Symbol::Open),
+        Token::Symbol(Symbol::Open),
+        Token::Symbol(Symbol::Minus),
+        Token::Symbol(Symbol::Comma),
+        Token::Word(Word::Not),
+        Token::Symbol(Symbol::Open),
+        Token::Symbol(Symbol::Close),
+    ];
+    for token in tokens {
+        printer.push(token)?;
     }
     printer.push_count(u64::MAX)?;
     printer.push_bytes(b"\n kept")?;

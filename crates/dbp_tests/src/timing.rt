@@ -64,7 +64,10 @@ fn a_plan_has_samples_batches_and_lines(rt: HostRuntime) -> Result<(), Fail> {
         value: -7,
     };
     assert_eq!(rt; plan.samples.items(), [sample].as_slice());
-    assert_eq!(rt; shown(alloc, &plan.batches)?.as_str(), "1:1, 2:0,2, 5:0,1,2, ");
+    assert_eq!(rt;
+        shown(alloc, &plan.batches)?.as_str(),
+        "1:1, 2:0,2, 5:0,1,2, "
+    );
     let want = b"1,slow,1,1\n2,first,1,3\n2,last,1,1\n5,first,2,-7\n5,slow,2,1\n5,last,2,1\n";
     assert_eq!(rt; lines_of(alloc, &plan)?.as_slice(), want.as_slice());
     Ok(())
