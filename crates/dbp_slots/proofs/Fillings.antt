@@ -13,7 +13,7 @@ use Rattle.dbp_plan.specs.declared.limits.TheConstants.{MAX_OUTS}
 use Rattle.dbp_plan.specs.Closed.{IsClosed}
 use Rattle.dbp_plan.specs.Places.{at_place}
 use Rattle.dbp_slots.specs.declared.layouts.Block.{Block}
-use Rattle.dbp_slots.specs.LayoutBlocks.{block_sizes, sizes_by, BeginInPlace, no_block}
+use Rattle.dbp_slots.specs.LayoutBlocks.{block_sizes, sizes_by, BeginInOrder, no_block}
 use Rattle.dbp_slots.specs.Slots.{counts_of, is_to_higher, is_to_lower}
 use Rattle.dbp_slots.specs.TableWords.{Sizes, SlotSizes, no_sizes, task_sizes, block_size, block_begin, sizes_of}
 use Rattle.dbp_slots.proofs.Links.{links_few, delay_short}
@@ -32,7 +32,7 @@ sizes_here d i e below =
     get_or-map (sizes_at d) (enumerate_from 0 d.tasks) i (0, e) no_sizes (omega (arith, length-enumerate_from 0 d.tasks))
     ∙ ap (sizes_at d) (numbered ∙ ap (λ (n : ℕ). (n, get_or d.tasks i e)) number)
 
--- what a block says of its task, where that is so
+-- what a block says of its task, if it is so
 pub block_here : (d : Diagram) (i : ℕ) (t : Task) (b : Block) → i < length d.tasks → t ≡ get_or d.tasks i t → b.slots ≡ (counts_of d i).run → b.ports ≡ length t.outs → block_sizes b ≡ task_sizes (sizes_of d) i
 block_here d i t b below is slots ports =
     let here = sizes_here d i t below in
@@ -65,7 +65,7 @@ fill_more s blocks i b room below here before =
     ∙ cc (here, before)
     ∙ sym ((take_at_read s.tasks i no_sizes below).1)
 
-pub begin_more : (s : Sizes) (blocks : List Block) (i : ℕ) (b : Block) → i < length blocks → b.begin ≡ block_begin s i → BeginInPlace s blocks i → BeginInPlace s (set blocks i b) (i + 1)
+pub begin_more : (s : Sizes) (blocks : List Block) (i : ℕ) (b : Block) → i < length blocks → b.begin ≡ block_begin s i → BeginInOrder s blocks i → BeginInOrder s (set blocks i b) (i + 1)
 begin_more s blocks i b room here before =
     below_more (λ k. (get_or (set blocks i b) k no_block).begin ≡ block_begin s k) i
     (λ k below. ap (λ (a : Block). a.begin) (get_or-set_other blocks i k b no_block (omega arith)) ∙ before k below)

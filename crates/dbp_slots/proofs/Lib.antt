@@ -2,4 +2,5 @@ pub mod Blocks
 pub mod Fillings
 pub mod FreeSlots
 pub mod Links
-pub mod Seats
+pub mod Marks
+pub mod Spots

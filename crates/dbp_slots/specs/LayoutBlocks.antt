@@ -3,7 +3,7 @@ use Rattle.std.specs.Prelude.{◌≡◌, ℕ, ◌<◌, List, map, slice_index_or
 use Rattle.dbp_slots.specs.declared.layouts.Block.{Block}
 use Rattle.dbp_slots.specs.TableWords.{Sizes, SlotSizes, block_begin}
 
--- that of a task that is not there
+-- that of a task that isn't there
 abbrev pub no_block : Block
 no_block = record { begin = 0; slots = 0; ports = 0 }
 
@@ -15,5 +15,5 @@ abbrev pub sizes_by : ℕ → ℕ → List Block → Sizes
 sizes_by tasks links blocks = record { tasks = map block_sizes (take tasks blocks); links = links }
 
 -- each of the first blocks begins where these sizes put it
-abbrev pub BeginInPlace : Sizes → List Block → ℕ → Type 0
-BeginInPlace s blocks count = (i : ℕ) → i < count → (slice_index_or blocks i no_block).begin ≡ block_begin s i
+abbrev pub BeginInOrder : Sizes → List Block → ℕ → Type 0
+BeginInOrder s blocks count = (i : ℕ) → i < count → (slice_index_or blocks i no_block).begin ≡ block_begin s i

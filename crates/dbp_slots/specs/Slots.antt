@@ -13,7 +13,7 @@ is_to_lower ranks task l = (l.writer == task) && nat_lt (slice_index ranks task)
 abbrev pub is_to_higher : List ℕ → ℕ → Link → Bool
 is_to_higher ranks task l = (l.writer == task) && nat_lt (slice_index ranks l.reader) (slice_index ranks task)
 
--- the longest delay of the links that leave the task, 0 where none leaves it
+-- the longest delay of the links that leave the task, 0 if none leaves it
 abbrev pub longest_delay : List Link → ℕ → ℕ
 longest_delay links task = fold (λ most l. max most l.delay) 0 (filter (λ l. l.writer == task) links)
 

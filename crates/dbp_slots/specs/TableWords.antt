@@ -1,5 +1,5 @@
--- The words of the table that the tasks of a run share, and their places.
-use Rattle.std.specs.Prelude.{ℕ, ◌+◌, ◌*◌, ◌<◌, List, length, map, slice_index_or, sum_by, take}
+-- The words of the table that the tasks of a run share, and their addresses.
+use Rattle.std.specs.Prelude.{◌≡◌, ℕ, ◌+◌, ◌*◌, ◌<◌, List, length, map, slice_index_or, sum_by, take}
 use Rattle.std.specs.List.{enumerate_from}
 use Rattle.dbp_plan.specs.declared.diagram.Diagram.{Diagram}
 use Rattle.dbp_slots.specs.Slots.{counts_of}
@@ -9,7 +9,7 @@ pub record SlotSizes : Type 0 where
   pub slots : ℕ
   pub ports : ℕ
 
--- what decides the places of the words
+-- what decides the addresses of the words
 pub record Sizes : Type 0 where
   pub tasks : List SlotSizes
   pub links : ℕ
@@ -23,7 +23,7 @@ pub data TableWord : Type 0 where
   stamp : (i n : ℕ) → TableWord
   word : (i n p : ℕ) → TableWord
 
--- those of a task that is not there
+-- those of a task that isn't there
 abbrev pub no_sizes : SlotSizes
 no_sizes = record { slots = 0; ports = 0 }
 
@@ -38,7 +38,7 @@ slot_size t = 1 + t.ports
 abbrev pub block_size : SlotSizes → ℕ
 block_size t = t.slots * slot_size t
 
--- The blocks of the tasks stand one after another, behind word 0, three words for each task and one for each link.
+-- The blocks of the tasks stand one after another, after word 0, three words for each task and one for each link.
 abbrev pub block_begin : Sizes → ℕ → ℕ
 block_begin s i = 1 + 3 * length s.tasks + s.links + sum_by block_size (take i s.tasks)
 
@@ -46,14 +46,14 @@ block_begin s i = 1 + 3 * length s.tasks + s.links + sum_by block_size (take i s
 abbrev pub word_count : Sizes → ℕ
 word_count s = block_begin s (length s.tasks)
 
--- Where the word stands. A task has three words in front, and a slot its stamp and then its ports.
-abbrev pub place_of : Sizes → TableWord → ℕ
-place_of s (gate i) = 1 + 3 * i
-place_of s (ended i) = 2 + 3 * i
-place_of s (aim i) = 3 + 3 * i
-place_of s (claim k) = 1 + 3 * length s.tasks + k
-place_of s (stamp i n) = block_begin s i + n * slot_size (task_sizes s i)
-place_of s (word i n p) = block_begin s i + n * slot_size (task_sizes s i) + 1 + p
+-- The address of the word. A task has three words in front, and a slot its stamp and then its ports.
+abbrev pub address_of : Sizes → TableWord → ℕ
+address_of s (gate i) = 1 + 3 * i
+address_of s (ended i) = 2 + 3 * i
+address_of s (aim i) = 3 + 3 * i
+address_of s (claim k) = 1 + 3 * length s.tasks + k
+address_of s (stamp i n) = block_begin s i + n * slot_size (task_sizes s i)
+address_of s (word i n p) = block_begin s i + n * slot_size (task_sizes s i) + 1 + p
 
 -- the task has this slot
 abbrev pub IsSlot : Sizes → ℕ → ℕ → Type 0
@@ -75,3 +75,8 @@ sizes_of d =
       tasks = map (λ (i, t). record { slots = (counts_of d i).run; ports = length t.outs }) (enumerate_from 0 d.tasks);
       links = length d.links;
     }
+
+-- the word of the table that has this address
+pub record IsWordAt (s : Sizes) (address : ℕ) (w : TableWord) : Type 0 where
+  pub in_table : IsWord s w
+  pub is : address_of s w ≡ address

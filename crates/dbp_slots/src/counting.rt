@@ -56,7 +56,7 @@ fn higher_readers(diagram: &Diagram, task: u32) -> u32
     count
 }
 
-// The greatest delay of the links that leave the task, 0 where none leaves it.
+// The greatest delay of the links that leave the task, 0 if none leaves it.
 fn longest_delay(diagram: &Diagram, task: u32) -> u32
     ensures { result ≡ longest_delay diagram.now.links task }
 {

@@ -1,7 +1,7 @@
-// Where the words of a run's table stand.
+// The addresses of the words of a run's table.
 ghost use Rattle.std.specs.Prelude.{◌≡◌, ◌≤◌};
 ghost use Rattle.dbp_plan.specs.declared.limits.TheConstants.{MAX_TASKS};
-ghost use Rattle.dbp_slots.specs.LayoutBlocks.{BeginInPlace, sizes_by};
+ghost use Rattle.dbp_slots.specs.LayoutBlocks.{BeginInOrder, sizes_by};
 ghost use Rattle.dbp_slots.specs.TableWords.{word_count};
 
 pub mod laying;
@@ -18,7 +18,7 @@ struct Block {
     ports: u32,
 }
 
-/// The places of the words of a diagram's shared table, in words; word 0 is none of them. Tasks, links, slots and
+/// The addresses of the words of a diagram's shared table, in words; word 0 is none of them. Tasks, links, slots and
 /// ports are numbered from 0, and a call requires one that the diagram has. It takes no memory.
 #[derive(Drop)]
 pub struct Layout {
@@ -29,60 +29,60 @@ pub struct Layout {
     // Words of the table.
     end: u32,
     ghost few: { tasks ≤ MAX_TASKS },
-    ghost placed: { BeginInPlace (sizes_by tasks links blocks) blocks tasks },
+    ghost in_order: { BeginInOrder (sizes_by tasks links blocks) blocks tasks },
     ghost counted: { end ≡ word_count (sizes_by tasks links blocks) },
 }
 
 impl Layout {
     ghost use Rattle.std.specs.Prelude.{◌≡◌};
     ghost use Rattle.dbp_slots.specs.Layout.{sizes};
-    ghost use Rattle.dbp_slots.specs.TableWords.{aim, claim, ended, gate, IsWord, place_of, stamp, word, word_count};
+    ghost use Rattle.dbp_slots.specs.TableWords.{aim, claim, ended, gate, IsWord, address_of, stamp, word, word_count};
 
-    /// The place of the task's gate.
+    /// The address of the task's gate.
     pub fn gate(&self, task: u32) -> u32
         requires { IsWord (sizes self.now) (gate task) }
-        ensures { result ≡ place_of (sizes self.now) (gate task) }
+        ensures { result ≡ address_of (sizes self.now) (gate task) }
     {
         1 + 3 * task
     }
 
-    /// The place of the count of the task's instances that have ended.
+    /// The address of the count of the task's instances that have ended.
     pub fn ended(&self, task: u32) -> u32
         requires { IsWord (sizes self.now) (ended task) }
-        ensures { result ≡ place_of (sizes self.now) (ended task) }
+        ensures { result ≡ address_of (sizes self.now) (ended task) }
     {
         2 + 3 * task
     }
 
-    /// The place of the task's aim.
+    /// The address of the task's aim.
     pub fn aim(&self, task: u32) -> u32
         requires { IsWord (sizes self.now) (aim task) }
-        ensures { result ≡ place_of (sizes self.now) (aim task) }
+        ensures { result ≡ address_of (sizes self.now) (aim task) }
     {
         3 + 3 * task
     }
 
-    /// The place of the link's claim.
+    /// The address of the link's claim.
     pub fn claim(&self, link: u32) -> u32
         requires { IsWord (sizes self.now) (claim link) }
-        ensures { result ≡ place_of (sizes self.now) (claim link) }
+        ensures { result ≡ address_of (sizes self.now) (claim link) }
     {
         1 + 3 * self.tasks + link
     }
 
-    /// The place of the stamp of the task's slot.
+    /// The address of the stamp of the task's slot.
     pub fn stamp(&self, task: u32, slot: u32) -> u32
         requires { IsWord (sizes self.now) (stamp task slot) }
-        ensures { result ≡ place_of (sizes self.now) (stamp task slot) }
+        ensures { result ≡ address_of (sizes self.now) (stamp task slot) }
     {
         let block = self.blocks[task as usize];
         block.begin + slot * (1 + block.ports)
     }
 
-    /// The place of the word for the port in the task's slot. It is among those behind the slot's stamp.
+    /// The address of the word for the port in the task's slot. It is among those after the slot's stamp.
     pub fn word(&self, task: u32, slot: u32, port: u32) -> u32
         requires { IsWord (sizes self.now) (word task slot port) }
-        ensures { result ≡ place_of (sizes self.now) (word task slot port) }
+        ensures { result ≡ address_of (sizes self.now) (word task slot port) }
     {
         self.stamp(task, slot) + 1 + port
     }

@@ -7,7 +7,7 @@ pub struct Counts {
     pub lower: u32,
     /// Links from the task to readers that are ranked above it.
     pub higher: u32,
-    /// The longest delay of the links that leave the task, 0 where none leaves it.
+    /// The longest delay of the links that leave the task, 0 if none leaves it.
     pub delayed: u32,
     /// Slots of the task in a simulation: `lower + 1 + delayed`.
     pub sim: u32,

@@ -1,4 +1,5 @@
 pub mod BatchParts
+pub mod BatchStarts
 pub mod Counts
 pub mod IntoLinks
 pub mod Located

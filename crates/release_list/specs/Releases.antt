@@ -1,5 +1,5 @@
 -- The releaser's actions, in order.
-use Rattle.std.specs.Prelude.{ℕ, ◌==◌, List, ◌++◌, length, map, filter}
+use Rattle.std.specs.Prelude.{ℕ, ◌==◌, List, ◌++◌, length, map, filter, take}
 use Rattle.std.specs.List.{flat_map, range_with_len}
 use Rattle.dbp_plan.specs.declared.diagram.Link.{Link}
 use Rattle.dbp_plan.specs.declared.schedule.Batch.{Batch}
@@ -28,3 +28,7 @@ releases_at links batch = map Aim batch.tasks ++ (claims_of links batch.tasks ++
 -- the whole plan, batch by batch
 abbrev pub releases_of : List Link → List Batch → List Release
 releases_of links batches = flat_map (releases_at links) batches
+
+-- the index in the whole plan's list at which the batch with this number begins; after the last batch, the list's length
+abbrev pub batch_start : List Link → List Batch → ℕ → ℕ
+batch_start links batches number = length (releases_of links (take number batches))

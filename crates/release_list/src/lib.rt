@@ -4,5 +4,5 @@
 mod laws;
 mod release;
 
-pub use laws::releases_are_a_schedule;
+pub use laws::{a_batch_stands_together, releases_are_a_schedule};
 pub use release::{Release, releases};

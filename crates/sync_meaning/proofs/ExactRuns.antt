@@ -27,7 +27,8 @@ use Rattle.sync_meaning.specs.declared.env.Env.{Env}
 use Rattle.sync_meaning.specs.declared.run.Run.{Run}
 use Rattle.sync_meaning.specs.Meaning.{AreStatesAfter, HasLets, IsEnv, IsMeaning, IsRead, outs_in}
 use Rattle.sync_meaning.specs.Run.{HasStreams, IsAtTime, IsRun}
-use Rattle.sync_meaning.specs.Shape.{AreCounted, AreWritten, HasFirstStates, IsMarked, IsNextBatch, first_rows}
+use Rattle.sync_meaning.specs.FirstRows.{first_rows}
+use Rattle.sync_meaning.specs.Shape.{AreCounted, AreWritten, HasFirstStates, IsMarked, IsNextBatch}
 use Rattle.sync_meaning.specs.Streams.{HasRowsOfTable, IsStreamTo}
 use Rattle.sync_meaning.specs.Taken.{AreTaken, AreValuesAt}
 use Rattle.sync_meaning.proofs.Counts.{counted_few, counted_more, one_if}

@@ -17,7 +17,8 @@ use Rattle.sync_meaning.specs.declared.env.Env.{Env}
 use Rattle.sync_meaning.specs.declared.run.Run.{Run}
 use Rattle.sync_meaning.specs.Ranking.{IsByRank}
 use Rattle.sync_meaning.specs.Run.{IsRun}
-use Rattle.sync_meaning.specs.Shape.{HasEnvs, IsEnvOf, IsMarked, IsReadable, first_rows}
+use Rattle.sync_meaning.specs.FirstRows.{first_rows}
+use Rattle.sync_meaning.specs.Shape.{HasEnvs, IsEnvOf, IsMarked, IsReadable}
 use Rattle.sync_meaning.proofs.Ranks.{ranking, length-ranks}
 use Rattle.dbp_plan.specs.Places.{all_place}
 use Rattle.sync_meaning.proofs.Tables.{envs_step, readable, row_fits, rows_none, rows_step}
@@ -79,14 +80,15 @@ next_writers d i t run next k e below =
     omega (arith, ends.0, next.reached.steps.size, length-ranks d next.ranked)
 
 -- its row has room
-pub next_fits : (d : Diagram) (i : ℕ) (t : Task) (run : Run) (rows : TaskRows) → IsNext d i t run → slice_get run.table.tasks i ≡ Some rows → length rows.words + MAX_OUTS < 2 ^ 32
-next_fits d i t run rows next at =
+pub next_fits : (d : Diagram) (i : ℕ) (t : Task) (run : Run) (rows : TaskRows) (row : List ℤ) → IsNext d i t run → slice_get run.table.tasks i ≡ Some rows → length row ≡ length t.outs → length rows.words + length row < 2 ^ 32
+next_fits d i t run rows row next at size =
     let m : ℕ = get_or run.done.items i 0 in
     let n : ℕ = get_or run.named.items i 0 in
     let has : HasRowsOf (length t.outs) m rows = next.reached.rows.each i m t rows next.task (done_of d i t run next) at in
     let most : n ≤ MAX_OCCURRENCES = next.few i 0 (slice_get_within run.named.items i n (named_of d i t run next)) in
     let due : m < n = next.due in
-    row_fits (length t.outs) m rows has (closed_task d i t next.ranked next.task).outs.1 (omega arith)
+    let few : length t.outs ≤ MAX_OUTS = (closed_task d i t next.ranked next.task).outs.1 in
+    omega (arith, row_fits (length t.outs) m rows has few (omega arith))
 
 -- and then the next rank is computed
 pub next_more : (d : Diagram) (i n : ℕ) (t : Task) (run later : Run) (env : Env) (tables : List TaskRows) (old new : TaskRows) (row : List ℤ) → IsNext d i t run → IsEnvOf t env

@@ -22,7 +22,8 @@ use Rattle.dbp_plan.specs.Places.{at_place, front_place, last_place, all_place}
 use Rattle.sync_meaning.specs.declared.env.Env.{Env}
 use Rattle.sync_meaning.specs.Ranking.{IsRanking}
 use Rattle.sync_meaning.specs.Run.{HasRowsUpTo, IsDoneAbove}
-use Rattle.sync_meaning.specs.Shape.{AreCounted, HasEnvs, HasFirstStates, IsEnvOf, IsReadable, first_rows}
+use Rattle.sync_meaning.specs.FirstRows.{first_rows}
+use Rattle.sync_meaning.specs.Shape.{AreCounted, HasEnvs, HasFirstStates, IsEnvOf, IsReadable}
 use Rattle.sync_meaning.proofs.Counts.{take_push}
 use Rattle.sync_meaning.proofs.Sets.{set_cases, zero_of}
 

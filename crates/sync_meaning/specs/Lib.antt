@@ -1,3 +1,4 @@
+pub mod FirstRows
 pub mod Lets
 pub mod Meaning
 pub mod Nexts

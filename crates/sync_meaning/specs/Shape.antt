@@ -5,7 +5,6 @@ use Rattle.dbp_plan.specs.declared.diagram.Link.{Link}
 use Rattle.dbp_plan.specs.declared.diagram.Read.{Read}
 use Rattle.dbp_plan.specs.declared.schedule.Batch.{Batch}
 use Rattle.dbp_plan.specs.declared.table.Table.{Table}
-use Rattle.dbp_plan.specs.declared.table.TaskRows.{TaskRows}
 use Rattle.dbp_plan.specs.Closed.{place_count}
 use Rattle.dbp_plan.specs.Occurrences.{names, times_of}
 use Rattle.sync_meaning.specs.declared.env.Env.{Env}
@@ -29,10 +28,6 @@ pub record AreWritten {X : Type 0} (base : ℕ) (items : List X) (fits : X → �
   pub size : length after ≡ length before
   pub written : (k : ℕ) (x : X) (word : ℤ) → slice_get items k ≡ Some x → slice_get after (base + k) ≡ Some word → fits x word
   pub kept : (j : ℕ) → (j < base) ⊎ (base + length items ≤ j) → slice_get after j ≡ slice_get before j
-
--- the row of the task's first values
-abbrev pub first_rows : Task → TaskRows
-first_rows task = record { ports = length task.outs; words = map (λ o. o.first) task.outs }
 
 -- the row that the read goes back to is there
 abbrev pub IsReadable : List Link → (ℕ → ℕ) → Table → Read → Type 0

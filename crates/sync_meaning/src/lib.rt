@@ -13,4 +13,5 @@ mod run;
 pub use env::{Env, env_of};
 pub use instance::work;
 pub use laws::{one_meaning, some_meaning};
+pub use rows::{first_table, push_row};
 pub use run::mean;

@@ -8,7 +8,7 @@ use super::{Block, Layout};
 use crate::counting::counts;
 use dbp_plan::{Diagram, MAX_TASKS};
 
-/// The places of the words for a run of the diagram, which is ranked: each task has its slots of a run, and a slot a
+/// The addresses of the words for a run of the diagram, which is ranked: each task has its slots of a run, and a slot a
 /// word for each of the task's outs.
 pub fn layout(diagram: &Diagram) -> Layout
     requires { IsRanked diagram.now }

@@ -8,7 +8,7 @@ use Rattle.dbp_slots.proofs.Fillings.{filled_all, begin_more, begin_small, block
 use Rattle.dbp_slots.proofs.layouts.laying.layout.Goals as goal
 
 pub loop-i-init : goal.loop-i-init
-loop-i-init c = record { size = refl; filled = refl; placed = λ i below. absurd (omega arith); counted = omega (arith, length_sizes c.args.diagram.now) }
+loop-i-init c = record { size = refl; filled = refl; in_order = λ i below. absurd (omega arith); counted = omega (arith, length_sizes c.args.diagram.now) }
 
 pub overflow_mul-end-in-loop-i : goal.overflow_mul-end-in-loop-i
 overflow_mul-end-in-loop-i c =
@@ -40,7 +40,7 @@ loop-i-preserved c =
     record {
       size = length-set c.loop-i.blocks i b ∙ c.loop-i.invariant.size;
       filled = fill_more (sizes_of d) c.loop-i.blocks i b room fits here c.loop-i.invariant.filled;
-      placed = begin_more (sizes_of d) c.loop-i.blocks i b room c.loop-i.invariant.counted c.loop-i.invariant.placed;
+      in_order = begin_more (sizes_of d) c.loop-i.blocks i b room c.loop-i.invariant.counted c.loop-i.invariant.in_order;
       counted = omega (arith, next_begin (sizes_of d) i fits, ap block_size here, c.loop-i.invariant.counted);
     }
 
@@ -53,7 +53,7 @@ invariant_of-result c =
     filled_all d blocks c.loop-i.i c.len-tasks.result c.len-links.result c.loop-i.invariant.filled at_end c.len-tasks.ensures c.len-links.ensures in
     record {
       few = omega (arith, c.requires.closed.tasks);
-      placed = λ k below. c.loop-i.invariant.placed k (omega arith) ∙ ap (λ s. block_begin s k) (sym made);
+      in_order = λ k below. c.loop-i.invariant.in_order k (omega arith) ∙ ap (λ s. block_begin s k) (sym made);
       counted = c.loop-i.invariant.counted ∙ ap (block_begin (sizes_of d)) (omega (arith, length_sizes d)) ∙ ap word_count (sym made);
     }
 

@@ -26,7 +26,9 @@ push_row-requires c =
     let next = is_next c.args.plan.now c.args.task c.index-items-place.result c.items.result.now c.args.self.now c.items.ensures.value c.requires.task c.index-items-place.is c.requires.run c.requires.due c.requires.few in
     let below : c.args.task < length c.args.self.now.table.tasks = omega (arith, c.requires.task, c.requires.run.rows.size) in
     let at = item_at c.args.self.now.table.tasks c.items_mut.result.now c.args.task c.index-items_mut-place.result c.items_mut.ensures.value below c.index-items_mut-place.is in
-    rw (sym c.index-items_mut-place.is) (next_fits c.args.plan.now.diagram c.args.task c.index-items-place.result c.args.self.now c.index-items_mut-place.result next at)
+    let t = c.index-items-place.result in
+    let outs : length c.work.new.outs ≡ length t.outs = ap length c.work.ensures.outs ∙ length-map t.outs (λ o. value_of o.expr c.work.new.env.now) in
+    rw (sym c.index-items_mut-place.is) (next_fits c.args.plan.now.diagram c.args.task t c.args.self.now c.index-items_mut-place.result c.work.new.outs next at outs)
 
 pub returns-clause-run : goal.returns-clause-run
 returns-clause-run c =

@@ -1,6 +1,7 @@
 use Rattle.std.proofs.Common.{length, map, ap, ◌∙◌, subst}
 use Rattle.std.specs.Prelude.{replicate}
-use Rattle.sync_meaning.specs.Shape.{HasEnvs, HasFirstStates, first_rows}
+use Rattle.sync_meaning.specs.FirstRows.{first_rows}
+use Rattle.sync_meaning.specs.Shape.{HasEnvs, HasFirstStates}
 use Rattle.sync_meaning.proofs.ExactInputs.{taken_none}
 use Rattle.sync_meaning.proofs.ExactRuns.{streams_none}
 use Rattle.sync_meaning.proofs.Ranks.{length-ranks}
