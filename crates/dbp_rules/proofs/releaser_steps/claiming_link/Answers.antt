@@ -35,12 +35,6 @@ pub claims_slot-requires-clause-link : goal.claims_slot-requires-clause-link
 claims_slot-requires-clause-link c =
     below c.args.wiring.now c.args.i c.loop-k.k-index c.items-k-items.result.now (leaving c.args.wiring.now c.args.i c.task.result.now c.items-k-items.result.now c.items-k-items.ensures.value c.task.ensures (c.requires.links.leaving c.args.i c.requires.task)) c.loop-k-test.true
 
-pub claims_slot-requires-clause-claim : goal.claims_slot-requires-clause-claim
-claims_slot-requires-clause-claim c =
-    let inside : get_or c.items-k-items.result.now c.loop-k.k-index 0 < length c.args.wiring.now.links =
-    below c.args.wiring.now c.args.i c.loop-k.k-index c.items-k-items.result.now (leaving c.args.wiring.now c.args.i c.task.result.now c.items-k-items.result.now c.items-k-items.ensures.value c.task.ensures (c.requires.links.leaving c.args.i c.requires.task)) c.loop-k-test.true in
-    omega (arith, inside, c.requires.claims)
-
 pub returns-then-claims_slot : goal.returns-then-claims_slot
 returns-then-claims_slot c =
     let w = c.args.wiring.now in
