@@ -47,8 +47,8 @@ module _ (w : Wiring) (i : ℕ) (t : TaskPart) (ok : TaskPartShape w i t) where
     each_heard = ok.each_heard;
   }
 
-  started_part : (gate : ℕ) → t.place ≡ place.Idle → gate ≤ length (wired w i).times → TaskPartShape w i (move.started t (rule.opens_next t gate))
-  started_part gate at few = elim (cases_Bool (rule.opens_next t gate)) [
+  started_part : (gate : ℕ) → t.place ≡ place.Idle → gate ≤ length (wired w i).times → TaskPartShape w i (move.started t (rule.is_opened_by t gate))
+  started_part gate at few = elim (cases_Bool (rule.is_opened_by t gate)) [
     | inl is ↦
         let opened : gate ≡ t.ended + 1 = eqb-true gate (t.ended + 1) is in
         rw is (record { place = omega arith; occurs = omega (arith, opened, few); heard = ok.heard ∙ ap (heard_by (1 + length (wired w i).links)) at; each_heard = ok.each_heard })

@@ -147,8 +147,8 @@ turn_at (place.Take n) = n
 turn_at _ = 0
 
 -- the gate is open for the task's next instance
-abbrev pub opens_next : TaskPart → ℕ → Bool
-opens_next t gate = gate == t.ended + 1
+abbrev pub is_opened_by : TaskPart → ℕ → Bool
+is_opened_by t gate = gate == t.ended + 1
 
 -- the order that the task heard for the read of this turn
 abbrev pub read_order_in : TaskWiring → TaskPart → ℕ → Order
@@ -182,7 +182,7 @@ releaser_after w r (OpenGate i) l = one_further r
 releaser_after w r _ l = r
 
 abbrev pub task_after : TaskWiring → TaskPart → Step → Loaded → TaskPart
-task_after w t (Start i) l = move.started t (opens_next t (loaded_number l))
+task_after w t (Start i) l = move.started t (is_opened_by t (loaded_number l))
 task_after w t (Hear i) l = move.heard w t (hears_at t.place) (loaded_order l)
 task_after w t (Look i r) l = move.looked t (turn_at t.place) (is_stamp_of (read_order_in w t (turn_at t.place)) (loaded_number l))
 task_after w t (Take i r) l = move.took w t (turn_at t.place)

@@ -6,7 +6,7 @@ use Rattle.dbp_plan.specs.declared.plan.Plan.{Plan}
 use Rattle.dbp_plan.specs.Samples.{input_value}
 use Rattle.dbp_plan.specs.Lookups.{declared}
 use Rattle.dbp_rules.specs.Moves as move
-use Rattle.dbp_rules.specs.PartyRules.{Loaded, a_number, a_value, an_order, next_claim, no_word, opens_next, is_stamp_of, read_order_in, releaser_after, releaser_next, releaser_refusal, task_after, task_next, task_refusal, with_entry_in, with_claim_in, one_further}
+use Rattle.dbp_rules.specs.PartyRules.{Loaded, a_number, a_value, an_order, next_claim, no_word, is_opened_by, is_stamp_of, read_order_in, releaser_after, releaser_next, releaser_refusal, task_after, task_next, task_refusal, with_entry_in, with_claim_in, one_further}
 pub use Rattle.dbp_rules.specs.PartyRules.{claims_slot_in, hears_at, is_next, least, none_of, or_else, place_kind, release_kind, staying, stays_kept, turn_at, unless}
 use Rattle.dbp_rules.specs.Places.{task, task_entry, order, slot_at, wired, link, read_at, time}
 use Rattle.dbp_rules.specs.declared.parts.LinkEntry.{LinkEntry}
@@ -85,7 +85,7 @@ unblocked count.Ranked w s i = none_of (highest w (blocks w s i) (length w.tasks
 
 -- the gate is open for the task's next instance
 abbrev pub is_open : State → ℕ → Bool
-is_open s i = opens_next (task s i).part (task s i).words.gate
+is_open s i = is_opened_by (task s i).part (task s i).words.gate
 
 -- the order at the place: the task's own, then that of each link into it
 abbrev pub order_word : Wiring → State → ℕ → ℕ → Order

@@ -95,13 +95,21 @@ impl TaskPart {
         self.heard.as_slice()[read.order as usize]
     }
 
+    /// Whether the gate is open for its next instance.
+    pub fn is_opened_by(&self, gate: u32) -> bool
+        requires { self.now.ended + 1 < 2 ^ 32 }
+        ensures { result ≡ rule.is_opened_by self.now gate }
+    {
+        gate == self.ended + 1
+    }
+
     /// It has loaded its gate, and starts if that is open for its next instance. Returns whether it is.
     pub fn start(&mut self, gate: u32) -> bool
         requires { self.old.ended + 1 < 2 ^ 32 }
-        ensures open { result ≡ rule.opens_next self.old gate }
-        ensures next { self.new ≡ move.started self.old (rule.opens_next self.old gate) }
+        ensures open { result ≡ rule.is_opened_by self.old gate }
+        ensures next { self.new ≡ move.started self.old (rule.is_opened_by self.old gate) }
     {
-        let is_open = gate == self.ended + 1;
+        let is_open = self.is_opened_by(gate);
         if is_open {
             self.place = Place::Hear(0);
         }
