@@ -9,6 +9,7 @@ ghost use Rattle.dbp_rules.specs.Places.{link, order, read_at, slot_at, task, wi
 ghost use Rattle.dbp_rules.specs.Rules as rule;
 ghost use Rattle.dbp_rules.specs.Rules.{with_part, with_task};
 ghost use Rattle.dbp_rules.specs.Shapes.{HasSamples};
+ghost use Rattle.dbp_rules.specs.declared.parts.Place.TheVariants as place;
 
 use crate::conditions::own_time;
 use crate::look_up::{declared_at, task_at, wired_at};
@@ -161,7 +162,7 @@ pub(crate) fn finish(state: &mut State, i: u32)
     requires ended { (task state.old i).part.ended + 2 < 2 ^ 32 }
     ensures { state.new ≡ with_task state.old i (record {
       words = move.stamped (task state.old i).words (move.own_slot (task state.old i).part) ((task state.old i).part.ended + 2);
-      part = move.at_place (task state.old i).part Place.End;
+      part = move.at_place (task state.old i).part place.End;
       work = (task state.old i).work;
     }) }
 {
@@ -200,7 +201,7 @@ pub(crate) fn shut(plan: &Plan, wiring: &Wiring, state: &mut State, i: u32)
     requires later { length (task state.old i).work.later ≡ length (declared plan.now i).states }
     ensures { state.new ≡ with_task state.old i (record {
       words = move.stamped (task state.old i).words (move.own_slot (task state.old i).part) 0;
-      part = move.at_place (task state.old i).part (Place.Put 0);
+      part = move.at_place (task state.old i).part (place.Put 0);
       work = move.worked (declared plan.now i) (rule.sensed plan.now wiring.now state.old i) (task state.old i).work;
     }) }
 {
