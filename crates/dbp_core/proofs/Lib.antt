@@ -1,3 +1,1 @@
-pub mod Keeping
-pub mod Searches
 pub mod InputValues

@@ -1,33 +1,41 @@
 // One step: why it isn't allowed, or what it makes of the state.
 
-ghost use Rattle.std.specs.Prelude.{◌≡◌, ◌<◌, ℕ, length};
-ghost use Rattle.dbp_rules.specs.Places.{link, task, wired};
+ghost use Rattle.std.specs.Prelude.{◌≡◌, ◌<◌, length};
+ghost use Rattle.dbp_rules.specs.PartyRules.{task_refusal};
+ghost use Rattle.dbp_rules.specs.Places.{task, wired};
 ghost use Rattle.dbp_rules.specs.Rules as rule;
 ghost use Rattle.dbp_rules.specs.Rules.{IsNamed, IsStep};
 ghost use Rattle.dbp_rules.specs.Shapes.{IsShape, PlaceIn};
-ghost use Rattle.dbp_rules.specs.Wired.{links_at};
-ghost use Rattle.dbp_rules.specs.declared.wiring.LinkEnd.TheVariants.{Writer};
 
-use crate::conditions::{Kind, blocked, claimed, not_next_release, not_next_step, stays_kept};
-use crate::look_up::{declared_at, entry_at, task_at, wired_at};
+use crate::conditions::blocked;
+use crate::look_up::{declared_at, task_at, wired_at};
 use crate::releaser::{aim, claim, open, see};
-use crate::steps::{end, finish, hear, is_open, is_ready, look, put, read_word, shut, start, take};
+use crate::steps::{end, finish, hear, is_open, look, put, read_word, shut, start, take};
 use dbp_plan::Plan;
-use dbp_rules::{Broken, Heard, Illegal, Place, State, Step, Wiring};
+use dbp_rules::{Heard, Illegal, Place, State, Step, Wiring};
 
-// Why the task may not make the step of this kind, if that is so.
-fn forbidden(wiring: &Wiring, state: &State, i: u32, number: u32, operand: u32) -> Option<Illegal>
+// Why the task may not make the step, if that is so: its own part, or else a task that is ranked above it.
+fn forbidden(wiring: &Wiring, state: &State, i: u32, step: Step) -> Option<Illegal>
     requires wired { i < length wiring.now.tasks }
     requires tasks { length state.now.tasks ≡ length wiring.now.tasks }
     requires entries { length state.now.releaser.tasks ≡ length wiring.now.tasks }
     requires place { PlaceIn (wired wiring.now i) (task state.now i).part.place }
-    ensures { result ≡ rule.or_else (rule.steps_next wiring.now state.now i number operand) (rule.unblocked wiring.now.count wiring.now state.now i) }
+    ensures { result ≡ rule.forbidden wiring.now state.now i step }
 {
-    let kind = Kind { number, operand };
-    if let Some(why) = not_next_step(wiring, state, i, kind) {
+    if let Some(why) = not_next(wiring, state, i, step) {
         return Some(why);
     }
     blocked(wiring, state, i)
+}
+
+// Why the step isn't the task's next one, if that is so.
+fn not_next(wiring: &Wiring, state: &State, i: u32, step: Step) -> Option<Illegal>
+    requires wired { i < length wiring.now.tasks }
+    requires tasks { i < length state.now.tasks }
+    requires place { PlaceIn (wired wiring.now i) (task state.now i).part.place }
+    ensures { result ≡ task_refusal (wired wiring.now i) (task state.now i).part step }
+{
+    task_at(state, i).part.refusal(wired_at(wiring, i), step)
 }
 
 fn step_open(plan: &Plan, wiring: &Wiring, state: &mut State, i: u32) -> Result<Heard, Illegal>
@@ -35,11 +43,7 @@ fn step_open(plan: &Plan, wiring: &Wiring, state: &mut State, i: u32) -> Result<
     requires shape { IsShape plan.now wiring.now state.old }
     ensures { IsStep plan.now wiring.now state.old (Step.OpenGate i) result state.new }
 {
-    let kind = Kind {
-        number: 4,
-        operand: i,
-    };
-    if let Some(why) = not_next_release(wiring, state, kind) {
+    if let Some(why) = state.releaser.refusal(wiring, Step::OpenGate { task: i }) {
         return Err(why);
     }
     open(state, i);
@@ -57,53 +61,11 @@ fn step_aim(
     requires shape { IsShape plan.now wiring.now state.old }
     ensures { IsStep plan.now wiring.now state.old (Step.Aim i slot) result state.new }
 {
-    if let Some(why) = not_aimed(wiring, state, i, slot) {
+    if let Some(why) = state.releaser.refusal(wiring, Step::Aim { task: i, slot }) {
         return Err(why);
     }
     aim(state, i, slot);
     Ok(Heard::Stored)
-}
-
-// Why the task can't be aimed at the slot, if that is so.
-fn not_aimed(wiring: &Wiring, state: &State, i: u32, slot: u32) -> Option<Illegal>
-    requires wired { i < length wiring.now.tasks }
-    requires leaving { (wired wiring.now i).leaving ≡ links_at Writer wiring.now.links i }
-    requires entries { length state.now.releaser.tasks ≡ length wiring.now.tasks }
-    requires claims { length state.now.releaser.links ≡ length wiring.now.links }
-    requires writers { (k : ℕ) → k < length wiring.now.links → (link wiring.now k).writer < length wiring.now.tasks }
-    requires readers { (k : ℕ) → k < length wiring.now.links → (link wiring.now k).reader < length wiring.now.tasks }
-    ensures { result ≡ rule.refusal wiring.now state.now (Step.Aim i slot) }
-{
-    let kind = Kind {
-        number: 2,
-        operand: i,
-    };
-    if let Some(why) = not_next_release(wiring, state, kind) {
-        return Some(why);
-    }
-    let entry = entry_at(state, i);
-    let slots = wired_at(wiring, i).slots;
-    if entry.aimed != entry.known {
-        return Some(broken(Broken::LastNotEnded, entry.aimed, entry.known));
-    }
-    if slot >= slots {
-        return Some(broken(Broken::SlotRange, slots, slot));
-    }
-    if stays_kept(entry, slot) {
-        return Some(broken(Broken::SlotKept, slot, slot));
-    }
-    let link = claimed(wiring, state, i, slot)?;
-    Some(broken(Broken::SlotClaimed, link, slot))
-}
-
-fn broken(broken: Broken, left: u32, right: u32) -> Illegal
-    ensures { result ≡ record { broken = broken; left = left; right = right } }
-{
-    Illegal {
-        broken,
-        left: u64::from(left),
-        right: u64::from(right),
-    }
 }
 
 fn step_claim(plan: &Plan, wiring: &Wiring, state: &mut State, k: u32) -> Result<Heard, Illegal>
@@ -111,11 +73,7 @@ fn step_claim(plan: &Plan, wiring: &Wiring, state: &mut State, k: u32) -> Result
     requires shape { IsShape plan.now wiring.now state.old }
     ensures { IsStep plan.now wiring.now state.old (Step.Claim k) result state.new }
 {
-    let kind = Kind {
-        number: 3,
-        operand: k,
-    };
-    if let Some(why) = not_next_release(wiring, state, kind) {
+    if let Some(why) = state.releaser.refusal(wiring, Step::Claim { link: k }) {
         return Err(why);
     }
     claim(wiring, state, k);
@@ -127,11 +85,7 @@ fn step_start(plan: &Plan, wiring: &Wiring, state: &mut State, i: u32) -> Result
     requires shape { IsShape plan.now wiring.now state.old }
     ensures { IsStep plan.now wiring.now state.old (Step.Start i) result state.new }
 {
-    let kind = Kind {
-        number: 5,
-        operand: 0,
-    };
-    if let Some(why) = not_next_step(wiring, state, i, kind) {
+    if let Some(why) = not_next(wiring, state, i, Step::Start { task: i }) {
         return Err(why);
     }
     if !is_open(state, i) {
@@ -149,7 +103,7 @@ fn step_hear(plan: &Plan, wiring: &Wiring, state: &mut State, i: u32) -> Result<
     requires shape { IsShape plan.now wiring.now state.old }
     ensures { IsStep plan.now wiring.now state.old (Step.Hear i) result state.new }
 {
-    if let Some(why) = forbidden(wiring, state, i, 6, 0) {
+    if let Some(why) = forbidden(wiring, state, i, Step::Hear { task: i }) {
         return Err(why);
     }
     let Place::Hear(n) = task_at(state, i).part.place else {
@@ -173,17 +127,17 @@ fn step_look(
     requires shape { IsShape plan.now wiring.now state.old }
     ensures { IsStep plan.now wiring.now state.old (Step.Look i read) result state.new }
 {
-    if let Some(why) = forbidden(wiring, state, i, 7, read) {
+    if let Some(why) = forbidden(wiring, state, i, Step::Look { task: i, read }) {
         return Err(why);
     }
     let Place::Look(n) = task_at(state, i).part.place else {
         unreachable!()
     };
-    if !is_ready(wiring, state, i, n) {
-        return Ok(Heard::NotYet);
+    if look(wiring, state, i, n) {
+        Ok(Heard::Ready)
+    } else {
+        Ok(Heard::NotYet)
     }
-    look(state, i, n);
-    Ok(Heard::Ready)
 }
 
 fn step_take(
@@ -197,7 +151,7 @@ fn step_take(
     requires shape { IsShape plan.now wiring.now state.old }
     ensures { IsStep plan.now wiring.now state.old (Step.Take i read) result state.new }
 {
-    if let Some(why) = forbidden(wiring, state, i, 8, read) {
+    if let Some(why) = forbidden(wiring, state, i, Step::Take { task: i, read }) {
         return Err(why);
     }
     let Place::Take(n) = task_at(state, i).part.place else {
@@ -215,7 +169,7 @@ fn step_shut(plan: &Plan, wiring: &Wiring, state: &mut State, i: u32) -> Result<
     requires shape { IsShape plan.now wiring.now state.old }
     ensures { IsStep plan.now wiring.now state.old (Step.Shut i) result state.new }
 {
-    if let Some(why) = forbidden(wiring, state, i, 9, 0) {
+    if let Some(why) = forbidden(wiring, state, i, Step::Shut { task: i }) {
         return Err(why);
     }
     shut(plan, wiring, state, i);
@@ -233,7 +187,7 @@ fn step_put(
     requires shape { IsShape plan.now wiring.now state.old }
     ensures { IsStep plan.now wiring.now state.old (Step.Put i port) result state.new }
 {
-    if let Some(why) = forbidden(wiring, state, i, 10, port) {
+    if let Some(why) = forbidden(wiring, state, i, Step::Put { task: i, port }) {
         return Err(why);
     }
     put(wiring, state, i, port);
@@ -245,7 +199,7 @@ fn step_done(plan: &Plan, wiring: &Wiring, state: &mut State, i: u32) -> Result<
     requires shape { IsShape plan.now wiring.now state.old }
     ensures { IsStep plan.now wiring.now state.old (Step.Done i) result state.new }
 {
-    if let Some(why) = forbidden(wiring, state, i, 11, 0) {
+    if let Some(why) = forbidden(wiring, state, i, Step::Done { task: i }) {
         return Err(why);
     }
     finish(state, i);
@@ -257,7 +211,7 @@ fn step_end(plan: &Plan, wiring: &Wiring, state: &mut State, i: u32) -> Result<H
     requires shape { IsShape plan.now wiring.now state.old }
     ensures { IsStep plan.now wiring.now state.old (Step.End i) result state.new }
 {
-    if let Some(why) = forbidden(wiring, state, i, 12, 0) {
+    if let Some(why) = forbidden(wiring, state, i, Step::End { task: i }) {
         return Err(why);
     }
     end(state, i);

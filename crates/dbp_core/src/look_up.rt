@@ -1,11 +1,11 @@
 // What stands at a place of the state.
 
 ghost use Rattle.std.specs.Prelude.{◌≡◌, ◌<◌, length};
-ghost use Rattle.dbp_rules.specs.Places.{link_entry, task, task_entry, wired};
+ghost use Rattle.dbp_rules.specs.Places.{task, task_entry, wired};
 ghost use Rattle.dbp_plan.specs.Lookups.{declared};
 
 use dbp_plan::{Plan, Task};
-use dbp_rules::{LinkEntry, State, TaskEntry, TaskState, TaskWiring, Wiring};
+use dbp_rules::{State, TaskEntry, TaskState, TaskWiring, Wiring};
 
 pub(crate) fn task_at(state: &State, i: u32) -> &TaskState
     requires { i < length state.now.tasks }
@@ -18,21 +18,14 @@ pub(crate) fn entry_at(state: &State, i: u32) -> &TaskEntry
     requires { i < length state.now.releaser.tasks }
     ensures { result.now ≡ task_entry state.now i }
 {
-    &state.releaser.tasks.items()[i as usize]
-}
-
-pub(crate) fn claim_at(state: &State, k: u32) -> LinkEntry
-    requires { k < length state.now.releaser.links }
-    ensures { result ≡ link_entry state.now k }
-{
-    state.releaser.links.items()[k as usize]
+    state.releaser.entry(i)
 }
 
 pub(crate) fn wired_at(wiring: &Wiring, i: u32) -> &TaskWiring
     requires { i < length wiring.now.tasks }
     ensures { result.now ≡ wired wiring.now i }
 {
-    &wiring.tasks.items()[i as usize]
+    wiring.task(i)
 }
 
 pub(crate) fn declared_at(plan: &Plan, i: u32) -> &Task

@@ -9,12 +9,13 @@ ghost use Rattle.dbp_rules.specs.Places.{link, order, read_at, slot_at, task, wi
 ghost use Rattle.dbp_rules.specs.Rules as rule;
 ghost use Rattle.dbp_rules.specs.Rules.{with_part, with_task};
 ghost use Rattle.dbp_rules.specs.Shapes.{HasSamples};
+ghost use Rattle.dbp_rules.specs.declared.parts.Place.TheVariants as place;
 
 use crate::conditions::own_time;
 use crate::look_up::{declared_at, task_at, wired_at};
 use crate::sensing::sense;
 use dbp_plan::{Plan, Task};
-use dbp_rules::{Order, Place, Slot, State, TaskWiring, Wiring, Work};
+use dbp_rules::{Order, Slot, State, Wiring, Work};
 
 pub(crate) fn is_open(state: &State, i: u32) -> bool
     requires task { i < length state.now.tasks }
@@ -22,49 +23,16 @@ pub(crate) fn is_open(state: &State, i: u32) -> bool
     ensures { result ≡ rule.is_open state.now i }
 {
     let task = task_at(state, i);
-    task.words.gate == task.part.ended + 1
+    task.part.is_opened_by(task.words.gate)
 }
 
 pub(crate) fn start(state: &mut State, i: u32)
-    requires { i < length state.old.tasks }
-    ensures { state.new ≡ with_part state.old i (move.at_place (task state.old i).part (Place.Hear 0)) }
+    requires task { i < length state.old.tasks }
+    requires ended { (task state.old i).part.ended + 1 < 2 ^ 32 }
+    ensures { state.new ≡ with_part state.old i (move.started (task state.old i).part (rule.is_open state.old i)) }
 {
     let task = &mut state.tasks.items_mut()[i as usize];
-    task.part.place = Place::Hear(0);
-}
-
-// Where a task goes behind so many of its reads.
-fn read_place(reads: u32, n: u32) -> Place
-    ensures { result ≡ move.read_place reads n }
-{
-    if n < reads {
-        Place::Look(n)
-    } else {
-        Place::Shut
-    }
-}
-
-// Where a task goes behind so many of its orders.
-fn hear_place(wired: &TaskWiring, n: u32) -> Place
-    requires { 1 + length wired.now.links < 2 ^ 32 }
-    ensures { result ≡ move.hear_place wired.now n }
-{
-    if n < 1 + wired.links.len() {
-        Place::Hear(n)
-    } else {
-        read_place(wired.reads.len(), 0)
-    }
-}
-
-// Where a task goes behind so many of its puts.
-fn put_place(ports: u32, p: u32) -> Place
-    ensures { result ≡ move.put_place ports p }
-{
-    if p < ports {
-        Place::Put(p)
-    } else {
-        Place::Done
-    }
+    task.part.start(task.words.gate);
 }
 
 // The order that the task hears at this place.
@@ -86,6 +54,7 @@ pub(crate) fn order_word(wiring: &Wiring, state: &State, i: u32, n: u32) -> Orde
 pub(crate) fn hear(wiring: &Wiring, state: &mut State, i: u32, n: u32) -> Order
     requires wired { i < length wiring.now.tasks }
     requires task { i < length state.old.tasks }
+    requires at { rule.hears_at (task state.old i).part.place ≡ n }
     requires links { n ≤ length (wired wiring.now i).links }
     requires orders { (j : ℕ) → j < length (wired wiring.now i).links → slice_index (wired wiring.now i).links j < length state.old.orders }
     requires room { length (task state.old i).part.heard.items < 17 }
@@ -95,17 +64,16 @@ pub(crate) fn hear(wiring: &Wiring, state: &mut State, i: u32, n: u32) -> Order
     ensures next { state.new ≡ with_part state.old i (move.heard (wired wiring.now i) (task state.old i).part n (rule.order_word wiring.now state.old i n)) }
 {
     let order = order_word(wiring, state, i, n);
-    let place = hear_place(wired_at(wiring, i), n + 1);
     let task = &mut state.tasks.items_mut()[i as usize];
-    task.part.heard.push(order);
-    task.part.place = place;
+    task.part.hear(wired_at(wiring, i), order);
     order
 }
 
-// The slot that the task heard for the read of this turn.
+// The slot that the task heard for the read whose turn it is.
 pub(crate) fn read_slot<'a>(wiring: &Wiring, state: &'a State, i: u32, n: u32) -> &'a Slot
     requires wired { i < length wiring.now.tasks }
     requires task { i < length state.now.tasks }
+    requires at { rule.turn_at (task state.now i).part.place ≡ n }
     requires read { n < length (wired wiring.now i).reads }
     requires heard { (read_at (wired wiring.now i) n).order < length (task state.now i).part.heard.items }
     requires writer { (read_at (wired wiring.now i) n).writer < length state.now.tasks }
@@ -113,28 +81,14 @@ pub(crate) fn read_slot<'a>(wiring: &Wiring, state: &'a State, i: u32, n: u32) -
     ensures { result.now ≡ rule.read_slot wiring.now state.now i n }
 {
     let read = wired_at(wiring, i).reads.items()[n as usize];
-    let order = task_at(state, i).part.heard.as_slice()[read.order as usize];
+    let order = task_at(state, i).part.read_order(wired_at(wiring, i));
     &task_at(state, read.writer).words.slots.items()[order.slot as usize]
-}
-
-pub(crate) fn is_ready(wiring: &Wiring, state: &State, i: u32, n: u32) -> bool
-    requires wired { i < length wiring.now.tasks }
-    requires task { i < length state.now.tasks }
-    requires read { n < length (wired wiring.now i).reads }
-    requires heard { (read_at (wired wiring.now i) n).order < length (task state.now i).part.heard.items }
-    requires writer { (read_at (wired wiring.now i) n).writer < length state.now.tasks }
-    requires slot { (rule.read_order wiring.now state.now i n).slot < length (task state.now (read_at (wired wiring.now i) n).writer).words.slots }
-    requires number { (rule.read_order wiring.now state.now i n).number + 1 < 2 ^ 32 }
-    ensures { result ≡ rule.is_ready wiring.now state.now i n }
-{
-    let read = wired_at(wiring, i).reads.items()[n as usize];
-    let order = task_at(state, i).part.heard.as_slice()[read.order as usize];
-    read_slot(wiring, state, i, n).stamp == order.number + 1
 }
 
 pub(crate) fn read_word(wiring: &Wiring, state: &State, i: u32, n: u32) -> i64
     requires wired { i < length wiring.now.tasks }
     requires task { i < length state.now.tasks }
+    requires at { rule.turn_at (task state.now i).part.place ≡ n }
     requires read { n < length (wired wiring.now i).reads }
     requires heard { (read_at (wired wiring.now i) n).order < length (task state.now i).part.heard.items }
     requires writer { (read_at (wired wiring.now i) n).writer < length state.now.tasks }
@@ -146,27 +100,36 @@ pub(crate) fn read_word(wiring: &Wiring, state: &State, i: u32, n: u32) -> i64
     read_slot(wiring, state, i, n).words.items()[port as usize]
 }
 
-// The slot of the read is ready.
-pub(crate) fn look(state: &mut State, i: u32, n: u32)
-    requires { i < length state.old.tasks }
-    ensures { state.new ≡ with_part state.old i (move.at_place (task state.old i).part (Place.Take n)) }
+// The task loads the stamp of the slot that it heard for the read. Returns whether the slot is ready.
+pub(crate) fn look(wiring: &Wiring, state: &mut State, i: u32, n: u32) -> bool
+    requires wired { i < length wiring.now.tasks }
+    requires task { i < length state.old.tasks }
+    requires at { rule.turn_at (task state.old i).part.place ≡ n }
+    requires read { n < length (wired wiring.now i).reads }
+    requires heard { (read_at (wired wiring.now i) n).order < length (task state.old i).part.heard.items }
+    requires writer { (read_at (wired wiring.now i) n).writer < length state.old.tasks }
+    requires slot { (rule.read_order wiring.now state.old i n).slot < length (task state.old (read_at (wired wiring.now i) n).writer).words.slots }
+    requires number { (rule.read_order wiring.now state.old i n).number + 1 < 2 ^ 32 }
+    ensures ready { result ≡ rule.is_ready wiring.now state.old i n }
+    ensures next { state.new ≡ with_part state.old i (move.looked (task state.old i).part n (rule.is_ready wiring.now state.old i n)) }
 {
+    let stamp = read_slot(wiring, state, i, n).stamp;
     let task = &mut state.tasks.items_mut()[i as usize];
-    task.part.place = Place::Take(n);
+    task.part.look(wired_at(wiring, i), stamp)
 }
 
 // The task takes the word, which is kept at this place of its environment.
 pub(crate) fn take(wiring: &Wiring, state: &mut State, i: u32, n: u32, kept: usize, word: i64)
     requires wired { i < length wiring.now.tasks }
     requires task { i < length state.old.tasks }
+    requires at { rule.turn_at (task state.old i).part.place ≡ n }
     requires kept { kept < length (task state.old i).work.now }
     requires small { n + 1 < 2 ^ 32 }
     ensures { state.new ≡ with_task state.old i (record { words = (task state.old i).words; part = move.took (wired wiring.now i) (task state.old i).part n; work = move.with_now (task state.old i).work kept word }) }
 {
-    let place = read_place(wired_at(wiring, i).reads.len(), n + 1);
     let task = &mut state.tasks.items_mut()[i as usize];
     task.work.set(kept, word);
-    task.part.place = place;
+    task.part.take(wired_at(wiring, i));
 }
 
 pub(crate) fn put(wiring: &Wiring, state: &mut State, i: u32, port: u32)
@@ -183,13 +146,12 @@ pub(crate) fn put(wiring: &Wiring, state: &mut State, i: u32, port: u32)
       work = (task state.old i).work;
     }) }
 {
-    let place = put_place(wired_at(wiring, i).ports, port + 1);
     let task = &mut state.tasks.items_mut()[i as usize];
-    let own = task.part.heard.as_slice()[0].slot;
+    let own = task.part.own_slot();
     let word = task.work.row().words()[port as usize];
     let slot = &mut task.words.slots.items_mut()[own as usize];
     slot.words.items_mut()[port as usize] = word;
-    task.part.place = place;
+    task.part.put(wired_at(wiring, i), port);
 }
 
 // The task's slot holds the outs of its running instance.
@@ -200,15 +162,15 @@ pub(crate) fn finish(state: &mut State, i: u32)
     requires ended { (task state.old i).part.ended + 2 < 2 ^ 32 }
     ensures { state.new ≡ with_task state.old i (record {
       words = move.stamped (task state.old i).words (move.own_slot (task state.old i).part) ((task state.old i).part.ended + 2);
-      part = move.at_place (task state.old i).part Place.End;
+      part = move.at_place (task state.old i).part place.End;
       work = (task state.old i).work;
     }) }
 {
     let task = &mut state.tasks.items_mut()[i as usize];
-    let own = task.part.heard.as_slice()[0].slot;
+    let own = task.part.own_slot();
     let slot = &mut task.words.slots.items_mut()[own as usize];
     slot.stamp = task.part.ended + 2;
-    task.part.place = Place::End;
+    task.part.finish();
 }
 
 pub(crate) fn end(state: &mut State, i: u32)
@@ -221,10 +183,8 @@ pub(crate) fn end(state: &mut State, i: u32)
     }) }
 {
     let task = &mut state.tasks.items_mut()[i as usize];
-    task.part.ended += 1;
+    task.part.end();
     task.words.ended = task.part.ended;
-    task.part.heard.clear();
-    task.part.place = Place::Idle;
     task.work.advance();
 }
 
@@ -241,18 +201,18 @@ pub(crate) fn shut(plan: &Plan, wiring: &Wiring, state: &mut State, i: u32)
     requires later { length (task state.old i).work.later ≡ length (declared plan.now i).states }
     ensures { state.new ≡ with_task state.old i (record {
       words = move.stamped (task state.old i).words (move.own_slot (task state.old i).part) 0;
-      part = move.at_place (task state.old i).part (Place.Put 0);
+      part = move.at_place (task state.old i).part (place.Put 0);
       work = move.worked (declared plan.now i) (rule.sensed plan.now wiring.now state.old i) (task state.old i).work;
     }) }
 {
     let time = own_time(wiring, state, i);
     let declared = declared_at(plan, i);
     let task = &mut state.tasks.items_mut()[i as usize];
-    let own = task.part.heard.as_slice()[0].slot;
+    let own = task.part.own_slot();
     let slot = &mut task.words.slots.items_mut()[own as usize];
     slot.stamp = 0;
     work_on(plan, wiring, declared, &mut task.work, time);
-    task.part.place = Place::Put(0);
+    task.part.shut();
 }
 
 // One instance at the time.

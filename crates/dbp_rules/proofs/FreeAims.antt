@@ -231,7 +231,7 @@ pub exact_aim : (w : Wiring) (s : State) (i slot : ℕ) → slice_get w.releases
     → IsLeastFree (claimed_of w s i) (rule.staying (task_entry s i)) (wired w i).slots slot → IsLeastAim w s i slot
 exact_aim w s i slot here known free = record {
   free = free;
-  allowed = allowed_aim w s i slot (record {
+  allowed = allowed_aim w s.releaser i slot (record {
     here = here;
     known = known;
     below = free.below;
@@ -247,7 +247,7 @@ exact_aim w s i slot here known free = record {
     ];
   });
   least = λ n also.
-      let a : IsAllowedAim w s i n = aim_allowed w s i n also in
+      let a : IsAllowedAim w s.releaser i n = aim_allowed w s.releaser i n also in
       elim (cases_lt n slot) [
         | inl less ↦ elim (free.least n less) [
           | inl claimed ↦

@@ -1,9 +1,12 @@
 pub mod Computing
 pub mod Allowed
 pub mod Aims
+pub mod Keeping
+pub mod Searches
 pub mod Counted
 pub mod Frames
 pub mod TaskKept
+pub mod PartKept
 pub mod StateKept
 pub mod StartShape
 pub mod AddedTimes
@@ -30,3 +33,4 @@ pub mod StoredWords
 pub mod SparedClaims
 pub mod FreeAims
 pub mod TakenWords
+pub mod Parties

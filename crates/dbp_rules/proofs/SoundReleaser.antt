@@ -203,7 +203,7 @@ module _ (p : Plan) (w : Wiring) (rows : ℕ → ℕ → List ℤ) (s : State) (
       let below : i < length w.tasks = there i named in
       let inside : i < length s.tasks = rw sound.shape.tasks below in
       let within : i < length s.releaser.tasks = rw sound.shape.entries below in
-      let a : IsAllowedAim w s i slot = aim_allowed w s i slot free in
+      let a : IsAllowedAim w s.releaser i slot = aim_allowed w s.releaser i slot free in
       let here : slice_get w.releases s.releaser.place ≡ Some (release.Aim i) = a.here in
       let e : TaskEntry = move.aimed (task_entry s i) slot in
       let t : TaskState = record (task s i) { words = move.aimed_words (task s i).words (move.aimed (task_entry s i) slot) } in

@@ -98,4 +98,4 @@ aims_apart w s i slot free all k fits out stands same =
     let counted : is_counted w k ≡ true = all_counted w.count (wired w (link w k).writer).rank (wired w (link w k).reader).rank all in
     let known : (task_entry s (link w k).reader).known < (link_entry s k).instance = rw counted at stands in
     let is : rule.claims_slot w s i slot k ≡ true = rw (eq-eqb (link w k).writer i out, counted, lt-ltb (task_entry s (link w k).reader).known (link_entry s k).instance known, eq-eqb (link_entry s k).slot slot same) refl in
-    absurd (cc (is, (aim_allowed w s i slot free).unclaimed k fits))
+    absurd (cc (is, (aim_allowed w s.releaser i slot free).unclaimed k fits))

@@ -30,6 +30,7 @@ use Rattle.dbp_rules.proofs.Aims.{IsAllowedAim, aim_allowed}
 use Rattle.dbp_rules.proofs.Allowed.{at_claim, at_next, at_open, next_none, or_else_none, place_of}
 use Rattle.dbp_rules.proofs.Counted.{aims_claim, aims_open, aims_other, aims_same}
 use Rattle.dbp_rules.proofs.Frames.{aim_changes, claim_changes, entry_changes, further_on, task_changes}
+use Rattle.dbp_rules.proofs.Keeping.{claimed_fits, kept_on}
 use Rattle.dbp_rules.proofs.TaskKept.{WorkFits, computed_fits, end_kept, goes_on, goes_to_put, goes_to_read, hear_kept, stamped_fit, start_kept, word_fits}
 
 -- a place that the task has, told otherwise
@@ -48,14 +49,9 @@ module _ (p : Plan) (w : Wiring) (s : State) (shape : IsShape p w s) where
       let e : EntryShape (wired w i) (task_entry s i) = shape.each_entry i below in
       entry_changes p w s i (move.seen (task_entry s i) (task s i).words.ended) shape below refl (record { current = e.current; kept = e.kept; kept_slots = e.kept_slots })
 
-  -- the kept slots after an aim
-  kept_on : (slots kept current j : ℕ) (ks : List ℕ) → length ks ≡ kept → current < slots → ((m : ℕ) → m < kept → get_or ks m 0 < slots) → j < kept → get_or (take (length ks) (current ∷ ks)) j 0 < slots
-  kept_on slots kept current zero ks size first each below = rw (get_or-take (length ks) (current ∷ ks) 0 0 (omega arith)) first
-  kept_on slots kept current (suc j) ks size first each below = rw (get_or-take (length ks) (current ∷ ks) (suc j) 0 (omega arith)) (each j (omega arith))
-
   aim_kept : (i slot : ℕ) → i < length w.tasks → rule.refusal w s (Aim i slot) ≡ None → IsShape p w (rule.next p w s (Aim i slot))
   aim_kept i slot below free =
-      let a : IsAllowedAim w s i slot = aim_allowed w s i slot free in
+      let a : IsAllowedAim w s.releaser i slot = aim_allowed w s.releaser i slot free in
       let here : slice_get w.releases s.releaser.place ≡ Some (release.Aim i) = a.here in
       let fits : slot < (wired w i).slots = a.below in
       let e : EntryShape (wired w i) (task_entry s i) = shape.each_entry i below in
@@ -82,11 +78,6 @@ module _ (p : Plan) (w : Wiring) (s : State) (shape : IsShape p w s) where
         later = ok.later;
         row = ok.row;
       })
-
-  -- the slot of a claim is one of the writer's
-  claimed_fits : (slots kept delay : ℕ) (e : TaskEntry) → e.current < slots → ((m : ℕ) → m < kept → get_or e.kept m 0 < slots) → delay ≤ kept → move.claimed_slot delay e.current e.kept < slots
-  claimed_fits slots kept zero e current each few = current
-  claimed_fits slots kept (suc d) e current each few = each d (omega arith)
 
   claim_kept : (k : ℕ) → k < length w.links → rule.refusal w s (Claim k) ≡ None → IsShape p w (rule.next p w s (Claim k))
   claim_kept k below free =
@@ -134,7 +125,7 @@ module _ (p : Plan) (w : Wiring) (s : State) (shape : IsShape p w s) where
       ]
 
   -- what is ordered at a place of the hears fits
-  word_ordered : (i n : ℕ) → i < length w.tasks → n ≤ length (wired w i).links → OrderFits (wired w (slot_owner w i n)) (rule.order_word w s i n)
+  pub word_ordered : (i n : ℕ) → i < length w.tasks → n ≤ length (wired w i).links → OrderFits (wired w (slot_owner w i n)) (rule.order_word w s i n)
   word_ordered i zero below few = (shape.each_task i below).aim
   word_ordered i (suc n) below few = (shape.each_link (link_in (wired w i) n) ((shape.wiring.each_task i below).into n (omega arith))).order
 

@@ -67,6 +67,16 @@ word_fits t w n port word fit below =
       ],
     )
 
+-- the heard orders are in range with one more
+pub orders_more : (w : Wiring) (i n : ℕ) (items : List Order) (o : Order) → length items ≡ n → ((m : ℕ) → m < length items → OrderFits (wired w (slot_owner w i m)) (get_or items m no_order)) → OrderFits (wired w (slot_owner w i n)) o
+    → (m : ℕ) → m < length (items ++ o ∷ []) → OrderFits (wired w (slot_owner w i m)) (get_or (items ++ o ∷ []) m no_order)
+orders_more w i n items o size each fits m below = elim (cases_lt m n) [
+  | inl before ↦ rw (get_or_append_left items (o ∷ []) no_order m (omega (arith, size))) (each m (omega (arith, size)))
+  | inr last_ ↦
+      let same : m ≡ n = omega (arith, size, length-append items (o ∷ [])) in
+      rw same (subst (λ (k : ℕ). OrderFits (wired w (slot_owner w i n)) (get_or (items ++ o ∷ []) k no_order)) size (rw (get_or-append_seam items o [] no_order) fits))
+]
+
 module _ (w : Wiring) (d : Task) (i last : ℕ) (s : TaskState) (ok : TaskShape w d i last s) where
   -- the task goes on within its instance, with the same orders, words that fit and work that fits
   pub goes_on : (q : Place) (words : TaskWords) (work : WorkWords) → running s.part.place ≡ 1 → heard_by (1 + length (wired w i).links) s.part.place ≡ 1 + length (wired w i).links → GoesOn (wired w i) (1 + length (wired w i).links) q
@@ -113,12 +123,7 @@ module _ (w : Wiring) (d : Task) (i last : ℕ) (s : TaskState) (ok : TaskShape 
         slots = ok.slots;
         place = goes.inside;
         heard = length-append s.part.heard.items (o ∷ []) ∙ omega (arith, size, goes.heard);
-        each_heard = λ m below. elim (cases_lt m n) [
-          | inl before ↦ rw (get_or_append_left s.part.heard.items (o ∷ []) no_order m (omega (arith, size))) (ok.each_heard m (omega (arith, size)))
-          | inr last_ ↦
-              let same : m ≡ n = omega (arith, size, length-append s.part.heard.items (o ∷ [])) in
-              rw same (subst (λ (k : ℕ). OrderFits (wired w (slot_owner w i n)) (get_or (s.part.heard.items ++ o ∷ []) k no_order)) size (rw (get_or-append_seam s.part.heard.items o [] no_order) fits))
-        ];
+        each_heard = orders_more w i n s.part.heard.items o size ok.each_heard fits;
         now = ok.now;
         later = ok.later;
         row = ok.row;

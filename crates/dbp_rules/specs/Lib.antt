@@ -1,5 +1,7 @@
 pub mod Moves
 pub mod Places
+pub mod StepKinds
+pub mod PartyRules
 pub mod Rules
 pub mod Shapes
 pub mod Start
@@ -10,4 +12,5 @@ pub mod Sound
 pub mod Lawful
 pub mod TenParts
 pub mod SharedWords
+pub mod PartyShapes
 pub mod Promises

@@ -1,6 +1,5 @@
 -- What an allowed step promises its task and all others.
-use Rattle.std.specs.Prelude.{◌≡◌, ◌≢◌, ℕ, ℤ, ◌+◌, ◌<◌, ◌≤◌, ◌⊎◌, ◌==◌, ◌&&◌, nat_lt, Bool, List, filter, length, map, slice_get, Option, Some, None}
-use Rattle.std.specs.List.{range_with_len}
+use Rattle.std.specs.Prelude.{◌≡◌, ◌≢◌, ℕ, ℤ, ◌+◌, ◌<◌, ◌≤◌, ◌⊎◌, Bool, List, length, slice_get, Option, Some, None}
 use Rattle.dbp_plan.specs.declared.diagram.Read.{Read}
 use Rattle.dbp_plan.specs.declared.plan.Plan.{Plan}
 use Rattle.dbp_plan.specs.declared.table.Table.{Table}
@@ -9,7 +8,8 @@ use Rattle.dbp_plan.specs.Lookups.{declared}
 use Rattle.dbp_slots.specs.FreeSlot.{IsLeastFree}
 use Rattle.sync_meaning.specs.Meaning.{IsRead}
 use Rattle.dbp_rules.specs.Moves.{own_slot}
-use Rattle.dbp_rules.specs.Places.{is_counted, link, link_entry, slot_at, task, task_entry, wired}
+use Rattle.dbp_rules.specs.PartyRules.{claimed_in, has_claim_in}
+use Rattle.dbp_rules.specs.Places.{link, link_entry, slot_at, task, task_entry, wired}
 use Rattle.dbp_rules.specs.Rules.{hears, next, refusal, staying}
 use Rattle.dbp_rules.specs.TenParts.{IsStanding, slot_of_claim}
 use Rattle.dbp_rules.specs.declared.state.State.{State}
@@ -58,13 +58,12 @@ SparesClaims p w s e = (k : ℕ) → k < length w.links → (task s (link w k).r
 
 -- ---- free slots
 
--- a counted link from the task has a claim whose instance isn't known to have ended
+-- a counted link from the task has a claim whose instance isn't known to have ended, and the slots that such claims name
 abbrev pub has_claim : Wiring → State → ℕ → ℕ → Bool
-has_claim w s i k = ((link w k).writer == i) && (is_counted w k && nat_lt (task_entry s (link w k).reader).known (link_entry s k).instance)
+has_claim w s i k = has_claim_in w s.releaser i k
 
--- the slots that such claims name
 abbrev pub claimed_of : Wiring → State → ℕ → List ℕ
-claimed_of w s i = map (λ k. (link_entry s k).slot) (filter (has_claim w s i) (range_with_len 0 (length w.links)))
+claimed_of w s i = claimed_in w s.releaser i
 
 -- the claimed slots and those that stay kept are fewer than the task's slots
 abbrev pub HasFreeSlot : Wiring → State → ℕ → Type 0

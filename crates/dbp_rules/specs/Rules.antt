@@ -1,25 +1,22 @@
--- The steps of the protocol: for each the first broken condition, or what it hears and the next state.
-use Rattle.std.specs.Prelude.{◌≡◌, ℕ, zero, suc, ℤ, pos, ◌+◌, ◌<◌, Bool, true, false, List, ◌∷◌, length, map, take, slice_index_or, slice_get, slice_set, ◌==◌, nat_lt, nat_le, ◌&&◌, not, if◌then◌else◌, Option, Some, None, Result, Ok, Err}
-use Rattle.std.specs.List.{list_any}
-use Rattle.std.specs.Option.{option_or}
+-- The steps of the protocol: for each the first broken condition, or what it hears and the next state. A step's refusal, and
+-- what it makes of its party's part, are said by that part; a task's step is also tried against the tasks ranked above.
+use Rattle.std.specs.Prelude.{◌≡◌, ℕ, zero, suc, ℤ, pos, ◌+◌, ◌<◌, Bool, List, length, map, slice_index_or, slice_set, nat_lt, nat_le, ◌&&◌, if◌then◌else◌, Option, Some, None, Result, Ok, Err}
 use Rattle.dbp_plan.specs.declared.diagram.Diagram.{Diagram}
 use Rattle.dbp_plan.specs.declared.plan.Plan.{Plan}
 use Rattle.dbp_plan.specs.Samples.{input_value}
 use Rattle.dbp_plan.specs.Lookups.{declared}
-use Rattle.release_list.specs.declared.release.Release.{Release}
-use Rattle.release_list.specs.declared.release.Release.TheVariants as release
 use Rattle.dbp_rules.specs.Moves as move
-use Rattle.dbp_rules.specs.Places.{task, task_entry, link_entry, order, slot_at, wired, link, read_at, time, is_counted}
+use Rattle.dbp_rules.specs.PartyRules.{Loaded, a_number, a_value, an_order, next_claim, no_word, is_opened_by, is_stamp_of, read_order_in, releaser_after, releaser_next, releaser_refusal, task_after, task_next, task_refusal, with_entry_in, with_claim_in, one_further}
+pub use Rattle.dbp_rules.specs.PartyRules.{claims_slot_in, hears_at, is_next, least, none_of, or_else, place_kind, release_kind, staying, stays_kept, turn_at, unless}
+use Rattle.dbp_rules.specs.Places.{task, task_entry, order, slot_at, wired, link, read_at, time}
 use Rattle.dbp_rules.specs.declared.parts.LinkEntry.{LinkEntry}
 use Rattle.dbp_rules.specs.declared.parts.Order.{Order}
-use Rattle.dbp_rules.specs.declared.parts.Place.{Place}
-use Rattle.dbp_rules.specs.declared.parts.Place.TheVariants as place
+use Rattle.dbp_rules.specs.declared.parts.ReleaserPart.{ReleaserPart}
 use Rattle.dbp_rules.specs.declared.parts.TaskEntry.{TaskEntry}
 use Rattle.dbp_rules.specs.declared.parts.TaskPart.{TaskPart}
 use Rattle.dbp_rules.specs.declared.state.Slot.{Slot}
 use Rattle.dbp_rules.specs.declared.state.State.{State}
 use Rattle.dbp_rules.specs.declared.state.TaskState.{TaskState}
-use Rattle.dbp_rules.specs.declared.step.Broken.{Broken}
 use Rattle.dbp_rules.specs.declared.step.Broken.TheVariants as broken
 use Rattle.dbp_rules.specs.declared.step.Count.{Count}
 use Rattle.dbp_rules.specs.declared.step.Count.TheVariants as count
@@ -28,7 +25,6 @@ use Rattle.dbp_rules.specs.declared.step.Heard.TheVariants as heard
 use Rattle.dbp_rules.specs.declared.step.Illegal.{Illegal}
 use Rattle.dbp_rules.specs.declared.step.Step.{Step}
 use Rattle.dbp_rules.specs.declared.step.Step.TheVariants.{Seen, Aim, Claim, OpenGate, Start, Hear, Look, Take, Shut, Put, Done, End}
-use Rattle.dbp_rules.specs.declared.wiring.TaskWiring.{TaskWiring}
 use Rattle.dbp_rules.specs.declared.wiring.Wiring.{Wiring}
 
 -- ---- states with one record changed
@@ -36,79 +32,31 @@ use Rattle.dbp_rules.specs.declared.wiring.Wiring.{Wiring}
 abbrev pub with_task : State → ℕ → TaskState → State
 with_task s i t = record s { tasks = slice_set s.tasks i t }
 
+abbrev pub with_releaser : State → ReleaserPart → State
+with_releaser s r = record s { releaser = r }
+
 abbrev pub with_entry : State → ℕ → TaskEntry → State
-with_entry s i t = record s { releaser = record s.releaser { tasks = slice_set s.releaser.tasks i t } }
+with_entry s i t = with_releaser s (with_entry_in s.releaser i t)
 
 -- the releaser goes on to its next action
 abbrev pub further : State → State
-further s = record s { releaser = record s.releaser { place = s.releaser.place + 1 } }
+further s = with_releaser s (one_further s.releaser)
 
 abbrev pub with_claim : State → ℕ → LinkEntry → State
-with_claim s k c = record { releaser = record s.releaser { links = slice_set s.releaser.links k c }; tasks = s.tasks; orders = slice_set s.orders k (move.ordered c) }
+with_claim s k c = record { releaser = with_claim_in s.releaser k c; tasks = s.tasks; orders = slice_set s.orders k (move.ordered c) }
 
--- ---- conditions, each with the two values that it compares
+-- ---- conditions
 
--- the first of two broken conditions
-abbrev pub or_else : Option Illegal → Option Illegal → Option Illegal
-or_else (Some x) y = Some x
-or_else None y = y
-
--- broken where the test fails, with these values
-abbrev pub unless : Bool → Broken → ℕ → ℕ → Option Illegal
-unless true b l r = None
-unless false b l r = Some (record { broken = b; left = l; right = r })
-
--- broken where there is such a value, which is the left one
-abbrev pub none_of : Option ℕ → Broken → ℕ → Option Illegal
-none_of None b r = None
-none_of (Some l) b r = Some (record { broken = b; left = l; right = r })
-
--- steps have numbers by their kinds, from `Seen` with 1 to `End` with 12
-
--- the kind of the releaser's next step and its task or link; 0 behind the last
-abbrev pub release_kind : Option Release → ℕ × ℕ
-release_kind None = (0, 0)
-release_kind (Some (release.Aim i)) = (2, i)
-release_kind (Some (release.Claim k)) = (3, k)
-release_kind (Some (release.OpenGate i)) = (4, i)
-
--- the kind of a task's next step and its read or port
-abbrev pub place_kind : TaskWiring → Place → ℕ × ℕ
-place_kind t place.Idle = (5, 0)
-place_kind t (place.Hear n) = (6, 0)
-place_kind t (place.Look n) = (7, (read_at t n).read)
-place_kind t (place.Take n) = (8, (read_at t n).read)
-place_kind t place.Shut = (9, 0)
-place_kind t (place.Put p) = (10, p)
-place_kind t place.Done = (11, 0)
-place_kind t place.End = (12, 0)
-
--- the step of this kind with this operand is the next one; where the kind is right the right value is 13
-abbrev pub is_next : Broken → ℕ × ℕ → ℕ → ℕ → Option Illegal
-is_next b next kind operand = if next.0 == kind then unless (next.1 == operand) b next.0 13 else unless false b next.0 kind
-
--- of the releaser, and of a task
+-- the step of this kind with this subject is the next one of the releaser, and of a task
 abbrev pub releases_next : Wiring → State → ℕ → ℕ → Option Illegal
-releases_next w s kind operand = is_next broken.Place (release_kind (slice_get w.releases s.releaser.place)) kind operand
+releases_next w s kind subject = releaser_next w s.releaser kind subject
 
 abbrev pub steps_next : Wiring → State → ℕ → ℕ → ℕ → Option Illegal
-steps_next w s i kind operand = is_next broken.TaskPlace (place_kind (wired w i) (task s i).part.place) kind operand
-
--- the slots that are kept behind an aim of the task: what was current, and the kept ones but the last
-abbrev pub staying : TaskEntry → List ℕ
-staying t = take (length t.kept) (t.current ∷ t.kept)
-
-abbrev pub stays_kept : TaskEntry → ℕ → Bool
-stays_kept t slot = list_any (λ k. k == slot) (staying t)
+steps_next w s i kind subject = task_next (wired w i) (task s i).part kind subject
 
 -- a counted link from the task claims the slot for an instance that isn't known to have ended
 abbrev pub claims_slot : Wiring → State → ℕ → ℕ → ℕ → Bool
-claims_slot w s i slot k = ((link w k).writer == i) && (is_counted w k && (nat_lt (task_entry s (link w k).reader).known (link_entry s k).instance && ((link_entry s k).slot == slot)))
-
--- the least number below n that passes
-abbrev pub least : (ℕ → Bool) → ℕ → Option ℕ
-least f zero = None
-least f (suc n) = option_or (least f n) (if f n then Some n else None)
+claims_slot w s i slot k = claims_slot_in w s.releaser i slot k
 
 -- the time of the task's first instance that hasn't ended; 0 where all have
 abbrev pub own_time : Wiring → State → ℕ → ℕ
@@ -137,27 +85,16 @@ unblocked count.Ranked w s i = none_of (highest w (blocks w s i) (length w.tasks
 
 -- the gate is open for the task's next instance
 abbrev pub is_open : State → ℕ → Bool
-is_open s i = (task s i).words.gate == (task s i).part.ended + 1
+is_open s i = is_opened_by (task s i).part (task s i).words.gate
 
 -- the order at the place: the task's own, then that of each link into it
 abbrev pub order_word : Wiring → State → ℕ → ℕ → Order
 order_word w s i zero = (task s i).words.aim
 order_word w s i (suc n) = order s (slice_index_or (wired w i).links n 0)
 
--- the number of the hear at this place
-abbrev pub hears_at : Place → ℕ
-hears_at (place.Hear n) = n
-hears_at _ = 0
-
--- the turn of the look or the take at this place
-abbrev pub turn_at : Place → ℕ
-turn_at (place.Look n) = n
-turn_at (place.Take n) = n
-turn_at _ = 0
-
 -- the order that the task heard for the read of this turn
 abbrev pub read_order : Wiring → State → ℕ → ℕ → Order
-read_order w s i n = move.heard_order (task s i).part (read_at (wired w i) n).order
+read_order w s i n = read_order_in (wired w i) (task s i).part n
 
 -- the slot that it names
 abbrev pub read_slot : Wiring → State → ℕ → ℕ → Slot
@@ -165,11 +102,20 @@ read_slot w s i n = slot_at (task s (read_at (wired w i) n).writer).words.slots 
 
 -- the slot holds the row that was ordered
 abbrev pub is_ready : Wiring → State → ℕ → ℕ → Bool
-is_ready w s i n = (read_slot w s i n).stamp == (read_order w s i n).number + 1
+is_ready w s i n = is_stamp_of (read_order w s i n) (read_slot w s i n).stamp
 
 -- the word of the read's port in it
 abbrev pub read_word : Wiring → State → ℕ → ℕ → ℤ
 read_word w s i n = slice_index_or (read_slot w s i n).words (read_at (wired w i) n).port (pos 0)
+
+-- what stands in the word that the step loads
+abbrev pub loaded_value : Wiring → State → Step → Loaded
+loaded_value w s (Seen i) = a_number (task s i).words.ended
+loaded_value w s (Start i) = a_number (task s i).words.gate
+loaded_value w s (Hear i) = an_order (order_word w s i (hears_at (task s i).part.place))
+loaded_value w s (Look i r) = a_number (read_slot w s i (turn_at (task s i).part.place)).stamp
+loaded_value w s (Take i r) = a_value (read_word w s i (turn_at (task s i).part.place))
+loaded_value w s _ = no_word
 
 -- the values of the task's senses at the release of its running instance
 abbrev pub sensed : Plan → Wiring → State → ℕ → List ℤ
@@ -177,25 +123,24 @@ sensed p w s i = map (λ x. input_value p.diagram.inputs p.samples x.input (own_
 
 -- ---- the steps
 
+-- why the task's own part, or else a task ranked above it, forbids the step
+abbrev pub forbidden : Wiring → State → ℕ → Step → Option Illegal
+forbidden w s i e = or_else (task_refusal (wired w i) (task s i).part e) (unblocked w.count w s i)
+
 -- the first broken condition
 abbrev pub refusal : Wiring → State → Step → Option Illegal
-refusal w s (Seen i) = None
-refusal w s (Aim i slot) =
-    or_else (releases_next w s 2 i)
-    (or_else (unless ((task_entry s i).aimed == (task_entry s i).known) broken.LastNotEnded (task_entry s i).aimed (task_entry s i).known)
-    (or_else (unless (nat_lt slot (wired w i).slots) broken.SlotRange (wired w i).slots slot)
-    (or_else (unless (not (stays_kept (task_entry s i) slot)) broken.SlotKept slot slot)
-    (none_of (least (claims_slot w s i slot) (length w.links)) broken.SlotClaimed slot))))
-refusal w s (Claim k) = releases_next w s 3 k
-refusal w s (OpenGate i) = releases_next w s 4 i
-refusal w s (Start i) = or_else (steps_next w s i 5 0) (if is_open s i then unblocked w.count w s i else None)
-refusal w s (Hear i) = or_else (steps_next w s i 6 0) (unblocked w.count w s i)
-refusal w s (Look i r) = or_else (steps_next w s i 7 r) (unblocked w.count w s i)
-refusal w s (Take i r) = or_else (steps_next w s i 8 r) (unblocked w.count w s i)
-refusal w s (Shut i) = or_else (steps_next w s i 9 0) (unblocked w.count w s i)
-refusal w s (Put i p) = or_else (steps_next w s i 10 p) (unblocked w.count w s i)
-refusal w s (Done i) = or_else (steps_next w s i 11 0) (unblocked w.count w s i)
-refusal w s (End i) = or_else (steps_next w s i 12 0) (unblocked w.count w s i)
+refusal w s (Seen i) = releaser_refusal w s.releaser (Seen i)
+refusal w s (Aim i slot) = releaser_refusal w s.releaser (Aim i slot)
+refusal w s (Claim k) = releaser_refusal w s.releaser (Claim k)
+refusal w s (OpenGate i) = releaser_refusal w s.releaser (OpenGate i)
+refusal w s (Start i) = or_else (task_refusal (wired w i) (task s i).part (Start i)) (if is_open s i then unblocked w.count w s i else None)
+refusal w s (Hear i) = forbidden w s i (Hear i)
+refusal w s (Look i r) = forbidden w s i (Look i r)
+refusal w s (Take i r) = forbidden w s i (Take i r)
+refusal w s (Shut i) = forbidden w s i (Shut i)
+refusal w s (Put i p) = forbidden w s i (Put i p)
+refusal w s (Done i) = forbidden w s i (Done i)
+refusal w s (End i) = forbidden w s i (End i)
 
 -- what an allowed step hears
 abbrev pub hears : Wiring → State → Step → Heard
@@ -210,38 +155,45 @@ hears w s _ = heard.Stored
 abbrev pub with_part : State → ℕ → TaskPart → State
 with_part s i t = with_task s i (record (task s i) { part = t })
 
--- the state behind an allowed step
+-- the releaser's part, and that of a task, after an allowed step
+abbrev pub next_releaser : Wiring → State → Step → ReleaserPart
+next_releaser w s e = releaser_after w s.releaser e (loaded_value w s e)
+
+abbrev pub next_part : Wiring → State → ℕ → Step → TaskPart
+next_part w s i e = task_after (wired w i) (task s i).part e (loaded_value w s e)
+
+-- the state after an allowed step
 abbrev pub next : Plan → Wiring → State → Step → State
-next p w s (Seen i) = with_entry s i (move.seen (task_entry s i) (task s i).words.ended)
-next p w s (Aim i slot) =
-    let t = move.aimed (task_entry s i) slot in
-    further (with_task (with_entry s i t) i (record (task s i) { words = move.aimed_words (task s i).words t }))
-next p w s (Claim k) = further (with_claim s k (move.claimed (link w k).delay (task_entry s (link w k).writer) (task_entry s (link w k).reader)))
-next p w s (OpenGate i) = further (with_task s i (record (task s i) { words = move.opened (task s i).words (task_entry s i).aimed }))
-next p w s (Start i) = with_part s i (move.started (task s i).part (is_open s i))
-next p w s (Hear i) = let n = hears_at (task s i).part.place in with_part s i (move.heard (wired w i) (task s i).part n (order_word w s i n))
-next p w s (Look i r) = let n = turn_at (task s i).part.place in with_part s i (move.looked (task s i).part n (is_ready w s i n))
-next p w s (Take i r) =
-    let n = turn_at (task s i).part.place in
-    with_task s i (record { words = (task s i).words; part = move.took (wired w i) (task s i).part n; work = move.with_read (declared p i) (task s i).work r (read_word w s i n) })
+next p w s (Seen i) = with_releaser s (next_releaser w s (Seen i))
+next p w s (Aim i slot) = with_task (with_releaser s (next_releaser w s (Aim i slot))) i (record (task s i) { words = move.aimed_words (task s i).words (move.aimed (task_entry s i) slot) })
+next p w s (Claim k) = record { releaser = next_releaser w s (Claim k); tasks = s.tasks; orders = slice_set s.orders k (move.ordered (next_claim w s.releaser k)) }
+next p w s (OpenGate i) = with_task (with_releaser s (next_releaser w s (OpenGate i))) i (record (task s i) { words = move.opened (task s i).words (task_entry s i).aimed })
+next p w s (Start i) = with_part s i (next_part w s i (Start i))
+next p w s (Hear i) = with_part s i (next_part w s i (Hear i))
+next p w s (Look i r) = with_part s i (next_part w s i (Look i r))
+next p w s (Take i r) = with_task s i (record {
+  words = (task s i).words;
+  part = next_part w s i (Take i r);
+  work = move.with_read (declared p i) (task s i).work r (read_word w s i (turn_at (task s i).part.place));
+})
 next p w s (Shut i) = with_task s i (record {
   words = move.stamped (task s i).words (move.own_slot (task s i).part) 0;
-  part = move.at_place (task s i).part (place.Put 0);
+  part = next_part w s i (Shut i);
   work = move.worked (declared p i) (sensed p w s i) (task s i).work;
 })
 next p w s (Put i port) = with_task s i (record {
   words = move.with_word (task s i).words (move.own_slot (task s i).part) port (slice_index_or (task s i).work.row port (pos 0));
-  part = move.at_place (task s i).part (move.put_place (wired w i).ports (port + 1));
+  part = next_part w s i (Put i port);
   work = (task s i).work;
 })
 next p w s (Done i) = with_task s i (record {
   words = move.stamped (task s i).words (move.own_slot (task s i).part) ((task s i).part.ended + 2);
-  part = move.at_place (task s i).part place.End;
+  part = next_part w s i (Done i);
   work = (task s i).work;
 })
 next p w s (End i) = with_task s i (record {
   words = move.with_ended (task s i).words ((task s i).part.ended + 1);
-  part = move.ended (task s i).part;
+  part = next_part w s i (End i);
   work = move.advanced (task s i).work;
 })
 
@@ -254,17 +206,21 @@ IsAnswer (Some why) p w s e result new = (result ≡ Err why) × (new ≡ s)
 abbrev pub IsStep : Plan → Wiring → State → Step → Result Heard Illegal → State → Type 0
 IsStep p w s e result new = IsAnswer (refusal w s e) p w s e result new
 
--- the task or the link that a step names is there
+-- of so many tasks and links, the one that a step names is there
+abbrev pub IsNamedWithin : ℕ → ℕ → Step → Type 0
+IsNamedWithin tasks links (Seen i) = i < tasks
+IsNamedWithin tasks links (Aim i slot) = i < tasks
+IsNamedWithin tasks links (Claim k) = k < links
+IsNamedWithin tasks links (OpenGate i) = i < tasks
+IsNamedWithin tasks links (Start i) = i < tasks
+IsNamedWithin tasks links (Hear i) = i < tasks
+IsNamedWithin tasks links (Look i r) = i < tasks
+IsNamedWithin tasks links (Take i r) = i < tasks
+IsNamedWithin tasks links (Shut i) = i < tasks
+IsNamedWithin tasks links (Put i p) = i < tasks
+IsNamedWithin tasks links (Done i) = i < tasks
+IsNamedWithin tasks links (End i) = i < tasks
+
+-- the task or the link that a step names is one of the diagram's
 abbrev pub IsNamed : Diagram → Step → Type 0
-IsNamed d (Seen i) = i < length d.tasks
-IsNamed d (Aim i slot) = i < length d.tasks
-IsNamed d (Claim k) = k < length d.links
-IsNamed d (OpenGate i) = i < length d.tasks
-IsNamed d (Start i) = i < length d.tasks
-IsNamed d (Hear i) = i < length d.tasks
-IsNamed d (Look i r) = i < length d.tasks
-IsNamed d (Take i r) = i < length d.tasks
-IsNamed d (Shut i) = i < length d.tasks
-IsNamed d (Put i p) = i < length d.tasks
-IsNamed d (Done i) = i < length d.tasks
-IsNamed d (End i) = i < length d.tasks
+IsNamed d e = IsNamedWithin (length d.tasks) (length d.links) e

@@ -2,21 +2,31 @@
 //! hears and makes of it, and what holds of every state that steps lead to.
 #![tactic(auto)]
 
+mod kind;
 mod laws;
+mod next_steps;
 mod parts;
+mod party_laws;
+mod releaser_steps;
 mod soundness;
 mod start;
 mod state;
 mod step;
+mod task_steps;
 mod wire;
 mod wiring;
 mod work;
 
+pub use kind::StepKind;
 pub use laws::{
     a_delayed_look_is_ready, a_ranked_look_is_ready, a_step_changes_no_claimed_row,
     a_take_hears_the_meaning, allowed_steps_lead_to_sound_states, an_aim_names_no_claimed_slot,
 };
 pub use parts::{LinkEntry, MAX_ORDERS, Order, Place, ReleaserPart, TaskEntry, TaskPart};
+pub use party_laws::{
+    a_party_keeps_its_part, a_step_is_refused_by_its_party, a_step_moves_its_party,
+    sound_parts_are_in_shape,
+};
 pub use soundness::{
     a_slot_is_free_for_each_aim, a_sound_delayed_look_is_ready, a_sound_ranked_look_is_ready,
     a_sound_take_hears_the_meaning, a_step_keeps_a_state_sound, a_step_spares_claimed_rows,

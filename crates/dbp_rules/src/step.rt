@@ -13,7 +13,7 @@ pub enum Count {
 }
 
 /// One step of the releaser or of a task. Each but `Seen`, a `Start` that finds the gate closed and a `Look` that finds
-/// another row moves its party to its next place. Kinds have the numbers 1 to 12, in this order.
+/// another row moves its party to its next place.
 #[derive(Clone, Copy, Debug, PartialEq, Eq)]
 pub enum Step {
     /// The releaser loads how many instances of the task have ended.

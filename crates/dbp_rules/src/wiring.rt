@@ -1,5 +1,8 @@
 // What the steps look up in a plan, made once.
 
+ghost use Rattle.std.specs.Prelude.{◌≡◌, ◌<◌, length};
+ghost use Rattle.dbp_rules.specs.Places.{wired};
+
 use crate::step::Count;
 use dbp_plan::{Link, List, Sample};
 use release_list::Release;
@@ -60,4 +63,14 @@ pub struct Wiring {
     pub releases: List<Release>,
     /// The samples of each input.
     pub samples: List<List<Sample>>,
+}
+
+impl Wiring {
+    /// What the steps look up of the task.
+    pub fn task(&self, task: u32) -> &TaskWiring
+        requires { task < length self.now.tasks }
+        ensures { result.now ≡ wired self.now task }
+    {
+        &self.tasks.items()[task as usize]
+    }
 }

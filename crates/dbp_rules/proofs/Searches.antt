@@ -6,7 +6,7 @@ use Rattle.std.proofs.lemmas.Bool.{cases_Bool}
 use Rattle.std.proofs.lemmas.List.{map-id}
 use Rattle.std.proofs.lemmas.List.Folds.{find-append}
 use Rattle.std.proofs.lemmas.List.FromFn.{map-range_with_len_more}
-use Rattle.dbp_rules.specs.Rules.{least}
+use Rattle.dbp_rules.specs.PartyRules.{least}
 
 -- a search that has gone past the first items
 pub find_at : (f : ℕ → Bool) (xs : List ℕ) (n : ℕ) → n < length xs → find f (take n xs) ≡ None → f (get_or xs n 0) ≡ true → find f xs ≡ Some (get_or xs n 0)

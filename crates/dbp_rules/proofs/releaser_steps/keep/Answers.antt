@@ -1,6 +1,6 @@
 use Rattle.std.proofs.Common.{rules, ◌<◌, length}
-use Rattle.dbp_core.proofs.Keeping.{kept_slots}
-use Rattle.dbp_core.proofs.releaser.keep.Goals as goal
+use Rattle.dbp_rules.proofs.Keeping.{kept_slots}
+use Rattle.dbp_rules.proofs.releaser_steps.keep.Goals as goal
 
 pub returns-then-not-is_empty : goal.returns-then-not-is_empty
 returns-then-not-is_empty c =

@@ -1,0 +1,49 @@
+// What the releaser's part and a task's part say of a step without the rest of the state, and what each keeps by itself.
+
+ghost use Rattle.std.specs.Prelude.{◌≡◌, ◌<◌, ℕ, ℤ, List as Items, Some, None, length};
+ghost use Rattle.dbp_plan.specs.declared.plan.Plan.{Plan};
+ghost use Rattle.dbp_rules.specs.PartyRules.{Loaded, releaser_after, releaser_refusal, task_after, task_refusal};
+ghost use Rattle.dbp_rules.specs.PartyShapes.{IsNamedIn, ReleaserLoads, ReleaserShape, TaskLoads, TaskPartShape};
+ghost use Rattle.dbp_rules.specs.Places.{task, wired};
+ghost use Rattle.dbp_rules.specs.Rules.{IsNamed, loaded_value, next, refusal};
+ghost use Rattle.dbp_rules.specs.SharedWords.{made_by};
+ghost use Rattle.dbp_rules.specs.Sound.{Sound};
+ghost use Rattle.dbp_rules.specs.Wired.{wiring_of};
+ghost use Rattle.dbp_rules.specs.declared.parts.ReleaserPart.{ReleaserPart};
+ghost use Rattle.dbp_rules.specs.declared.parts.TaskPart.{TaskPart};
+ghost use Rattle.dbp_rules.specs.declared.state.State.{State};
+ghost use Rattle.dbp_rules.specs.declared.step.Count.{Count};
+ghost use Rattle.dbp_rules.specs.declared.step.Count.TheVariants.{All};
+ghost use Rattle.dbp_rules.specs.declared.step.Step.{Step};
+ghost use Rattle.dbp_rules.specs.declared.wiring.Wiring.{Wiring};
+
+/// Why a step isn't allowed is said by the part of the party that makes it: by the releaser's under both counts, by a
+/// task's where tasks step in any order. Where they step by their ranks, an allowed step is one that the task's part allows.
+pub fn a_step_is_refused_by_its_party()
+    ensures releaser { (w : Wiring) (s : State) (e : Step) → made_by e ≡ None → refusal w s e ≡ releaser_refusal w s.releaser e }
+    ensures task { (w : Wiring) (s : State) (e : Step) (i : ℕ) → w.count ≡ All → made_by e ≡ Some i → refusal w s e ≡ task_refusal (wired w i) (task s i).part e }
+    ensures allowed { (w : Wiring) (s : State) (e : Step) (i : ℕ) → made_by e ≡ Some i → refusal w s e ≡ None → task_refusal (wired w i) (task s i).part e ≡ None }
+{}
+
+/// What an allowed step makes of the part of its party is said by that part and what the step loads.
+pub fn a_step_moves_its_party()
+    ensures releaser { (p : Plan) (w : Wiring) (s : State) (e : Step) → made_by e ≡ None → (next p w s e).releaser ≡ releaser_after w s.releaser e (loaded_value w s e) }
+    ensures task { (p : Plan) (w : Wiring) (s : State) (e : Step) (i : ℕ) → i < length s.tasks → made_by e ≡ Some i → (task (next p w s e) i).part ≡ task_after (wired w i) (task s i).part e (loaded_value w s e) }
+{}
+
+/// A part that allows its step, and finds in the word that this loads what it may find there, keeps what it keeps by itself.
+pub fn a_party_keeps_its_part()
+    ensures releaser { (p : Plan) (count : Count) (r : ReleaserPart) (e : Step) (l : Loaded) → ReleaserShape p (wiring_of p count) r → IsNamed p.diagram e
+        → releaser_refusal (wiring_of p count) r e ≡ None → ReleaserLoads r e l → ReleaserShape p (wiring_of p count) (releaser_after (wiring_of p count) r e l) }
+    ensures task { (p : Plan) (count : Count) (i : ℕ) (t : TaskPart) (e : Step) (l : Loaded) → i < length p.diagram.tasks → TaskPartShape (wiring_of p count) i t
+        → task_refusal (wired (wiring_of p count) i) t e ≡ None → TaskLoads (wiring_of p count) i t e l → TaskPartShape (wiring_of p count) i (task_after (wired (wiring_of p count) i) t e l) }
+{}
+
+/// In a sound state each part keeps this, and an allowed step loads what its party may find.
+pub fn sound_parts_are_in_shape()
+    ensures releaser { (p : Plan) (count : Count) (rows : ℕ → ℕ → Items ℤ) (s : State) → Sound p (wiring_of p count) rows s → ReleaserShape p (wiring_of p count) s.releaser }
+    ensures task { (p : Plan) (count : Count) (rows : ℕ → ℕ → Items ℤ) (s : State) (i : ℕ) → Sound p (wiring_of p count) rows s → i < length p.diagram.tasks → TaskPartShape (wiring_of p count) i (task s i).part }
+    ensures releaser_loads { (p : Plan) (count : Count) (rows : ℕ → ℕ → Items ℤ) (s : State) (e : Step) → Sound p (wiring_of p count) rows s → IsNamed p.diagram e → ReleaserLoads s.releaser e (loaded_value (wiring_of p count) s e) }
+    ensures task_loads { (p : Plan) (count : Count) (rows : ℕ → ℕ → Items ℤ) (s : State) (e : Step) (i : ℕ) → Sound p (wiring_of p count) rows s → i < length p.diagram.tasks → made_by e ≡ Some i
+        → refusal (wiring_of p count) s e ≡ None → TaskLoads (wiring_of p count) i (task s i).part e (loaded_value (wiring_of p count) s e) }
+{}
