@@ -1,11 +1,12 @@
--- The word that a step loads is one of the table's, and what the step hears is read off the number there.
+-- The word that a step loads is one of the table's, and what it loads and hears is read off the number there.
 use Rattle.std.proofs.Common.{◌≡◌, ℕ, zero, suc, ◌+◌, ◌<◌, ◌≤◌, ◌^◌, length, Some, None, refl, sym, ◌∙◌, ap, subst, arith}
 use Rattle.std.proofs.lemmas.Option.{same_Some}
 use Rattle.dbp_plan.specs.declared.plan.Plan.{Plan}
 use Rattle.dbp_plan.specs.Lookups.{declared}
 use Rattle.dbp_slots.specs.TableWords.{IsSlot, IsWord, TableWord, ended, gate}
-use Rattle.dbp_rules.specs.LoadedWords.{heard_of, loaded_by, loaded_number, maker_part, order_of, sizes_of_wiring, stamp_of_read, word_of_order, word_of_read}
+use Rattle.dbp_rules.specs.LoadedWords.{heard_of, loaded_by, loaded_of, maker_part, number_to_load, order_of, sizes_of_wiring, stamp_of_read, word_of_order, word_of_read}
 use Rattle.dbp_rules.specs.Moves.{heard_order}
+use Rattle.dbp_rules.specs.PartyRules.{a_value, an_order}
 use Rattle.dbp_rules.specs.Places.{read_at, task, task_entry, wired}
 use Rattle.dbp_rules.specs.Rules as rule
 use Rattle.dbp_rules.specs.Shapes.{IsReadWired, IsShape, OrderFits, PlaceIn, TaskShape, heard_by, link_in, slot_owner}
@@ -15,7 +16,6 @@ use Rattle.dbp_rules.specs.declared.parts.Order.{Order}
 use Rattle.dbp_rules.specs.declared.parts.Place.{Place}
 use Rattle.dbp_rules.specs.declared.parts.Place.TheVariants as place
 use Rattle.dbp_rules.specs.declared.state.State.{State}
-use Rattle.dbp_rules.specs.declared.step.Heard.TheVariants as heard
 use Rattle.dbp_rules.specs.declared.step.Step.{Step}
 use Rattle.dbp_rules.specs.declared.step.Step.TheVariants.{Seen, Aim, Claim, OpenGate, Start, Hear, Look, Take, Shut, Put, Done, End}
 use Rattle.dbp_rules.specs.declared.wiring.Wiring.{Wiring}
@@ -99,32 +99,48 @@ module _ (p : Plan) (w : Wiring) (s : State) (shape : IsShape p w s) where
   loaded_inside (Done i) q named free is = absurd (cc (is))
   loaded_inside (End i) q named free is = absurd (cc (is))
 
+  -- what is loaded is read off the number
   module _ (few : (i : ℕ) → i < length w.tasks → (wired w i).slots < 2 ^ 32) (fit : SlotWordsFit s) where
-    hears_order : (i : ℕ) → i < length w.tasks → rule.refusal w s (Hear i) ≡ None → rule.hears w s (Hear i) ≡ heard_of w (task s i).part (Hear i) (value_in s (word_of_order w i (rule.hears_at (task s i).part.place)))
-    hears_order i below free =
+    loads_order : (i : ℕ) → i < length w.tasks → rule.refusal w s (Hear i) ≡ None → rule.loaded_value w s (Hear i) ≡ loaded_of (Hear i) (number_to_load w s (Hear i))
+    loads_order i below free =
         let n : ℕ = rule.hears_at (task s i).part.place in
         let less : n ≤ length (wired w i).links = hear_few i below free in
         let fits : OrderFits (wired w (slot_owner w i n)) (rule.order_word w s i n) = order_fits i n below less in
         let small : (rule.order_word w s i n).slot < 2 ^ 32 = omega (arith, fits.0, few (slot_owner w i n) (owner_below i n below less)) in
         let back : rule.order_word w s i n ≡ order_of (value_in s (word_of_order w i n)) = sym (order_back (rule.order_word w s i n) small) ∙ ap order_of (sym (order_there i n)) in
-        ap (λ (o : Order). heard.Order o.slot o.number) back
+        ap (λ (o : Order). an_order o) back
 
-    hears_word : (i r : ℕ) → rule.hears w s (Take i r) ≡ heard_of w (task s i).part (Take i r) (value_in s (word_of_read w (task s i).part i (rule.turn_at (task s i).part.place)))
-    hears_word i r =
+    loads_word : (i r : ℕ) → rule.loaded_value w s (Take i r) ≡ loaded_of (Take i r) (number_to_load w s (Take i r))
+    loads_word i r =
         let read = read_at (wired w i) (rule.turn_at (task s i).part.place) in
         let n : ℕ = (heard_order (task s i).part read.order).slot in
-        ap (λ x. heard.Word x) (sym (value_back (slot_word s read.writer n read.port) (fit read.writer n read.port)))
+        ap (λ x. a_value x) (sym (value_back (slot_word s read.writer n read.port) (fit read.writer n read.port)))
 
-    pub hears_number : (e : Step) → rule.IsNamed p.diagram e → rule.refusal w s e ≡ None → rule.hears w s e ≡ heard_of w (maker_part s e) e (loaded_number w s e)
-    hears_number (Seen i) named free = refl
-    hears_number (Aim i slot) named free = refl
-    hears_number (Claim k) named free = refl
-    hears_number (OpenGate i) named free = refl
-    hears_number (Start i) named free = refl
-    hears_number (Hear i) named free = hears_order i (there i named) free
-    hears_number (Look i r) named free = refl
-    hears_number (Take i r) named free = hears_word i r
-    hears_number (Shut i) named free = refl
-    hears_number (Put i port) named free = refl
-    hears_number (Done i) named free = refl
-    hears_number (End i) named free = refl
+    pub loads_number : (e : Step) → rule.IsNamed p.diagram e → rule.refusal w s e ≡ None → rule.loaded_value w s e ≡ loaded_of e (number_to_load w s e)
+    loads_number (Seen i) named free = refl
+    loads_number (Aim i slot) named free = refl
+    loads_number (Claim k) named free = refl
+    loads_number (OpenGate i) named free = refl
+    loads_number (Start i) named free = refl
+    loads_number (Hear i) named free = loads_order i (there i named) free
+    loads_number (Look i r) named free = refl
+    loads_number (Take i r) named free = loads_word i r
+    loads_number (Shut i) named free = refl
+    loads_number (Put i port) named free = refl
+    loads_number (Done i) named free = refl
+    loads_number (End i) named free = refl
+
+-- what is heard is said by what is loaded and the part of the task that makes the step
+pub hears_loaded : (w : Wiring) (s : State) (e : Step) → rule.hears w s e ≡ heard_of w (maker_part s e) e (rule.loaded_value w s e)
+hears_loaded w s (Seen i) = refl
+hears_loaded w s (Aim i slot) = refl
+hears_loaded w s (Claim k) = refl
+hears_loaded w s (OpenGate i) = refl
+hears_loaded w s (Start i) = refl
+hears_loaded w s (Hear i) = refl
+hears_loaded w s (Look i r) = refl
+hears_loaded w s (Take i r) = refl
+hears_loaded w s (Shut i) = refl
+hears_loaded w s (Put i port) = refl
+hears_loaded w s (Done i) = refl
+hears_loaded w s (End i) = refl

@@ -1,13 +1,13 @@
--- The word of the table that each step loads and what it hears of the number there, the number that each step stores, the
--- numbers before the first step, and how a number of the table is read.
-use Rattle.std.specs.Prelude.{ℕ, zero, suc, ℤ, pos, negsuc, ◌+◌, ◌-◌, ◌/◌, ◌%◌, ◌^◌, ◌==◌, nat_lt, if◌then◌else◌, List, length, map, slice_index_or, Option, Some, None}
+-- The steps word by word of the table: which word a step loads, what it hears of the number there, which number it stores,
+-- and the numbers before the first step.
+use Rattle.std.specs.Prelude.{ℕ, zero, suc, ℤ, pos, negsuc, ◌+◌, ◌-◌, ◌/◌, ◌%◌, ◌^◌, nat_lt, if◌then◌else◌, List, length, map, slice_index_or, Option, Some, None}
 use Rattle.std.specs.Option.{option_map_or}
 use Rattle.dbp_plan.specs.declared.plan.Plan.{Plan}
 use Rattle.dbp_plan.specs.Lookups.{declared}
 use Rattle.dbp_slots.specs.TableWords.{Sizes, TableWord, gate, ended, aim, claim, stamp, word}
-use Rattle.dbp_rules.specs.Moves.{claimed, heard_order, ordered}
-use Rattle.dbp_rules.specs.Places.{link, no_task, no_task_entry, read_at, task, wired}
-use Rattle.dbp_rules.specs.Rules.{hears_at, turn_at}
+use Rattle.dbp_rules.specs.Moves.{ordered}
+use Rattle.dbp_rules.specs.PartyRules.{Loaded, a_number, a_value, an_order, hears_at, is_stamp_of, loaded_number, loaded_order, next_claim, no_word, opens_next, read_order_in, turn_at}
+use Rattle.dbp_rules.specs.Places.{entry_in, no_task, read_at, task, wired}
 use Rattle.dbp_rules.specs.Shapes.{link_in}
 use Rattle.dbp_rules.specs.SharedWords.{made_by, order_value, signed_value, value_in}
 use Rattle.dbp_rules.specs.Start.{first_row}
@@ -35,6 +35,15 @@ order_of x = record { slot = x % 2 ^ 32; number = x / 2 ^ 32 }
 abbrev pub value_of_word : ℕ → ℤ
 value_of_word x = if nat_lt x (2 ^ 63) then pos x else negsuc (2 ^ 64 - (x + 1))
 
+-- what the step loads, from the number of its word
+abbrev pub loaded_of : Step → ℕ → Loaded
+loaded_of (Seen i) x = a_number x
+loaded_of (Start i) x = a_number x
+loaded_of (Hear i) x = an_order (order_of x)
+loaded_of (Look i r) x = a_number x
+loaded_of (Take i r) x = a_value (value_of_word x)
+loaded_of _ x = no_word
+
 -- ---- words that are loaded
 
 -- the word of the order at this place: the task's aim, then the claim of each link into it
@@ -42,12 +51,12 @@ abbrev pub word_of_order : Wiring → ℕ → ℕ → TableWord
 word_of_order w i zero = aim i
 word_of_order w i (suc n) = claim (link_in (wired w i) n)
 
--- the slot and the stamp that the task has heard of for the read of this turn, and the word of its port there
+-- the stamp of the slot that the task heard of for the read of this turn, and the word of the read's port there
 abbrev pub stamp_of_read : Wiring → TaskPart → ℕ → ℕ → TableWord
-stamp_of_read w t i n = let r = read_at (wired w i) n in stamp r.writer (heard_order t r.order).slot
+stamp_of_read w t i n = stamp (read_at (wired w i) n).writer (read_order_in (wired w i) t n).slot
 
 abbrev pub word_of_read : Wiring → TaskPart → ℕ → ℕ → TableWord
-word_of_read w t i n = let r = read_at (wired w i) n in word r.writer (heard_order t r.order).slot r.port
+word_of_read w t i n = word (read_at (wired w i) n).writer (read_order_in (wired w i) t n).slot (read_at (wired w i) n).port
 
 -- the word that the step loads, if the task that makes it has this part
 abbrev pub loaded_in : Wiring → TaskPart → Step → Option TableWord
@@ -64,15 +73,6 @@ loaded_in w t (Put i p) = None
 loaded_in w t (Done i) = None
 loaded_in w t (End i) = None
 
--- what the step hears of the number that it loads
-abbrev pub heard_of : Wiring → TaskPart → Step → ℕ → Heard
-heard_of w t (Seen i) x = heard.Ended x
-heard_of w t (Start i) x = if x == t.ended + 1 then heard.Started else heard.Closed
-heard_of w t (Hear i) x = heard.Order (order_of x).slot (order_of x).number
-heard_of w t (Look i r) x = if x == (heard_order t (read_at (wired w i) (turn_at t.place)).order).number + 1 then heard.Ready else heard.NotYet
-heard_of w t (Take i r) x = heard.Word (value_of_word x)
-heard_of w t _ x = heard.Stored
-
 -- the part of the task that makes the step; of a step of the releaser that of no task
 abbrev pub maker_part : State → Step → TaskPart
 maker_part s e = option_map_or (λ i. (task s i).part) (made_by e) no_task.part
@@ -81,18 +81,31 @@ maker_part s e = option_map_or (λ i. (task s i).part) (made_by e) no_task.part
 abbrev pub loaded_by : Wiring → State → Step → Option TableWord
 loaded_by w s e = loaded_in w (maker_part s e) e
 
-abbrev pub loaded_number : Wiring → State → Step → ℕ
-loaded_number w s e = option_map_or (value_in s) (loaded_by w s e) 0
+abbrev pub number_to_load : Wiring → State → Step → ℕ
+number_to_load w s e = option_map_or (value_in s) (loaded_by w s e) 0
+
+-- ---- what is heard
+
+abbrev pub loaded_word : Loaded → ℤ
+loaded_word (a_value z) = z
+loaded_word _ = pos 0
+
+-- what the step hears of what it loads, if the task that makes it has this part
+abbrev pub heard_of : Wiring → TaskPart → Step → Loaded → Heard
+heard_of w t (Seen i) l = heard.Ended (loaded_number l)
+heard_of w t (Start i) l = if opens_next t (loaded_number l) then heard.Started else heard.Closed
+heard_of w t (Hear i) l = heard.Order (loaded_order l).slot (loaded_order l).number
+heard_of w t (Look i r) l = if is_stamp_of (read_order_in (wired w i) t (turn_at t.place)) (loaded_number l) then heard.Ready else heard.NotYet
+heard_of w t (Take i r) l = heard.Word (loaded_word l)
+heard_of w t _ l = heard.Stored
 
 -- ---- numbers that are stored; 0 if the step stores none
 
 -- by the releaser, from its part
 abbrev pub number_of_releaser : Wiring → ReleaserPart → Step → ℕ
-number_of_releaser w r (Aim i slot) = order_value (record { slot = slot; number = (slice_index_or r.tasks i no_task_entry).aimed + 1 })
-number_of_releaser w r (Claim k) =
-    let l = link w k in
-    order_value (ordered (claimed l.delay (slice_index_or r.tasks l.writer no_task_entry) (slice_index_or r.tasks l.reader no_task_entry)))
-number_of_releaser w r (OpenGate i) = (slice_index_or r.tasks i no_task_entry).aimed
+number_of_releaser w r (Aim i slot) = order_value (record { slot = slot; number = (entry_in r i).aimed + 1 })
+number_of_releaser w r (Claim k) = order_value (ordered (next_claim w r k))
+number_of_releaser w r (OpenGate i) = (entry_in r i).aimed
 number_of_releaser w r _ = 0
 
 -- by a task, from its part and its row

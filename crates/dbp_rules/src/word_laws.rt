@@ -4,9 +4,9 @@ ghost use Rattle.std.specs.Prelude.{◌≡◌, ◌<◌, ◌^◌, ℕ, ℤ, FitsS
 ghost use Rattle.std.specs.Int.{w64};
 ghost use Rattle.dbp_plan.specs.declared.plan.Plan.{Plan};
 ghost use Rattle.dbp_slots.specs.TableWords.{IsWord, TableWord, sizes_of};
-ghost use Rattle.dbp_rules.specs.LoadedWords.{heard_of, loaded_by, loaded_number, maker_part, order_of, sizes_of_wiring, start_number, stored_number, value_of_word};
+ghost use Rattle.dbp_rules.specs.LoadedWords.{heard_of, loaded_by, loaded_of, maker_part, number_to_load, order_of, sizes_of_wiring, start_number, stored_number, value_of_word};
 ghost use Rattle.dbp_rules.specs.Places.{wired};
-ghost use Rattle.dbp_rules.specs.Rules.{IsNamed, hears, next, refusal};
+ghost use Rattle.dbp_rules.specs.Rules.{IsNamed, hears, loaded_value, next, refusal};
 ghost use Rattle.dbp_rules.specs.Shapes.{OrderFits};
 ghost use Rattle.dbp_rules.specs.SharedWords.{order_value, signed_value, stored_by, value_in};
 ghost use Rattle.dbp_rules.specs.Sound.{Sound};
@@ -18,6 +18,7 @@ ghost use Rattle.dbp_rules.specs.declared.state.State.{State};
 ghost use Rattle.dbp_rules.specs.declared.step.Count.{Count};
 ghost use Rattle.dbp_rules.specs.declared.step.Count.TheVariants.{All};
 ghost use Rattle.dbp_rules.specs.declared.step.Step.{Step};
+ghost use Rattle.dbp_rules.specs.declared.wiring.Wiring.{Wiring};
 
 /// An order with 32 bits for its slot is read back from its number, and so is a value of 64 bits. So no two of them have
 /// the same number. With 32 bits for its number too, the order's number is below 2^64; a value's is.
@@ -42,13 +43,14 @@ pub fn the_table_has_the_sizes_of_the_wiring()
     ensures { (p : Plan) → sizes_of_wiring (wiring_of p All) ≡ sizes_of p.diagram }
 {}
 
-/// An allowed step loads a word of the table, if it loads one, and what it hears is read off the number there and off the
-/// part of the task that makes it.
+/// An allowed step loads a word of the table, if it loads one. What it loads is read off the number there, and what it hears
+/// is said by what it loads and the part of the task that makes it.
 pub fn a_step_hears_one_word()
     ensures word { (p : Plan) (rows : ℕ → ℕ → Items ℤ) (s : State) (e : Step) (q : TableWord) → Sound p (wiring_of p All) rows s → IsNamed p.diagram e → refusal (wiring_of p All) s e ≡ None
         → loaded_by (wiring_of p All) s e ≡ Some q → IsWord (sizes_of p.diagram) q }
-    ensures heard { (p : Plan) (count : Count) (rows : ℕ → ℕ → Items ℤ) (s : State) (e : Step) → Sound p (wiring_of p count) rows s → SlotWordsFit s → IsNamed p.diagram e → refusal (wiring_of p count) s e ≡ None
-        → hears (wiring_of p count) s e ≡ heard_of (wiring_of p count) (maker_part s e) e (loaded_number (wiring_of p count) s e) }
+    ensures loaded { (p : Plan) (count : Count) (rows : ℕ → ℕ → Items ℤ) (s : State) (e : Step) → Sound p (wiring_of p count) rows s → SlotWordsFit s → IsNamed p.diagram e → refusal (wiring_of p count) s e ≡ None
+        → loaded_value (wiring_of p count) s e ≡ loaded_of e (number_to_load (wiring_of p count) s e) }
+    ensures heard { (w : Wiring) (s : State) (e : Step) → hears w s e ≡ heard_of w (maker_part s e) e (loaded_value w s e) }
 {}
 
 /// An allowed step stores into a word of the table, if it stores into one; the number there is then the step's, which is
