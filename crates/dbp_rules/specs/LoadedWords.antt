@@ -9,7 +9,7 @@ use Rattle.dbp_rules.specs.Moves.{ordered}
 use Rattle.dbp_rules.specs.PartyRules.{Loaded, a_number, a_value, an_order, hears_at, is_stamp_of, loaded_number, loaded_order, next_claim, no_word, opens_next, read_order_in, turn_at}
 use Rattle.dbp_rules.specs.Places.{entry_in, no_task, read_at, task, wired}
 use Rattle.dbp_rules.specs.Shapes.{link_in}
-use Rattle.dbp_rules.specs.SharedWords.{made_by, order_value, signed_value, value_in}
+use Rattle.dbp_rules.specs.SharedWords.{made_by, maker_part, order_value, signed_value, value_in}
 use Rattle.dbp_rules.specs.Start.{first_row}
 use Rattle.dbp_rules.specs.declared.parts.Order.{Order}
 use Rattle.dbp_rules.specs.declared.parts.ReleaserPart.{ReleaserPart}
@@ -72,10 +72,6 @@ loaded_in w t (Shut i) = None
 loaded_in w t (Put i p) = None
 loaded_in w t (Done i) = None
 loaded_in w t (End i) = None
-
--- the part of the task that makes the step; of a step of the releaser that of no task
-abbrev pub maker_part : State → Step → TaskPart
-maker_part s e = option_map_or (λ i. (task s i).part) (made_by e) no_task.part
 
 -- the word that the step loads, and the number that stands there; 0 if it loads none
 abbrev pub loaded_by : Wiring → State → Step → Option TableWord
