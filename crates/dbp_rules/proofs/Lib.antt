@@ -30,6 +30,13 @@ pub mod SoundAnswers
 pub mod SoundRuns
 pub mod InTenParts
 pub mod StoredWords
+pub mod StepPlaces
+pub mod WordNumbers
+pub mod WordRanges
+pub mod TableSizes
+pub mod LoadedWords
+pub mod StoredNumbers
+pub mod StartNumbers
 pub mod SparedClaims
 pub mod FreeAims
 pub mod TakenWords

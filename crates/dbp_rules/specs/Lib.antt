@@ -13,4 +13,6 @@ pub mod Lawful
 pub mod TenParts
 pub mod SharedWords
 pub mod PartyShapes
+pub mod LoadedWords
+pub mod WordRanges
 pub mod Promises

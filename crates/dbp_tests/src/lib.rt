@@ -18,3 +18,5 @@ mod reading;
 mod scripts;
 #[cfg(test)]
 mod timing;
+#[cfg(test)]
+mod words;
