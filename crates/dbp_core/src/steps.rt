@@ -12,7 +12,6 @@ ghost use Rattle.dbp_rules.specs.Shapes.{HasSamples};
 
 use crate::conditions::own_time;
 use crate::look_up::{declared_at, task_at, wired_at};
-use crate::sensing::sense;
 use dbp_plan::{Plan, Task};
 use dbp_rules::{Order, Place, Slot, State, TaskWiring, Wiring, Work};
 
@@ -263,6 +262,6 @@ fn work_on(plan: &Plan, wiring: &Wiring, task: &Task, work: &mut Work, time: u64
     requires later { length work.old.later ≡ length task.now.states }
     ensures { work.new ≡ move.worked task.now (map (λ x. input_value plan.now.diagram.inputs plan.now.samples x.input time) task.now.senses) work.old }
 {
-    sense(plan, wiring, task, work, time);
+    work.sense(plan, wiring, task, time);
     work.compute(task);
 }

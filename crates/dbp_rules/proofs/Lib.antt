@@ -1,5 +1,7 @@
 pub mod Computing
+pub mod InputValues
 pub mod Allowed
+pub mod LeadsLaws
 pub mod Aims
 pub mod Counted
 pub mod Frames
@@ -29,4 +31,5 @@ pub mod InTenParts
 pub mod StoredWords
 pub mod SparedClaims
 pub mod FreeAims
+pub mod AllowedNames
 pub mod TakenWords

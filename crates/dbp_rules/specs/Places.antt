@@ -5,6 +5,7 @@ use Rattle.dbp_plan.specs.Lookups.{link_at}
 use Rattle.dbp_rules.specs.declared.parts.Order.{Order}
 use Rattle.dbp_rules.specs.declared.parts.Place.TheVariants.{Idle}
 use Rattle.dbp_rules.specs.declared.parts.LinkEntry.{LinkEntry}
+use Rattle.dbp_rules.specs.declared.parts.ReleaserPart.{ReleaserPart}
 use Rattle.dbp_rules.specs.declared.parts.TaskEntry.{TaskEntry}
 use Rattle.dbp_rules.specs.declared.state.Slot.{Slot}
 use Rattle.dbp_rules.specs.declared.state.State.{State}
@@ -40,16 +41,24 @@ no_read_wiring = record { read = 0; order = 0; writer = 0; port = 0 }
 abbrev pub no_task_wiring : TaskWiring
 no_task_wiring = record { ports = 0; slots = 0; kept = 0; rank = 0; times = []; links = []; leaving = []; reads = [] }
 
+-- of a releaser's part
+
+abbrev pub entry_in : ReleaserPart → ℕ → TaskEntry
+entry_in r i = slice_index_or r.tasks i no_task_entry
+
+abbrev pub claim_in : ReleaserPart → ℕ → LinkEntry
+claim_in r k = slice_index_or r.links k no_link_entry
+
 -- of a state
 
 abbrev pub task : State → ℕ → TaskState
 task s i = slice_index_or s.tasks i no_task
 
 abbrev pub task_entry : State → ℕ → TaskEntry
-task_entry s i = slice_index_or s.releaser.tasks i no_task_entry
+task_entry s i = entry_in s.releaser i
 
 abbrev pub link_entry : State → ℕ → LinkEntry
-link_entry s k = slice_index_or s.releaser.links k no_link_entry
+link_entry s k = claim_in s.releaser k
 
 abbrev pub order : State → ℕ → Order
 order s k = slice_index_or s.orders k no_order
