@@ -1,7 +1,7 @@
 use Rattle.std.proofs.Common.{◌≡◌, ◌+◌, length, map, take}
 use Rattle.dbp_plan.specs.Samples.{input_value}
 use Rattle.dbp_rules.specs.Moves as move
-use Rattle.dbp_rules.proofs.sensing.Work.sense.Given as goal
+use Rattle.dbp_rules.proofs.work.Work.sense.Given as goal
 
 abbrev pub invariant-loop-sense : goal.invariant-loop-sense
 invariant-loop-sense l = record {
