@@ -13,7 +13,6 @@ ghost use Rattle.dbp_rules.specs.declared.parts.Place.TheVariants as place;
 
 use crate::conditions::own_time;
 use crate::look_up::{declared_at, task_at, wired_at};
-use crate::sensing::sense;
 use dbp_plan::{Plan, Task};
 use dbp_rules::{Order, Slot, State, Wiring, Work};
 
@@ -223,6 +222,6 @@ fn work_on(plan: &Plan, wiring: &Wiring, task: &Task, work: &mut Work, time: u64
     requires later { length work.old.later ≡ length task.now.states }
     ensures { work.new ≡ move.worked task.now (map (λ x. input_value plan.now.diagram.inputs plan.now.samples x.input time) task.now.senses) work.old }
 {
-    sense(plan, wiring, task, work, time);
+    work.sense(plan, wiring, task, time);
     work.compute(task);
 }

@@ -7,4 +7,5 @@ pub mod FirstPlaces
 pub mod StepWords
 pub mod StepTokens
 pub mod PrintedScripts
+pub mod AllowedSteps
 pub mod CheckedNames

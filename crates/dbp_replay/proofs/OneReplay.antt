@@ -10,21 +10,10 @@ use Rattle.dbp_rules.specs.declared.wiring.Wiring.{Wiring}
 use Rattle.dbp_rules.specs.Lawful.{Leads}
 use Rattle.dbp_rules.specs.Rules.{next, refusal}
 use Rattle.dbp_rules.specs.Wired.{wiring_of}
+use Rattle.dbp_rules.proofs.LeadsLaws.{IsAllowedAfter, leads_at, leads_once}
 use Rattle.dbp_plan.specs.declared.plan.Plan.{Plan}
 use Rattle.dbp_replay.proofs.OneScript.{take-place}
 use Rattle.dbp_replay.specs.Replays.{IsIllegal, IsReplay, first}
-
-one-end : (p : Plan) (w : Wiring) (es : List Step) (s t u : State) → Leads p w s es t → Leads p w s es u → t ≡ u
-one-end p w [] s t u same other = same ∙ sym other
-one-end p w (e ∷ es) s t u leads other = one-end p w es (next p w s e) t u leads.2 other.2
-
--- behind the steps before it, a step of those that were taken is allowed
-taken-at : (p : Plan) (w : Wiring) (es : List Step) (s t : State) (k : ℕ) (e : Step) → Leads p w s es t → slice_get es k ≡ Some e → (u : State) × Leads p w s (take k es) u × (refusal w u e ≡ None)
-taken-at p w [] s t k e leads at = absurd (omega (arith, slice_get_within [] k e at))
-taken-at p w (f ∷ fs) s t zero e leads at = (s, refl, subst (λ (x : Step). refusal w s x ≡ None) (same_Some f e at) leads.1)
-taken-at p w (f ∷ fs) s t (suc k) e leads at =
-    let rest = taken-at p w fs (next p w s f) t k e leads.2 at in
-    (rest.0, (leads.0, leads.1, rest.1), rest.2)
 
 take-shorter : {X : Type 0} (xs : List X) (k n : ℕ) → k ≤ n → take k (take n xs) ≡ take k xs
 take-shorter [] zero n le = refl
@@ -39,9 +28,9 @@ none-refused : (p : Plan) (count : Count) (es : List Step) (t u : State) (k : �
     → Leads p (wiring_of p count) (first p count) (take k es) u → refusal (wiring_of p count) u e ≡ Some why → ⊥
 none-refused p count es t u k e why leads at front refused =
     let w = wiring_of p count in
-    let free = taken-at p w es (first p count) t k e leads at in
-    let same : free.0 ≡ u = one-end p w (take k es) (first p count) free.0 u free.1 front in
-    absurd (cc (refused, subst (λ (x : State). refusal w x e ≡ None) same free.2))
+    let is : IsAllowedAfter p w (first p count) (take k es) e = leads_at p w es (first p count) t k e leads at in
+    let same : is.state ≡ u = leads_once p w (take k es) (first p count) is.state u is.leads front in
+    absurd (cc (refused, subst (λ (x : State). refusal w x e ≡ None) same is.free))
 
 earlier : (p : Plan) (count : Count) (steps : List Step) (k l : ℕ) (why other : Illegal) (i : IsIllegal p count steps k why) (j : IsIllegal p count steps l other) → i.place < j.place → ⊥
 earlier p count steps k l why other i j less =
@@ -60,7 +49,7 @@ refused-once p count steps k l why other i j =
       | inl same ↦
           let w = wiring_of p count in
           let there : Leads p w (first p count) (take j.place steps) i.state = subst (λ (n : ℕ). Leads p w (first p count) (take n steps) i.state) same i.leads in
-          let state : i.state ≡ j.state = one-end p w (take j.place steps) (first p count) i.state j.state there j.leads in
+          let state : i.state ≡ j.state = leads_once p w (take j.place steps) (first p count) i.state j.state there j.leads in
           let step : i.step ≡ j.step = same_Some i.step j.step (sym i.stands ∙ ap (λ (n : ℕ). slice_get steps n) same ∙ j.stands) in
           let again : refusal w j.state j.step ≡ Some why = subst (λ (x : State). refusal w x j.step ≡ Some why) state (subst (λ (x : Step). refusal w i.state x ≡ Some why) step i.refused) in
           (omega (arith, i.which, j.which, same), same_Some why other (sym again ∙ j.refused))

@@ -9,26 +9,14 @@ use Rattle.dbp_rules.specs.declared.step.Step.{Step}
 use Rattle.dbp_rules.specs.declared.state.State.{State}
 use Rattle.dbp_rules.specs.declared.wiring.Wiring.{Wiring}
 use Rattle.dbp_rules.specs.Lawful.{Leads}
-use Rattle.dbp_rules.specs.Rules.{IsAnswer, IsNamed, IsStep, hears, next, refusal}
+use Rattle.dbp_rules.specs.Rules.{IsNamed, IsStep, hears, next, refusal}
 use Rattle.dbp_rules.specs.Wired.{wiring_of}
+use Rattle.dbp_rules.proofs.LeadsLaws.{answer_allowed, answer_refused, leads_more}
 use Rattle.dbp_plan.specs.declared.plan.Plan.{Plan}
 use Rattle.dbp_replay.specs.Replays.{IsIllegal, IsReplay, first, told}
 use Rattle.dbp_replay.specs.Texts.{heard_line}
 
 -- ---- one step more
-
--- an allowed step: what it hears, and the next state
-allowed : (o : Option Illegal) (p : Plan) (w : Wiring) (s new : State) (e : Step) (h : Heard) → IsAnswer o p w s e (Ok h) new → (o ≡ None) × (h ≡ hears w s e) × (new ≡ next p w s e)
-allowed None p w s new e h answer = (refl, cc (answer.0), answer.1)
-allowed (Some why) p w s new e h answer = absurd (cc (answer.0))
-
-refused : (o : Option Illegal) (p : Plan) (w : Wiring) (s new : State) (e : Step) (why : Illegal) → IsAnswer o p w s e (Err why) new → o ≡ Some why
-refused None p w s new e why answer = absurd (cc (answer.0))
-refused (Some other) p w s new e why answer = cc (answer.0)
-
-leads-more : (p : Plan) (w : Wiring) (es : List Step) (s t : State) (e : Step) → Leads p w s es t → IsNamed p.diagram e → refusal w t e ≡ None → Leads p w s (es ++ e ∷ []) (next p w t e)
-leads-more p w [] s t e same named free = (named, subst (λ (x : State). refusal w x e ≡ None) same free, ap (λ (x : State). next p w x e) same)
-leads-more p w (f ∷ fs) s t e leads named free = (leads.0, leads.1, leads-more p w fs (next p w s f) t e leads.2 named free)
 
 told-more : (p : Plan) (w : Wiring) (es : List Step) (s t : State) (e : Step) → Leads p w s es t → told p w s (es ++ e ∷ []) ≡ told p w s es ++ heard_line p.diagram e (hears w t e)
 told-more p w [] s t e same = append-nil (heard_line p.diagram e (hears w s e)) ∙ ap (λ (x : State). heard_line p.diagram e (hears w x e)) (sym same)
@@ -54,10 +42,10 @@ pub taken-more : (p : Plan) (count : Count) (steps : List Step) (place : ℕ) (s
     → TakenTo p count steps (place + 1) new more
 taken-more p count steps place s new text more e h t here named answer added =
     let w = wiring_of p count in
-    let is = allowed (refusal w s e) p w s new e h answer in
+    let is = answer_allowed (refusal w s e) p w s new e h answer in
     let front = take-one steps place e here in
     record {
-      leads = subst (λ (es : List Step). Leads p w (first p count) es new) (sym front) (subst (λ (x : State). Leads p w (first p count) (take place steps ++ e ∷ []) x) (sym is.2) (leads-more p w (take place steps) (first p count) s e t.leads named is.0));
+      leads = subst (λ (es : List Step). Leads p w (first p count) es new) (sym front) (subst (λ (x : State). Leads p w (first p count) (take place steps ++ e ∷ []) x) (sym is.2) (leads_more p w (take place steps) (first p count) s e t.leads named is.0));
       told = added ∙ ap (λ (l : List ℕ). l ++ heard_line p.diagram e h) t.told ∙ ap (λ (x : Heard). told p w (first p count) (take place steps) ++ heard_line p.diagram e x) is.1
           ∙ sym (told-more p w (take place steps) (first p count) s e t.leads) ∙ ap (told p w (first p count)) (sym front);
     }
@@ -84,6 +72,6 @@ refused-at p count steps place s new text e why t here answer = record {
   leads = t.leads;
   step = e;
   stands = here;
-  refused = refused (refusal (wiring_of p count) s e) p (wiring_of p count) s new e why answer;
+  refused = answer_refused (refusal (wiring_of p count) s e) p (wiring_of p count) s new e why answer;
   which = refl;
 }

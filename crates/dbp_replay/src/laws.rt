@@ -1,6 +1,9 @@
 // Laws of the definitions.
 
 ghost use Rattle.std.specs.Prelude.{◌≡◌, ℕ, All, List as Items, Some};
+ghost use Rattle.dbp_rules.specs.Lawful.{Leads};
+ghost use Rattle.dbp_rules.specs.Wired.{wiring_of};
+ghost use Rattle.dbp_rules.specs.declared.state.State.{State as AnyState};
 ghost use Rattle.dbp_rules.specs.declared.step.Count.{Count as AnyCount};
 ghost use Rattle.dbp_rules.specs.declared.step.Illegal.{Illegal as Refusal};
 ghost use Rattle.dbp_rules.specs.declared.step.Step.{Step as AnyStep};
@@ -12,7 +15,7 @@ ghost use Rattle.dia_read.specs.Printable.{HasItemLines, IsPrintable};
 ghost use Rattle.dbp_replay.specs.declared.fail.ScriptCode.{ScriptCode as AnyCode};
 ghost use Rattle.dbp_replay.specs.Names.{HasNames, HasSlotNumber};
 ghost use Rattle.dbp_replay.specs.Places.{IsThere};
-ghost use Rattle.dbp_replay.specs.Replays.{IsReplay, IsIllegal};
+ghost use Rattle.dbp_replay.specs.Replays.{IsReplay, IsIllegal, first};
 ghost use Rattle.dbp_replay.specs.Scripts.{IsScript, IsScriptFault};
 ghost use Rattle.dbp_replay.specs.Texts.{script_text};
 
@@ -36,4 +39,11 @@ pub fn one_replay()
 pub fn printed_script_again()
     ensures named { (d : AnyDiagram) (doc : AnyDoc) (steps : Items AnyStep) → HasNames d → All (IsThere d) steps → All HasSlotNumber steps → doc.body.script ≡ Some (script_text d steps) → IsScript d doc steps }
     ensures checked { (source doc : AnyDoc) (d : AnyDiagram) (steps : Items AnyStep) → IsPrintable source.body → HasItemLines source → IsCheckedOf source d → All (IsThere d) steps → All HasSlotNumber steps → doc.body.script ≡ Some (script_text d steps) → IsScript d doc steps }
+{}
+
+/// Steps that are allowed one after another from the start name only what the diagram has, and each aim's slot has 32
+/// bits: they may be printed, and are read again.
+pub fn allowed_steps_are_printable()
+    ensures there { (p : AnyPlan) (count : AnyCount) (steps : Items AnyStep) (s : AnyState) → Leads p (wiring_of p count) (first p count) steps s → All (IsThere p.diagram) steps }
+    ensures slots { (p : AnyPlan) (count : AnyCount) (steps : Items AnyStep) (s : AnyState) → Leads p (wiring_of p count) (first p count) steps s → All HasSlotNumber steps }
 {}

@@ -12,7 +12,7 @@ mod replaying;
 mod script;
 
 pub use fail::{ReplayFail, ScriptCode, ScriptFail};
-pub use laws::{one_replay, one_script, printed_script_again};
+pub use laws::{allowed_steps_are_printable, one_replay, one_script, printed_script_again};
 pub use printed::print_script;
 pub use replaying::replay;
 pub use script::read_script;

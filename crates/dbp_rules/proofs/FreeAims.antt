@@ -13,12 +13,12 @@ use Rattle.dbp_slots.specs.FreeSlot.{IsLeastFree}
 use Rattle.dbp_slots.specs.Slots.{counts_of, is_to_higher, is_to_lower}
 use Rattle.dbp_plan.proofs.Counts.{count-cons}
 use Rattle.release_list.specs.declared.release.Release.TheVariants as release
-use Rattle.dbp_rules.specs.Places.{is_counted, link, link_entry, task_entry, wired}
-use Rattle.dbp_rules.specs.Promises.{HasFreeSlot, IsLeastAim, claimed_of, has_claim}
+use Rattle.dbp_rules.specs.Places.{claim_in, entry_in, is_counted, link, link_entry, task_entry, wired}
+use Rattle.dbp_rules.specs.Promises.{HasFreeSlot, HasFreeSlotIn, IsLeastAim, claimed_in, claimed_of, has_claim, has_claim_in}
 use Rattle.dbp_rules.specs.Rules as rule
-use Rattle.dbp_rules.specs.Shapes.{EntryShape}
 use Rattle.dbp_rules.specs.Sound.{Sound}
 use Rattle.dbp_rules.specs.Wired.{slot_count, wiring_of}
+use Rattle.dbp_rules.specs.declared.parts.ReleaserPart.{ReleaserPart}
 use Rattle.dbp_rules.specs.declared.state.State.{State}
 use Rattle.dbp_rules.specs.declared.step.Count.{Count}
 use Rattle.dbp_rules.specs.declared.step.Count.TheVariants.{All, Ranked}
@@ -48,7 +48,7 @@ count_items f g a (x ∷ xs) d each =
 
 -- ---- of a plan's own wiring
 
-module _ (p : Plan) (count : Count) (s : State) (i : ℕ) where
+module _ (p : Plan) (count : Count) (r : ReleaserPart) (i : ℕ) where
   abbrev w : Wiring
   w = wiring_of p count
 
@@ -56,7 +56,7 @@ module _ (p : Plan) (count : Count) (s : State) (i : ℕ) where
   own = own_wiring p count
 
   -- a link that keeps a slot leaves the task and is counted
-  keeps : (k : ℕ) → has_claim w s i k ≡ true → ((link w k).writer ≡ i) × (is_counted w k ≡ true)
+  keeps : (k : ℕ) → has_claim_in w r i k ≡ true → ((link w k).writer ≡ i) × (is_counted w k ≡ true)
   keeps k is =
       let out = and_parts ((link w k).writer == i) _ is in
       let counted = and_parts (is_counted w k) _ out.1 in
@@ -93,37 +93,38 @@ module _ (p : Plan) (count : Count) (s : State) (i : ℕ) where
       ]
 
 -- under `Ranked` to a lower one
-to_lower : (p : Plan) (s : State) (i k : ℕ) → k < length p.diagram.links → has_claim (wiring_of p Ranked) s i k ≡ true → is_to_lower p.diagram.ranks i (link_at p.diagram.links k) ≡ true
-to_lower p s i k below is =
+to_lower : (p : Plan) (r : ReleaserPart) (i k : ℕ) → k < length p.diagram.links → has_claim_in (wiring_of p Ranked) r i k ≡ true → is_to_lower p.diagram.ranks i (link_at p.diagram.links k) ≡ true
+to_lower p r i k below is =
     let w : Wiring = wiring_of p Ranked in
-    let both = keeps p Ranked s i k is in
+    let both = keeps p Ranked r i k is in
     let less : (wired (wiring_of p Ranked) (link (wiring_of p Ranked) k).writer).rank < (wired (wiring_of p Ranked) (link (wiring_of p Ranked) k).reader).rank = ltb-true _ _ both.1 in
-    let lower : get_or p.diagram.ranks i 0 < get_or p.diagram.ranks (link_at p.diagram.links k).reader 0 = omega (arith, less, writer_rank p Ranked s i k below both.0, reader_rank p Ranked s i k below) in
+    let lower : get_or p.diagram.ranks i 0 < get_or p.diagram.ranks (link_at p.diagram.links k).reader 0 = omega (arith, less, writer_rank p Ranked r i k below both.0, reader_rank p Ranked r i k below) in
     rw (eq-eqb (link_at p.diagram.links k).writer i both.0, lt-ltb (get_or p.diagram.ranks i 0) (get_or p.diagram.ranks (link_at p.diagram.links k).reader 0) lower) refl
 
 -- how many claims keep a slot of the task
-claims_few : (p : Plan) (count : Count) (s : State) (i : ℕ) → count_by (has_claim (wiring_of p count) s i) (range_with_len 0 (length p.diagram.links)) + 1 + (counts_of p.diagram i).delayed ≤ slot_count count p i
-claims_few p Ranked s i =
-    let few : count_by (has_claim (wiring_of p Ranked) s i) (range_with_len 0 (length p.diagram.links)) ≤ count_by (is_to_lower p.diagram.ranks i) p.diagram.links =
-    count_items (has_claim (wiring_of p Ranked) s i) (is_to_lower p.diagram.ranks i) 0 p.diagram.links no_link (λ k below is. let here : 0 + k ≡ k = omega arith in to_lower p s i k below (ap (has_claim (wiring_of p Ranked) s i) (sym here) ∙ is)) in
+claims_few : (p : Plan) (count : Count) (r : ReleaserPart) (i : ℕ) → count_by (has_claim_in (wiring_of p count) r i) (range_with_len 0 (length p.diagram.links)) + 1 + (counts_of p.diagram i).delayed ≤ slot_count count p i
+claims_few p Ranked r i =
+    let few : count_by (has_claim_in (wiring_of p Ranked) r i) (range_with_len 0 (length p.diagram.links)) ≤ count_by (is_to_lower p.diagram.ranks i) p.diagram.links =
+    count_items (has_claim_in (wiring_of p Ranked) r i) (is_to_lower p.diagram.ranks i) 0 p.diagram.links no_link (λ k below is. let here : 0 + k ≡ k = omega arith in to_lower p r i k below (ap (has_claim_in (wiring_of p Ranked) r i) (sym here) ∙ is)) in
     omega (arith, few)
-claims_few p All s i =
-    let few : count_by (has_claim (wiring_of p All) s i) (range_with_len 0 (length p.diagram.links)) ≤ count_by (λ l. is_to_lower p.diagram.ranks i l || is_to_higher p.diagram.ranks i l) p.diagram.links =
-    count_items (has_claim (wiring_of p All) s i) (λ l. is_to_lower p.diagram.ranks i l || is_to_higher p.diagram.ranks i l) 0 p.diagram.links no_link
-    (λ k below is. let here : 0 + k ≡ k = omega arith in lower_or_higher p All s i k below (keeps p All s i k (ap (has_claim (wiring_of p All) s i) (sym here) ∙ is)).0) in
+claims_few p All r i =
+    let few : count_by (has_claim_in (wiring_of p All) r i) (range_with_len 0 (length p.diagram.links)) ≤ count_by (λ l. is_to_lower p.diagram.ranks i l || is_to_higher p.diagram.ranks i l) p.diagram.links =
+    count_items (has_claim_in (wiring_of p All) r i) (λ l. is_to_lower p.diagram.ranks i l || is_to_higher p.diagram.ranks i l) 0 p.diagram.links no_link
+    (λ k below is. let here : 0 + k ≡ k = omega arith in lower_or_higher p All r i k below (keeps p All r i k (ap (has_claim_in (wiring_of p All) r i) (sym here) ∙ is)).0) in
     omega (arith, few, count_or (is_to_lower p.diagram.ranks i) (is_to_higher p.diagram.ranks i) p.diagram.links)
 
-pub has_free_slot : (p : Plan) (count : Count) (rows : ℕ → ℕ → List ℤ) (s : State) (i : ℕ) → Sound p (wiring_of p count) rows s → i < length p.diagram.tasks → HasFreeSlot (wiring_of p count) s i
-has_free_slot p count rows s i sound named =
-    let w : Wiring = wiring_of p count in
-    let below : i < length (wiring_of p count).tasks = omega (arith, named, sound.shape.wiring.tasks) in
-    let entry : EntryShape (wired (wiring_of p count) i) (task_entry s i) = sound.shape.each_entry i below in
-    let kept : length (rule.staying (task_entry s i)) ≡ length (task_entry s i).kept = length-take-le (length (task_entry s i).kept) ((task_entry s i).current ∷ (task_entry s i).kept) (omega arith) in
-    let claimed : length (claimed_of (wiring_of p count) s i) ≡ count_by (has_claim (wiring_of p count) s i) (range_with_len 0 (length p.diagram.links)) =
-    length-map (filter (has_claim (wiring_of p count) s i) (range_with_len 0 (length p.diagram.links))) (λ k. (link_entry s k).slot) ∙ length-filter (has_claim (wiring_of p count) s i) (range_with_len 0 (length p.diagram.links)) in
+-- so a slot is free, in any releaser's part that keeps as many slots of the task as the wiring says
+pub free_slot_in : (p : Plan) (count : Count) (r : ReleaserPart) (i : ℕ) → i < length p.diagram.tasks → length (entry_in r i).kept ≡ (wired (wiring_of p count) i).kept → HasFreeSlotIn (wiring_of p count) r i
+free_slot_in p count r i named same =
+    let kept : length (rule.staying (entry_in r i)) ≡ length (entry_in r i).kept = length-take-le (length (entry_in r i).kept) ((entry_in r i).current ∷ (entry_in r i).kept) (omega arith) in
+    let claimed : length (claimed_in (wiring_of p count) r i) ≡ count_by (has_claim_in (wiring_of p count) r i) (range_with_len 0 (length p.diagram.links)) =
+    length-map (filter (has_claim_in (wiring_of p count) r i) (range_with_len 0 (length p.diagram.links))) (λ k. (claim_in r k).slot) ∙ length-filter (has_claim_in (wiring_of p count) r i) (range_with_len 0 (length p.diagram.links)) in
     let slots : (wired (wiring_of p count) i).slots ≡ slot_count count p i = ap (λ (t : TaskWiring). t.slots) (wired_is p count i named) in
     let delayed : (wired (wiring_of p count) i).kept ≡ (counts_of p.diagram i).delayed = ap (λ (t : TaskWiring). t.kept) (wired_is p count i named) in
-    omega (arith, claims_few p count s i, claimed, kept, entry.kept, slots, delayed)
+    omega (arith, claims_few p count r i, claimed, kept, same, slots, delayed)
+
+pub has_free_slot : (p : Plan) (count : Count) (rows : ℕ → ℕ → List ℤ) (s : State) (i : ℕ) → Sound p (wiring_of p count) rows s → i < length p.diagram.tasks → HasFreeSlot (wiring_of p count) s i
+has_free_slot p count rows s i sound named = free_slot_in p count s.releaser i named (sound.shape.each_entry i (omega (arith, named, sound.shape.wiring.tasks))).kept
 
 -- ---- members of lists
 

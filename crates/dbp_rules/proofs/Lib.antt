@@ -1,5 +1,7 @@
 pub mod Computing
+pub mod InputValues
 pub mod Allowed
+pub mod LeadsLaws
 pub mod Aims
 pub mod Keeping
 pub mod Searches
@@ -39,5 +41,6 @@ pub mod StoredNumbers
 pub mod StartNumbers
 pub mod SparedClaims
 pub mod FreeAims
+pub mod AllowedNames
 pub mod TakenWords
 pub mod Parties

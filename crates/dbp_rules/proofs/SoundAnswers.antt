@@ -1,9 +1,11 @@
 -- What a look and a take hear in a sound state.
-use Rattle.std.proofs.Common.{◌≡◌, ℕ, ℤ, ◌+◌, ◌<◌, true, List, length, get_or, None, refl, sym, ◌∙◌, ap, subst, arith}
+use Rattle.std.proofs.Common.{◌≡◌, ℕ, ℤ, ◌+◌, ◌<◌, true, List, length, get_or, None, refl, sym, ◌∙◌, ap, subst, arith, inl, inr}
+use Rattle.std.proofs.lemmas.Bool.{cases_Bool}
 use Rattle.dbp_plan.specs.declared.plan.Plan.{Plan}
 use Rattle.dbp_plan.specs.Lookups.{declared, no_read}
 use Rattle.dbp_rules.specs.Moves.{own_slot}
 use Rattle.dbp_rules.specs.Places.{link, link_entry, read_at, task, task_entry, wired}
+use Rattle.dbp_rules.specs.Promises.{IsClaimFilled}
 use Rattle.dbp_rules.specs.Rules as rule
 use Rattle.dbp_rules.specs.Shapes.{TaskShape, heard_by, running}
 use Rattle.dbp_rules.specs.Sound.{Sound}
@@ -17,7 +19,7 @@ use Rattle.dbp_rules.specs.declared.step.Heard.TheVariants as heard
 use Rattle.dbp_rules.specs.declared.step.Step.TheVariants.{Look, Take}
 use Rattle.dbp_rules.specs.declared.wiring.Wiring.{Wiring}
 use Rattle.dbp_rules.proofs.Allowed.{next_none, or_else_none}
-use Rattle.dbp_rules.proofs.SoundLooks.{claims_next, delayed_ready, ranked_ready}
+use Rattle.dbp_rules.proofs.SoundLooks.{claims_next, delayed_ready, filled_ready, ranked_ready, ready_filled}
 use Rattle.dbp_rules.proofs.SoundOwn.{IsOwn}
 use Rattle.dbp_rules.proofs.SoundReading.{at_look, at_take, take_word}
 use Rattle.dbp_rules.proofs.SoundWriting.{own_current}
@@ -38,6 +40,30 @@ module _ (p : Plan) (w : Wiring) (rows : ℕ → ℕ → List ℤ) (s : State) (
 
   ready_hears : (i r : ℕ) → rule.is_ready w s i (rule.turn_at (task s i).part.place) ≡ true → rule.hears w s (Look i r) ≡ heard.Ready
   ready_hears i r is = rw is refl
+
+  hears_ready : (i r : ℕ) → rule.hears w s (Look i r) ≡ heard.Ready → rule.is_ready w s i (rule.turn_at (task s i).part.place) ≡ true
+  hears_ready i r is = elim (cases_Bool (rule.is_ready w s i (rule.turn_at (task s i).part.place))) [
+    | inl ready ↦ ready
+    | inr isnt ↦ let bad : heard.NotYet ≡ heard.Ready = rw isnt at is in absurd (cc (bad))
+  ]
+
+  -- each allowed look for a row that its writer has filled hears that it is there
+  pub filled_hears : (i r : ℕ) → i < length p.diagram.tasks → rule.refusal w s (Look i r) ≡ None → IsClaimFilled w s (get_or (declared p i).reads r no_read).link → rule.hears w s (Look i r) ≡ heard.Ready
+  filled_hears i r named free filled =
+      let below : i < length w.tasks = omega (arith, named, own.whole.tasks) in
+      let n : ℕ = rule.turn_at (task s i).part.place in
+      let at : (task s i).part.place ≡ place.Look n = at_look p w rows s own sound i r free in
+      let read : (read_at (wired w i) n).read ≡ r = named_read i r 7 (or_else_none (rule.steps_next w s i 7 r) _ free).0 (place.Look n) at in
+      ready_hears i r (filled_ready p w rows s own sound i n below at (subst (λ (m : ℕ). IsClaimFilled w s (get_or (declared p i).reads m no_read).link) (sym read) filled))
+
+  -- and no other does
+  pub hears_filled : (i r : ℕ) → i < length p.diagram.tasks → rule.refusal w s (Look i r) ≡ None → rule.hears w s (Look i r) ≡ heard.Ready → IsClaimFilled w s (get_or (declared p i).reads r no_read).link
+  hears_filled i r named free is =
+      let below : i < length w.tasks = omega (arith, named, own.whole.tasks) in
+      let n : ℕ = rule.turn_at (task s i).part.place in
+      let at : (task s i).part.place ≡ place.Look n = at_look p w rows s own sound i r free in
+      let read : (read_at (wired w i) n).read ≡ r = named_read i r 7 (or_else_none (rule.steps_next w s i 7 r) _ free).0 (place.Look n) at in
+      subst (λ (m : ℕ). IsClaimFilled w s (get_or (declared p i).reads m no_read).link) read (ready_filled p w rows s own sound i n below at (hears_ready i r is))
 
   -- each allowed look over a delayed link hears that its row is there
   pub delayed_hears : (i r : ℕ) → i < length p.diagram.tasks → rule.refusal w s (Look i r) ≡ None → 0 < (link w (get_or (declared p i).reads r no_read).link).delay → rule.hears w s (Look i r) ≡ heard.Ready

@@ -1,10 +1,10 @@
 -- What a task computes at its shut is what the meaning computes in the instance.
-use Rattle.std.proofs.Common.{◌≡◌, ℕ, zero, suc, ℤ, pos, ◌+◌, ◌-◌, ◌<◌, ◌≤◌, List, [], ◌∷◌, ◌++◌, length, map, drop, get_or, take, slice_get, refl, sym, ◌∙◌, ap, arith, length-append, length-drop}
+use Rattle.std.proofs.Common.{◌≡◌, ℕ, zero, suc, ℤ, pos, ◌+◌, ◌-◌, ◌<◌, ◌≤◌, List, [], ◌∷◌, ◌++◌, length, map, drop, get_or, take, slice_get, refl, sym, subst, ◌∙◌, ap, arith, length-append, length-drop}
 use Rattle.std.proofs.lemmas.List.{append_assoc, ext_get_or, get_or-append-add, get_or-drop, get_or-map, get_or-take, get_or_append_left, length-map, length-take-le}
 use Rattle.std.proofs.lemmas.Option.{slice_get-get_or, same_Some}
 use Rattle.dbp_plan.specs.declared.diagram.Task.{Task}
 use Rattle.dbp_plan.specs.declared.plan.Plan.{Plan}
-use Rattle.dbp_plan.specs.Closed.{let_base}
+use Rattle.dbp_plan.specs.Closed.{let_base, place_count}
 use Rattle.dbp_plan.specs.Occurrences.{times_of}
 use Rattle.dbp_plan.specs.Samples.{input_value}
 use Rattle.dbp_plan.specs.Lookups.{declared, no_declared, no_read}
@@ -12,11 +12,9 @@ use Rattle.sync_meaning.specs.Meaning.{outs_in}
 use Rattle.sync_meaning.specs.SomeMeaningEnvs.{IsEnvFrom, env_from-is, states_after}
 use Rattle.sync_meaning.specs.SomeMeaningRows.{Solves, env_at, given_at, states_at, states_at-more, word_at}
 use Rattle.dbp_rules.specs.Moves as move
-use Rattle.dbp_rules.specs.Places.{read_at, wired}
-use Rattle.dbp_rules.specs.Shapes.{TaskShape}
-use Rattle.dbp_rules.specs.SoundParts.{TaskSound, meant, place_of_read, read_of, taken_by}
-use Rattle.dbp_rules.specs.declared.parts.TaskEntry.{TaskEntry}
-use Rattle.dbp_rules.specs.declared.state.TaskState.{TaskState}
+use Rattle.dbp_rules.specs.Places.{read_at, time, wired}
+use Rattle.dbp_rules.specs.SoundParts.{meant, place_of_read, read_of}
+use Rattle.dbp_rules.specs.Work.{WorkWords}
 use Rattle.dbp_rules.specs.declared.wiring.Wiring.{Wiring}
 use Rattle.dbp_rules.proofs.SoundOwn.{IsOwn}
 
@@ -36,13 +34,21 @@ same_word (x ∷ xs) [] (suc v) same = same_word xs [] v same
 same_word (x ∷ xs) (y ∷ ys) zero same = same_Some _ _ same
 same_word (x ∷ xs) (y ∷ ys) (suc v) same = same_word xs ys v same
 
-module _ (p : Plan) (w : Wiring) (rows : ℕ → ℕ → List ℤ) (own : IsOwn p w) (solves : Solves p.diagram p.samples p.batches rows) (i : ℕ) (below : i < length w.tasks) (e : TaskEntry) (t : TaskState) (ok : TaskSound p w rows i e t) (shape : TaskShape w (declared p i) i e.aimed t)
-    (all : taken_by (length (wired w i).reads) t.part.place ≡ length (wired w i).reads) (room : t.part.ended < length (times_of p.batches i)) where
+-- what a task has to compute with in its instance m + 1: its states after m instances, and the words that the meaning gives its reads
+pub record HasItsWords (p : Plan) (w : Wiring) (rows : ℕ → ℕ → List ℤ) (i m : ℕ) (work : WorkWords) : Type 0 where
+  pub size : length work.now ≡ place_count (declared p i)
+  pub states : take (length (declared p i).states) work.now ≡ states_at p.diagram p.samples p.batches rows i (declared p i) m
+  pub taken : (n : ℕ) → n < length (wired w i).reads → get_or work.now (place_of_read p w i n) (pos 0) ≡ meant p rows i (m + 1) (read_of p w i n)
+
+-- what it has computed in that instance: the row, and its next states; what it has computed with stays
+pub record HasComputed (p : Plan) (w : Wiring) (rows : ℕ → ℕ → List ℤ) (i m : ℕ) (work : WorkWords) : Type 0 where
+  pub given : HasItsWords p w rows i m work
+  pub row : work.row ≡ rows i (m + 1)
+  pub later : work.later ≡ states_at p.diagram p.samples p.batches rows i (declared p i) (m + 1)
+
+module _ (p : Plan) (w : Wiring) (rows : ℕ → ℕ → List ℤ) (own : IsOwn p w) (solves : Solves p.diagram p.samples p.batches rows) (i m : ℕ) (work : WorkWords) (below : i < length w.tasks) (room : m < length (times_of p.batches i)) (has : HasItsWords p w rows i m work) where
   abbrev d : Task
   d = declared p i
-
-  abbrev m : ℕ
-  m = t.part.ended
 
   -- the time of the instance
   abbrev now : ℕ
@@ -64,7 +70,7 @@ module _ (p : Plan) (w : Wiring) (rows : ℕ → ℕ → List ℤ) (own : IsOwn 
   env = env_at p.diagram p.samples p.batches rows i d m
 
   states_size : length states ≡ length d.states
-  states_size = ap length (sym ok.states) ∙ length-take-le (length d.states) t.work.now (omega (arith, shape.now))
+  states_size = ap length (sym has.states) ∙ length-take-le (length d.states) work.now (omega (arith, has.size))
 
   sensed_size : length sensed ≡ length d.senses
   sensed_size = length-map d.senses _
@@ -73,39 +79,39 @@ module _ (p : Plan) (w : Wiring) (rows : ℕ → ℕ → List ℤ) (own : IsOwn 
   words_size = length-map d.reads _
 
   -- the word of a read, where the task has put it
-  read_word : (j : ℕ) → j < length d.reads → get_or t.work.now (length d.states + length d.senses + j) (pos 0) ≡ get_or words j (pos 0)
+  read_word : (j : ℕ) → j < length d.reads → get_or work.now (length d.states + length d.senses + j) (pos 0) ≡ get_or words j (pos 0)
   read_word j inside =
       let n : (n : ℕ) × (n < length (wired w i).reads) × ((read_at (wired w i) n).read ≡ j) = own.turned i j below inside in
-      let taken : get_or t.work.now (place_of_read p w i n.0) (pos 0) ≡ meant p rows i (m + 1) (read_of p w i n.0) = ok.taken n.0 (omega (arith, all, n.1)) in
+      let taken : get_or work.now (place_of_read p w i n.0) (pos 0) ≡ meant p rows i (m + 1) (read_of p w i n.0) = has.taken n.0 n.1 in
       let time : m + 1 - 1 ≡ m = omega arith in
-      ap (λ (x : ℕ). get_or t.work.now (length d.states + length d.senses + x) (pos 0)) (sym n.2)
+      ap (λ (x : ℕ). get_or work.now (length d.states + length d.senses + x) (pos 0)) (sym n.2)
       ∙ taken
       ∙ ap (λ (x : ℕ). meant p rows i (m + 1) (get_or d.reads x no_read)) n.2
       ∙ ap (λ (x : ℕ). word_at p.diagram p.samples p.batches rows (get_or (times_of p.batches i) x 0) (get_or d.reads j no_read)) time
       ∙ sym (get_or-map (word_at p.diagram p.samples p.batches rows now) d.reads j no_read (pos 0) inside)
 
   -- what the instance begins with
-  pub given_is : (senses : List ℤ) → senses ≡ sensed → take (let_base d) (move.with_senses d senses t.work).now ≡ given
+  given_is : (senses : List ℤ) → senses ≡ sensed → take (let_base d) (move.with_senses d senses work).now ≡ given
   given_is senses same =
       let size : length senses ≡ length d.senses = ap length same ∙ sensed_size in
-      let front : List ℤ = take (length d.states) t.work.now in
-      let front_size : length front ≡ length d.states = length-take-le (length d.states) t.work.now (omega (arith, shape.now)) in
-      let rest : List ℤ = drop (length d.states + length senses) t.work.now in
-      let rest_size : length d.reads ≤ length rest = omega (arith, length-drop (length d.states + length senses) t.work.now, size, shape.now) in
+      let front : List ℤ = take (length d.states) work.now in
+      let front_size : length front ≡ length d.states = length-take-le (length d.states) work.now (omega (arith, has.size)) in
+      let rest : List ℤ = drop (length d.states + length senses) work.now in
+      let rest_size : length d.reads ≤ length rest = omega (arith, length-drop (length d.states + length senses) work.now, size, has.size) in
       let taken_size : length (take (length d.reads) rest) ≡ length d.reads = length-take-le (length d.reads) rest rest_size in
       let place : length d.states + length senses ≡ length d.states + length d.senses = omega arith in
       let reads : take (length d.reads) rest ≡ words = ext_get_or (pos 0) (take (length d.reads) rest) words (taken_size ∙ sym words_size) (λ j less.
       let inside : j < length d.reads = omega arith in
       get_or-take (length d.reads) rest j (pos 0) inside
-      ∙ get_or-drop (length d.states + length senses) t.work.now j (pos 0)
-      ∙ ap (λ (x : ℕ). get_or t.work.now (x + j) (pos 0)) place
+      ∙ get_or-drop (length d.states + length senses) work.now j (pos 0)
+      ∙ ap (λ (x : ℕ). get_or work.now (x + j) (pos 0)) place
       ∙ read_word j inside) in
       let joined : length (front ++ senses) ≡ length d.states + length d.senses = length-append front senses ∙ omega (arith, front_size, size) in
       ap (λ xs. take (let_base d) xs) (sym (append_assoc front senses rest))
       ∙ take_rest (front ++ senses) rest (length d.states + length d.senses) (length d.reads) joined
       ∙ ap (λ xs. (front ++ senses) ++ xs) reads
       ∙ ap (λ xs. (front ++ xs) ++ words) same
-      ∙ ap (λ xs. (xs ++ sensed) ++ words) ok.states
+      ∙ ap (λ xs. (xs ++ sensed) ++ words) has.states
 
   given_size : length given ≡ let_base d
   given_size = length-append (states ++ sensed) words ∙ omega (arith, length-append states sensed, states_size, sensed_size, words_size)
@@ -114,7 +120,7 @@ module _ (p : Plan) (w : Wiring) (rows : ℕ → ℕ → List ℤ) (own : IsOwn 
   env_is = env_from-is d given (own.whole.each_task i below).closed.order given_size
 
   -- its states and the words of its reads are as they were
-  pub env_states : take (length d.states) env ≡ states
+  env_states : take (length d.states) env ≡ states
   env_states =
       let size : length (take (length d.states) env) ≡ length d.states = length-take-le (length d.states) env (omega (arith, env_is.size)) in
       ext_get_or (pos 0) (take (length d.states) env) states (size ∙ sym states_size) (λ j less.
@@ -124,7 +130,7 @@ module _ (p : Plan) (w : Wiring) (rows : ℕ → ℕ → List ℤ) (own : IsOwn 
       ∙ get_or_append_left (states ++ sensed) words (pos 0) j (omega (arith, length-append states sensed, states_size))
       ∙ get_or_append_left states sensed (pos 0) j (omega (arith, states_size)))
 
-  pub env_reads : (n : ℕ) → n < length (wired w i).reads → get_or env (place_of_read p w i n) (pos 0) ≡ meant p rows i (m + 1) (read_of p w i n)
+  env_reads : (n : ℕ) → n < length (wired w i).reads → get_or env (place_of_read p w i n) (pos 0) ≡ meant p rows i (m + 1) (read_of p w i n)
   env_reads n few =
       let r : ℕ = (read_at (wired w i) n).read in
       let inside : r < length d.reads = ((own.whole.each_task i below).each_read n few).read in
@@ -133,16 +139,36 @@ module _ (p : Plan) (w : Wiring) (rows : ℕ → ℕ → List ℤ) (own : IsOwn 
       ∙ ap (λ (x : ℕ). get_or given (x + r) (pos 0)) (sym joined)
       ∙ get_or-append-add (states ++ sensed) words r (pos 0)
       ∙ sym (read_word r inside)
-      ∙ ok.taken n (omega (arith, all, few))
+      ∙ has.taken n few
 
-  pub row_is : outs_in d env ≡ rows i (m + 1)
+  row_is : outs_in d env ≡ rows i (m + 1)
   row_is =
       let one : m + 1 ≡ suc m = omega arith in
       sym (ap (rows i) one ∙ solves.each i (suc m) d (slice_get-get_or p.diagram.tasks i no_declared (omega (arith, below, own.whole.tasks))) (omega arith))
 
-  pub later_is : states_after d env (take (length d.states) env) ≡ states_at p.diagram p.samples p.batches rows i d (m + 1)
+  later_is : states_after d env (take (length d.states) env) ≡ states_at p.diagram p.samples p.batches rows i d (m + 1)
   later_is =
       let one : m + 1 ≡ suc m = omega arith in
       ap (λ xs. states_after d env xs) env_states
       ∙ sym (states_at-more p.diagram p.samples p.batches rows i d m)
       ∙ ap (λ (n : ℕ). states_at p.diagram p.samples p.batches rows i d n) (sym one)
+
+  -- the senses at the time of the instance
+  senses_are : map (λ x. input_value p.diagram.inputs p.samples x.input (time (wired w i) (m + 1))) d.senses ≡ sensed
+  senses_are =
+      let one : m + 1 - 1 ≡ m = omega arith in
+      ap (λ (t : ℕ). map (λ x. input_value p.diagram.inputs p.samples x.input t) d.senses)
+      (ap (λ (ts : List ℕ). get_or ts (m + 1 - 1) 0) (own.whole.each_task i below).times ∙ ap (λ (n : ℕ). get_or (times_of p.batches i) n 0) one)
+
+  computed_is : HasComputed p w rows i m (move.computed d given)
+  computed_is = record {
+    given = record { size = env_is.size; states = env_states; taken = env_reads };
+    row = row_is;
+    later = later_is;
+  }
+
+  -- what it computes with the values of its senses at that time is what the meaning computes
+  pub worked_is : HasComputed p w rows i m (move.worked d (map (λ x. input_value p.diagram.inputs p.samples x.input (time (wired w i) (m + 1))) d.senses) work)
+  worked_is =
+      let senses : List ℤ = map (λ x. input_value p.diagram.inputs p.samples x.input (time (wired w i) (m + 1))) d.senses in
+      subst (λ (g : List ℤ). HasComputed p w rows i m (move.computed d g)) (sym (given_is senses senses_are)) computed_is

@@ -1,8 +1,7 @@
 -- Each allowed step keeps a state sound.
-use Rattle.std.proofs.Common.{◌≡◌, ℕ, ℤ, ◌+◌, ◌-◌, ◌<◌, ◌≤◌, List, length, get_or, map, Option, Some, None, refl, sym, ◌∙◌, ap, subst, arith, inl}
+use Rattle.std.proofs.Common.{◌≡◌, ℕ, ℤ, ◌+◌, ◌<◌, ◌≤◌, List, length, Option, Some, None, refl, sym, ap, subst, arith, inl}
 use Rattle.dbp_plan.specs.declared.plan.Plan.{Plan}
 use Rattle.dbp_plan.specs.Occurrences.{times_of}
-use Rattle.dbp_plan.specs.Samples.{input_value}
 use Rattle.dbp_plan.specs.Lookups.{declared}
 use Rattle.std.specs.Prelude.{Result}
 use Rattle.sync_meaning.proofs.OneMeaning.{meaning_solves}
@@ -17,7 +16,6 @@ use Rattle.dbp_rules.specs.Sound.{Sound}
 use Rattle.dbp_rules.specs.SoundParts.{TaskSound, filled_by, taken_by}
 use Rattle.dbp_rules.specs.Wired.{wiring_of}
 use Rattle.dbp_rules.specs.declared.parts.Place.TheVariants as place
-use Rattle.dbp_rules.specs.declared.state.Slot.{Slot}
 use Rattle.dbp_rules.specs.declared.state.State.{State}
 use Rattle.dbp_rules.specs.declared.step.Broken.TheVariants as broken
 use Rattle.dbp_rules.specs.declared.step.Count.{Count}
@@ -27,12 +25,11 @@ use Rattle.dbp_rules.specs.declared.step.Step.{Step}
 use Rattle.dbp_rules.specs.declared.step.Step.TheVariants.{Seen, Aim, Claim, OpenGate, Start, Hear, Look, Take, Shut, Put, Done, End}
 use Rattle.dbp_rules.specs.declared.wiring.Wiring.{Wiring}
 use Rattle.dbp_rules.proofs.Allowed.{at_next, or_else_none}
-use Rattle.dbp_rules.proofs.SoundComputing.{env_reads, env_states, given_is, later_is, row_is}
-use Rattle.dbp_rules.proofs.SoundLooks.{own_time_is}
+use Rattle.dbp_rules.proofs.SoundComputing.{HasComputed, HasItsWords, worked_is}
 use Rattle.dbp_rules.proofs.SoundOwn.{IsOwn, own_wiring}
 use Rattle.dbp_rules.proofs.SoundReading.{hear_sound, look_sound, start_sound, take_sound}
 use Rattle.dbp_rules.proofs.SoundReleaser.{aim_sound, claim_sound, open_sound, seen_sound}
-use Rattle.dbp_rules.proofs.SoundWriting.{Writes, done_sound, end_sound, put_sound, write_sound}
+use Rattle.dbp_rules.proofs.SoundWriting.{done_sound, end_sound, put_sound, write_sound}
 use Rattle.dbp_rules.proofs.StateKept.{step_kept}
 
 module _ (p : Plan) (w : Wiring) (rows : ℕ → ℕ → List ℤ) (s : State) (own : IsOwn p w) (solves : Solves p.diagram p.samples p.batches rows) (sound : Sound p w rows s) where
@@ -49,25 +46,20 @@ module _ (p : Plan) (w : Wiring) (rows : ℕ → ℕ → List ℤ) (s : State) (
       let taken : taken_by (length (wired w i).reads) (task s i).part.place ≡ length (wired w i).reads = ap (taken_by (length (wired w i).reads)) at in
       let few : (task_entry s i).aimed ≤ length (times_of p.batches i) = omega (arith, sound.shape.aimed i below, own.whole.releases.aims_times s.releaser.place i) in
       let room : (task s i).part.ended < length (times_of p.batches i) = omega (arith, fits.gate, fits.aimed) in
-      let one : (task s i).part.ended + 1 - 1 ≡ (task s i).part.ended = omega arith in
-      let time : rule.own_time w s i ≡ get_or (times_of p.batches i) (task s i).part.ended 0 = own_time_is p w s i own.whole below ∙ ap (λ (n : ℕ). get_or (times_of p.batches i) n 0) one in
-      let senses : rule.sensed p w s i ≡ map (λ x. input_value p.diagram.inputs p.samples x.input (get_or (times_of p.batches i) (task s i).part.ended 0)) (declared p i).senses =
-      ap (λ (n : ℕ). map (λ x. input_value p.diagram.inputs p.samples x.input n) (declared p i).senses) time in
-      let x : Slot = record (slot_at (task s i).words.slots (move.own_slot (task s i).part)) { stamp = 0 } in
+      let has : HasItsWords p w rows i (task s i).part.ended (task s i).work = record { size = fits.now; states = ok.states; taken = λ n less. ok.taken n (omega (arith, taken, less)) } in
+      let done : HasComputed p w rows i (task s i).part.ended (move.worked (declared p i) (rule.sensed p w s i) (task s i).work) = worked_is p w rows own solves i (task s i).part.ended (task s i).work below room has in
       write_sound p w rows s own sound i (place.Put 0) (record (slot_at (task s i).words.slots (move.own_slot (task s i).part)) { stamp = 0 }) (move.worked (declared p i) (rule.sensed p w s i) (task s i).work) below
       (step_kept p w s sound.shape (Shut i) named free) both.1 busy from all (inl (omega (arith, fits.gate, fits.aimed)))
-      (subst (λ (g : List ℤ). Writes p w rows i (task s i).part.ended (task_entry s i).aimed (place.Put 0) (record (slot_at (task s i).words.slots (move.own_slot (task s i).part)) { stamp = 0 }) (move.computed (declared p i) g))
-      (sym (given_is p w rows own solves i below (task_entry s i) (task s i) ok fits taken room (rule.sensed p w s i) senses))
       (record {
         whole = λ l stamp. absurd (omega arith);
         filled = λ more. absurd (omega (arith, fits.gate, fits.aimed));
         filling = λ _. refl;
         put = λ port less. absurd (omega arith);
-        states = env_states p w rows own solves i below (task_entry s i) (task s i) ok fits taken room;
-        taken = λ n less. env_reads p w rows own solves i below (task_entry s i) (task s i) ok fits taken room n less;
-        row = row_is p w rows own solves i below (task_entry s i) (task s i) ok fits taken room;
-        later = λ _. later_is p w rows own solves i below (task_entry s i) (task s i) ok fits taken room;
-      }))
+        states = done.given.states;
+        taken = done.given.taken;
+        row = done.row;
+        later = λ _. done.later;
+      })
       (λ n takes. absurd (cc (takes)))
 
   pub step_sound : (e : Step) → rule.IsNamed p.diagram e → rule.refusal w s e ≡ None → Sound p w rows (rule.next p w s e)

@@ -1,4 +1,4 @@
--- When a look finds its row: over a delayed link always, and under `Ranked` wherever it is allowed. And what an allowed step says of the claims on the task's own slot.
+-- When a look finds its row: if the writer has filled it, which it has over a delayed link, and under `Ranked` wherever the look is allowed. And what an allowed step says of the claims on the task's own slot.
 use Rattle.std.proofs.Common.{◌≡◌, ℕ, zero, suc, ℤ, ◌+◌, ◌-◌, ◌<◌, ◌≤◌, Bool, true, false, List, length, get_or, Some, None, refl, sym, ◌∙◌, ap, subst, arith, inl, inr}
 use Rattle.std.specs.Prelude.{nat_le}
 use Rattle.std.proofs.lemmas.Bool.{cases_Bool, cases_lt, eq-eqb, lt-ltb, ltb-false}
@@ -12,10 +12,11 @@ use Rattle.dbp_plan.specs.Times.{Rises, has_come, times-rise}
 use Rattle.dbp_plan.specs.Lookups.{link_at, declared}
 use Rattle.release_list.specs.Schedule.{aims, seen_by}
 use Rattle.dbp_rules.specs.Places.{counts_link, is_counted, link, link_entry, slot_at, task, task_entry, time, wired}
+use Rattle.dbp_rules.specs.Promises.{IsClaimFilled}
 use Rattle.dbp_rules.specs.Rules as rule
 use Rattle.dbp_rules.specs.Shapes.{IsWired, PlaceIn, TaskShape, heard_by, running}
 use Rattle.dbp_rules.specs.Sound.{Sound}
-use Rattle.dbp_rules.specs.SoundParts.{LinkSound, Stands, TaskSound, passed, read_of}
+use Rattle.dbp_rules.specs.SoundParts.{Stands, TaskSound, last_filled, passed, read_of}
 use Rattle.dbp_rules.specs.declared.parts.Order.{Order}
 use Rattle.dbp_rules.specs.declared.parts.Place.{Place}
 use Rattle.dbp_rules.specs.declared.parts.Place.TheVariants as place
@@ -26,7 +27,7 @@ use Rattle.dbp_rules.specs.declared.step.Count.TheVariants.{All, Ranked}
 use Rattle.dbp_rules.specs.declared.wiring.Wiring.{Wiring}
 use Rattle.dbp_rules.proofs.Allowed.{none_found}
 use Rattle.dbp_rules.proofs.SoundOwn.{IsOwn, IsOwnRead, claims_aims, seen_aims}
-use Rattle.dbp_rules.proofs.SoundReading.{claimed_instance, claimed_number, read_claim, read_from}
+use Rattle.dbp_rules.proofs.SoundReading.{claimed_instance, claimed_number, read_claim, read_from, read_ready}
 
 pub passed_below : (b : Bool) (known ended instance : ℕ) → known ≤ ended → ended < instance → passed b known ended < instance
 passed_below true known ended instance less below = omega arith
@@ -106,34 +107,49 @@ module _ (p : Plan) (w : Wiring) (rows : ℕ → ℕ → List ℤ) (s : State) (
         let told : (rule.read_order w s i n).number ≡ (link_entry s k).number = ap (λ (x : Order). x.number) (read_claim p w rows s own sound i n below few all) in
         eq-eqb (rule.read_slot w s i n).stamp ((rule.read_order w s i n).number + 1) (from ∙ ap (λ (x : ℕ). x + 1) (sym told))
 
-    -- over a delayed link a look finds its row
-    pub delayed_ready : 0 < (link w (read_of p w i n).link).delay → rule.is_ready w s i n ≡ true
-    delayed_ready late =
-        let old : LinkSound p w k (link_entry s k) (task_entry s (link w k).writer) (task s (link w k).writer) (task_entry s (link w k).reader) (task s (link w k).reader) = sound.links k read.below in
+    writer : (link w k).writer < length w.tasks
+    writer = own.whole.writer k read.below
+
+    -- where the writer has filled the claimed row, a look finds it
+    pub filled_ready : IsClaimFilled w s (read_of p w i n).link → rule.is_ready w s i n ≡ true
+    filled_ready filled = elim ((sound.links k read.below).holds stands) [
+      | inl stamp ↦ is_there stamp
+      | inr coming ↦ absurd (omega (arith, coming.2, filled))
+    ]
+
+    -- and only there
+    pub ready_filled : rule.is_ready w s i n ≡ true → IsClaimFilled w s (read_of p w i n).link
+    ready_filled is =
+        let stamp : (slot_at (task s (link w k).writer).words.slots (link_entry s k).slot).stamp ≡ (link_entry s k).number + 1 = read_ready p w rows s own sound i n below few all is in
+        ((sound.tasks (link w k).writer writer).whole (link_entry s k).slot (link_entry s k).number (sound.shape.each_link k read.below).claim.0 stamp).0
+
+    -- the claimed row is no later than the writer's last aimed one, less the delay
+    number_aimed : (link_entry s k).number ≤ (task_entry s (link w k).writer).aimed - (link w k).delay
+    number_aimed =
         let number : (link_entry s k).number ≡ seen_by w.links p.batches k (link_entry s k).instance - (link w k).delay = (sound.claims k read.below).number in
         let seen : seen_by w.links p.batches k (link_entry s k).instance ≤ aims w.releases s.releaser.place (link w k).writer = rw (sound.claims k read.below).instance (seen_aims p w own.whole s.releaser.place k read.below) in
-        let aimed : (task_entry s (link w k).writer).aimed ≡ aims w.releases s.releaser.place (link w k).writer = sound.shape.aimed (link w k).writer (own.whole.writer k read.below) in
-        elim (old.holds stands) [
-          | inl stamp ↦ is_there stamp
-          | inr coming ↦ absurd (omega (arith, coming.1, coming.2, number, seen, aimed, late))
-        ]
+        omega (arith, number, seen, sound.shape.aimed (link w k).writer writer)
 
-    -- under `Ranked` an allowed look finds its row
+    -- over a delayed link the writer has filled it
+    pub delayed_ready : 0 < (link w (read_of p w i n).link).delay → rule.is_ready w s i n ≡ true
+    delayed_ready late =
+        let ok : TaskSound p w rows (link w k).writer (task_entry s (link w k).writer) (task s (link w k).writer) = sound.tasks (link w k).writer writer in
+        filled_ready (omega (arith, number_aimed, late, ok.known, ok.ended, ok.aimed))
+
+    -- under `Ranked` it has where the look is allowed
     pub ranked_ready : w.count ≡ Ranked → rule.unblocked w.count w s i ≡ None → rule.is_ready w s i n ≡ true
     ranked_ready ranked free = elim (cases_lt 0 (link w k).delay) [
       | inl late ↦ delayed_ready late
       | inr now ↦
           let v : ℕ = (link w k).writer in
-          let writer : v < length w.tasks = own.whole.writer k read.below in
           let direct : (link w k).delay ≡ 0 = omega arith in
-          let old : LinkSound p w k (link_entry s k) (task_entry s v) (task s v) (task_entry s (link w k).reader) (task s (link w k).reader) = sound.links k read.below in
-          elim (old.holds stands) [
-            | inl stamp ↦ is_there stamp
-            | inr coming ↦
+          elim (cases_lt (last_filled (task s v)) (link_entry s k).number) [
+            | inr filled ↦ filled_ready filled
+            | inl coming ↦
                 let above : (wired w v).rank < (wired w i).rank = omega (arith, own.downward k read.below direct, ap (λ x. (wired w x).rank) read.reader) in
                 let number : (link_entry s k).number ≡ count_until (times_of p.batches v) (time_of p.batches i ((task s i).part.ended + 1)) - (link w k).delay = claimed_number p w rows s own sound i k read.below read.reader (ap running at) in
-                let later : rule.own_time w s i < rule.own_time w s v = higher_later w s i v free ranked writer above (omega (arith, coming.1, coming.2)) in
-                let soon : time_of p.batches v ((task s v).part.ended + 1) ≤ time_of p.batches i ((task s i).part.ended + 1) = come p v (task s v).part.ended (time_of p.batches i ((task s i).part.ended + 1)) (omega (arith, coming.2, number, direct)) in
+                let later : rule.own_time w s i < rule.own_time w s v = higher_later w s i v free ranked writer above (omega (arith, coming, number_aimed)) in
+                let soon : time_of p.batches v ((task s v).part.ended + 1) ≤ time_of p.batches i ((task s i).part.ended + 1) = come p v (task s v).part.ended (time_of p.batches i ((task s i).part.ended + 1)) (omega (arith, coming, number, direct)) in
                 absurd (omega (arith, later, soon, own_time_is p w s i own.whole below, own_time_is p w s v own.whole writer))
           ]
     ]

@@ -1,11 +1,9 @@
 -- What a plan's own wiring says of its links and reads, and what the plan's schedule says in the wiring's words.
 use Rattle.std.proofs.Common.{◌≡◌, ◌≢◌, ℕ, ◌+◌, ◌<◌, ◌≤◌, true, List, length, get_or, slice_get, Some, sym, ◌∙◌, ap, subst, arith, inl, inr}
 use Rattle.std.specs.Prelude.{◌==◌}
-use Rattle.std.specs.List.{enumerate_from, position_or_len}
-use Rattle.std.proofs.lemmas.Bool.{cases_eq, eqb-true}
-use Rattle.std.proofs.lemmas.List.Sums.{passes_at_first}
-use Rattle.std.proofs.lemmas.List.FromFn.{length-enumerate_from}
-use Rattle.std.proofs.lemmas.Option.{get_or_from_slice_get, slice_get-get_or}
+use Rattle.std.specs.List.{position_or_len}
+use Rattle.std.proofs.lemmas.Bool.{cases_eq}
+use Rattle.std.proofs.lemmas.Option.{slice_get-get_or}
 use Rattle.dbp_plan.specs.declared.diagram.Link.{Link}
 use Rattle.dbp_plan.specs.declared.diagram.Read.{Read}
 use Rattle.dbp_plan.specs.declared.diagram.Task.{Task}
@@ -25,10 +23,9 @@ use Rattle.dbp_rules.specs.declared.wiring.Wiring.{Wiring}
 use Rattle.dbp_rules.specs.Places.{link, read_at, wired}
 use Rattle.dbp_rules.specs.Shapes.{IsWired, link_in}
 use Rattle.dbp_rules.specs.SoundParts.{read_of}
-use Rattle.dbp_rules.specs.Wired.{in_turn, read_wiring, task_wiring, turn_of, wiring_of}
+use Rattle.dbp_rules.specs.Wired.{in_turn, is_sooner, read_wiring, task_wiring, turn_of, wiring_of}
 use Rattle.dbp_rules.proofs.IntoTask.{into_reader, link_below, link_into, link_place, link_there}
-use Rattle.dbp_rules.proofs.Turns.{in_turn_at, read_of_turn, turn_apart, turn_below, turn_taken}
-use Rattle.dbp_rules.proofs.Numbered.{numbered_place}
+use Rattle.dbp_rules.proofs.Turns.{numbered_read, read_of_turn, turn_again, turn_apart, turn_below, turns_rise}
 use Rattle.dbp_rules.proofs.Wirings.{turn, wiring-whole}
 use Rattle.dbp_rules.proofs.WiringParts.{wired_is}
 
@@ -57,13 +54,6 @@ pub record IsOwn (p : Plan) (w : Wiring) : Type 0 where
   -- turns with the same read are the same
   pub turns : (i n m : ℕ) → i < length w.tasks → n < length (wired w i).reads → m < length (wired w i).reads → (read_at (wired w i) n).read ≡ (read_at (wired w i) m).read → n ≡ m
 
--- the turn of the read that stands at a turn
-turn_again : (reads : List Read) (n : ℕ) → n < length reads → turn_of reads (get_or (enumerate_from 0 reads) (get_or (in_turn reads) n 0) (0, no_read)) ≡ n
-turn_again reads n few =
-    let place : ℕ = position_or_len (λ r. turn_of reads r == n) (enumerate_from 0 reads) in
-    let passes : (turn_of reads (get_or (enumerate_from 0 reads) place (0, no_read)) == n) ≡ true = passes_at_first (λ r. turn_of reads r == n) (enumerate_from 0 reads) (0, no_read) (turn_taken reads n few) in
-    ap (λ (k : ℕ). turn_of reads (get_or (enumerate_from 0 reads) k (0, no_read))) (in_turn_at reads n 0 few) ∙ eqb-true (turn_of reads (get_or (enumerate_from 0 reads) place (0, no_read))) n passes
-
 -- the read that stands at the turn of a read is that read
 turn_found : (reads : List Read) (j : ℕ) → j < length reads → get_or (in_turn reads) (turn_of reads (j, get_or reads j no_read)) 0 ≡ j
 turn_found reads j below =
@@ -72,10 +62,7 @@ turn_found reads j below =
     let few : n < length reads = turn_below reads j (get_or reads j no_read) at in
     let k : ℕ = get_or (in_turn reads) n 0 in
     let inside : k < length reads = read_of_turn reads n 0 few in
-    let again : turn_of reads (get_or (enumerate_from 0 reads) k (0, no_read)) ≡ n = turn_again reads n few in
-    let whole : k < length (enumerate_from 0 reads) = omega (arith, inside, length-enumerate_from 0 reads) in
-    let there : get_or (enumerate_from 0 reads) k (0, no_read) ≡ (k, get_or reads k no_read) = get_or_from_slice_get (enumerate_from 0 reads) k (k, get_or reads k no_read) (0, no_read) (numbered_place reads k (get_or reads k no_read) (slice_get-get_or reads k no_read inside)) in
-    let turn : turn_of reads (k, get_or reads k no_read) ≡ n = ap (λ (q : ℕ × Read). turn_of reads q) (sym there) ∙ again in
+    let turn : turn_of reads (k, get_or reads k no_read) ≡ n = turn_again reads n few in
     elim (cases_eq k j) [
       | inl same ↦ same
       | inr other ↦ absurd (turn_apart reads k j (get_or reads k no_read) (get_or reads j no_read) (slice_get-get_or reads k no_read inside) at other turn)
@@ -100,6 +87,13 @@ module _ (p : Plan) (count : Count) where
 
     read_number : (n : ℕ) → n < length t.reads → (read_at (wired o i) n).read ≡ get_or (in_turn t.reads) n 0
     read_number n few = ap (λ (x : TaskWiring). (read_at x n).read) is ∙ ap (λ (x : ReadWiring). x.read) (turn p count i below n few)
+
+    -- the read of an earlier turn is sooner
+    pub own_rise : (m n : ℕ) → m < n → n < length t.reads → is_sooner ((read_at (wired o i) m).read, read_of p o i m) ((read_at (wired o i) n).read, read_of p o i n) ≡ true
+    own_rise m n less few =
+        let numbered : (k : ℕ) → k < length t.reads → numbered_read t.reads k ≡ ((read_at (wired o i) k).read, read_of p o i k) = λ k inside. ap (λ (j : ℕ). (j, get_or t.reads j no_read)) (sym (read_number k inside)) in
+        subst (λ (x : ℕ × Read). is_sooner x ((read_at (wired o i) n).read, read_of p o i n) ≡ true) (numbered m (omega arith))
+        (subst (λ (x : ℕ × Read). is_sooner (numbered_read t.reads m) x ≡ true) (numbered n few) (turns_rise t.reads m n less few))
 
     own_read : (n : ℕ) → n < length t.reads → IsOwnRead p o i n
     own_read n few =
@@ -164,7 +158,7 @@ module _ (p : Plan) (count : Count) where
             let reads : List Read = (declared p i).reads in
             let size : length (wired o i).reads ≡ length reads = (whole.each_task i below).reads in
             let numbers : get_or (in_turn reads) n 0 ≡ get_or (in_turn reads) m 0 = sym (read_number i there n (omega arith)) ∙ same ∙ read_number i there m (omega arith) in
-            sym (turn_again reads n (omega arith)) ∙ ap (λ (k : ℕ). turn_of reads (get_or (enumerate_from 0 reads) k (0, no_read))) numbers ∙ turn_again reads m (omega arith);
+            sym (turn_again reads n (omega arith)) ∙ ap (λ (k : ℕ). turn_of reads (k, get_or reads k no_read)) numbers ∙ turn_again reads m (omega arith);
       }
 
 -- ---- the schedule, in the wiring's words

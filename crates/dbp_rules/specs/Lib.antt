@@ -7,6 +7,7 @@ pub mod Shapes
 pub mod Start
 pub mod Wired
 pub mod Work
+pub mod InputValues
 pub mod SoundParts
 pub mod Sound
 pub mod Lawful

@@ -9,9 +9,11 @@ use Rattle.dbp_slots.specs.FreeSlot.{IsLeastFree}
 use Rattle.sync_meaning.specs.Meaning.{IsRead}
 use Rattle.dbp_rules.specs.Moves.{own_slot}
 use Rattle.dbp_rules.specs.PartyRules.{claimed_in, has_claim_in}
-use Rattle.dbp_rules.specs.Places.{link, link_entry, slot_at, task, task_entry, wired}
+use Rattle.dbp_rules.specs.Places.{entry_in, link, link_entry, slot_at, task, task_entry, wired}
 use Rattle.dbp_rules.specs.Rules.{hears, next, refusal, staying}
+use Rattle.dbp_rules.specs.SoundParts.{last_filled}
 use Rattle.dbp_rules.specs.TenParts.{IsStanding, slot_of_claim}
+use Rattle.dbp_rules.specs.declared.parts.ReleaserPart.{ReleaserPart}
 use Rattle.dbp_rules.specs.declared.state.State.{State}
 use Rattle.dbp_rules.specs.declared.step.Heard.TheVariants.{Word}
 use Rattle.dbp_rules.specs.declared.step.Step.{Step}
@@ -31,6 +33,12 @@ pub record TakesTheMeaning (p : Plan) (w : Wiring) (table : Table) (s : State) (
   pub word : ℤ
   pub hears : hears w s (Take i r) ≡ Word word
   pub meant : IsMeant p table i ((task s i).part.ended + 1) r word
+
+-- ---- what a look finds
+
+-- the link's writer has filled the row that is claimed over it
+abbrev pub IsClaimFilled : Wiring → State → ℕ → Type 0
+IsClaimFilled w s k = (link_entry s k).number ≤ last_filled (task s (link w k).writer)
 
 -- ---- claimed slots
 
@@ -66,8 +74,11 @@ abbrev pub claimed_of : Wiring → State → ℕ → List ℕ
 claimed_of w s i = claimed_in w s.releaser i
 
 -- the claimed slots and those that stay kept are fewer than the task's slots
+abbrev pub HasFreeSlotIn : Wiring → ReleaserPart → ℕ → Type 0
+HasFreeSlotIn w r i = length (claimed_in w r i) + length (staying (entry_in r i)) < (wired w i).slots
+
 abbrev pub HasFreeSlot : Wiring → State → ℕ → Type 0
-HasFreeSlot w s i = length (claimed_of w s i) + length (staying (task_entry s i)) < (wired w i).slots
+HasFreeSlot w s i = HasFreeSlotIn w s.releaser i
 
 -- the least slot that is in neither may be aimed at, and is the least that may
 pub record IsLeastAim (w : Wiring) (s : State) (i slot : ℕ) : Type 0 where

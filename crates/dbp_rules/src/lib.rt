@@ -8,6 +8,7 @@ mod next_steps;
 mod parts;
 mod party_laws;
 mod releaser_steps;
+mod sensing;
 mod soundness;
 mod start;
 mod state;
@@ -30,7 +31,8 @@ pub use party_laws::{
     sound_parts_are_in_shape,
 };
 pub use soundness::{
-    a_slot_is_free_for_each_aim, a_sound_delayed_look_is_ready, a_sound_ranked_look_is_ready,
+    a_slot_is_free_for_each_aim, a_sound_delayed_look_is_ready,
+    a_sound_look_for_a_filled_row_is_ready, a_sound_ranked_look_is_ready,
     a_sound_take_hears_the_meaning, a_step_keeps_a_state_sound, a_step_spares_claimed_rows,
     a_step_stores_one_word, an_aim_spares_claimed_slots, soundness_has_ten_parts,
     the_start_is_sound,

@@ -10,7 +10,7 @@ ghost use Rattle.release_list.specs.declared.release.Release.TheVariants.{Aim as
 ghost use Rattle.sync_meaning.specs.Meaning.{IsMeaning};
 ghost use Rattle.sync_meaning.specs.SomeMeaningTables.{rows_in};
 ghost use Rattle.dbp_rules.specs.Places.{link, task_entry, wired};
-ghost use Rattle.dbp_rules.specs.Promises.{HasFreeSlot, IsLeastAim, IsUnclaimed, SparesClaims, TakesTheMeaning, claimed_of};
+ghost use Rattle.dbp_rules.specs.Promises.{HasFreeSlot, IsClaimFilled, IsLeastAim, IsUnclaimed, SparesClaims, TakesTheMeaning, claimed_of};
 ghost use Rattle.dbp_rules.specs.Rules.{IsNamed, hears, next, refusal, staying};
 ghost use Rattle.dbp_rules.specs.SharedWords.{KeepsOtherParts, KeepsOtherWords, made_by, stored_by};
 ghost use Rattle.dbp_rules.specs.Sound.{Sound};
@@ -75,6 +75,14 @@ pub fn a_slot_is_free_for_each_aim()
 pub fn a_sound_take_hears_the_meaning()
     ensures { (p : Plan) (count : Count) (table : Table) (s : State) (i r : ℕ) → IsMeaning p.diagram p.samples p.batches table → Sound p (wiring_of p count) (rows_in table) s
         → i < length p.diagram.tasks → refusal (wiring_of p count) s (Take i r) ≡ None → TakesTheMeaning p (wiring_of p count) table s i r }
+{}
+
+/// An allowed look finds its row if the writer has filled it, and only then.
+pub fn a_sound_look_for_a_filled_row_is_ready()
+    ensures ready { (p : Plan) (count : Count) (rows : ℕ → ℕ → Items ℤ) (s : State) (i r : ℕ) → Sound p (wiring_of p count) rows s → i < length p.diagram.tasks → refusal (wiring_of p count) s (Look i r) ≡ None
+        → IsClaimFilled (wiring_of p count) s (slice_index_or (declared p i).reads r no_read).link → hears (wiring_of p count) s (Look i r) ≡ Ready }
+    ensures filled { (p : Plan) (count : Count) (rows : ℕ → ℕ → Items ℤ) (s : State) (i r : ℕ) → Sound p (wiring_of p count) rows s → i < length p.diagram.tasks → refusal (wiring_of p count) s (Look i r) ≡ None
+        → hears (wiring_of p count) s (Look i r) ≡ Ready → IsClaimFilled (wiring_of p count) s (slice_index_or (declared p i).reads r no_read).link }
 {}
 
 /// An allowed look over a delayed link finds its row.

@@ -1,14 +1,15 @@
 // The values of a task's senses at a time.
 
-ghost use Rattle.std.specs.Prelude.{◌≡◌, ◌+◌, ◌<◌, ◌≤◌, All, length, map, nat_le, filter, slice_index_or, ◌==◌};
+ghost use Rattle.std.specs.Prelude.{◌≡◌, ◌+◌, ◌<◌, ◌≤◌, All, length, map};
 ghost use Rattle.std.specs.List.Sorted.{IsNonDecreasingBy};
 ghost use Rattle.dbp_plan.specs.Samples.{input_value};
+ghost use Rattle.dbp_rules.specs.InputValues.{value_until};
 ghost use Rattle.dbp_rules.specs.Moves as move;
-ghost use Rattle.dbp_core.specs.Sensed.{value_until};
 ghost use Rattle.dbp_rules.specs.Shapes.{HasSamples};
 
+use crate::wiring::Wiring;
+use crate::work::Work;
 use dbp_plan::{Input, Plan, Sample, Task};
-use dbp_rules::{Wiring, Work};
 
 // The value of an input at the time, from its samples in order.
 fn value_at(input: &Input, samples: &[Sample], time: u64) -> i64
@@ -34,16 +35,19 @@ fn input_at(plan: &Plan, wiring: &Wiring, input: u32, time: u64) -> i64
     value_at(declared, samples.items(), time)
 }
 
-// Gives the senses the values of their inputs at the time.
-pub(crate) fn sense(plan: &Plan, wiring: &Wiring, task: &Task, work: &mut Work, time: u64)
-    requires samples { HasSamples plan.now wiring.now.samples }
-    requires inputs { All (λ x. x.input < length plan.now.diagram.inputs) task.now.senses }
-    requires room { length task.now.states + length task.now.senses ≤ length work.old.now }
-    ensures { work.new ≡ move.with_senses task.now (map (λ x. input_value plan.now.diagram.inputs plan.now.samples x.input time) task.now.senses) work.old }
-{
-    let mut place = task.states.len() as usize;
-    for sense in task.senses.items() {
-        work.set(place, input_at(plan, wiring, sense.input, time));
-        place += 1;
+impl Work {
+    /// Gives the task's senses the values of their inputs at the time: that of an input's last sample at or before it,
+    /// or its first value if there is none.
+    pub fn sense(&mut self, plan: &Plan, wiring: &Wiring, task: &Task, time: u64)
+        requires samples { HasSamples plan.now wiring.now.samples }
+        requires inputs { All (λ x. x.input < length plan.now.diagram.inputs) task.now.senses }
+        requires room { length task.now.states + length task.now.senses ≤ length self.old.now }
+        ensures { self.new ≡ move.with_senses task.now (map (λ x. input_value plan.now.diagram.inputs plan.now.samples x.input time) task.now.senses) self.old }
+    {
+        let mut place = task.states.len() as usize;
+        for sense in task.senses.items() {
+            self.set(place, input_at(plan, wiring, sense.input, time));
+            place += 1;
+        }
     }
 }

@@ -7,8 +7,8 @@ use Rattle.dbp_plan.specs.Places.{read_place}
 use Rattle.dbp_plan.specs.Samples.{input_value}
 use Rattle.dbp_rules.specs.Moves.{with_now, with_senses}
 use Rattle.dbp_rules.specs.Work.{WorkWords}
-use Rattle.dbp_core.proofs.InputValues.{sense_more}
-use Rattle.dbp_core.proofs.sensing.sense.Goals as goal
+use Rattle.dbp_rules.proofs.InputValues.{sense_more}
+use Rattle.dbp_rules.proofs.work.Work.sense.Goals as goal
 use mir.Val.{to_z, of_z}
 
 pub loop-sense-preserved : goal.loop-sense-preserved
@@ -24,6 +24,6 @@ loop-sense-preserved c =
       work =
           rw shown at c.set.ensures
           ∙ ap (λ (w : WorkWords). with_now w c.loop-sense.place c.input_at.result) c.loop-sense.invariant.work
-          ∙ ap (λ (n : ℕ). with_now (with_senses c.args.task.now (take c.loop-sense.sense-index (map value c.args.task.now.senses)) c.args.work.now) n c.input_at.result) c.loop-sense.invariant.place
-          ∙ sense_more c.args.task.now c.args.work.now (map value c.args.task.now.senses) c.loop-sense.sense-index c.input_at.result here (omega (arith, size, c.requires.room));
+          ∙ ap (λ (n : ℕ). with_now (with_senses c.args.task.now (take c.loop-sense.sense-index (map value c.args.task.now.senses)) c.args.self.now) n c.input_at.result) c.loop-sense.invariant.place
+          ∙ sense_more c.args.task.now c.args.self.now (map value c.args.task.now.senses) c.loop-sense.sense-index c.input_at.result here (omega (arith, size, c.requires.room));
     }
