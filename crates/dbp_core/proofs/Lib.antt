@@ -1,0 +1,2 @@
+pub mod RankMasks
+pub mod ClaimedSlots

@@ -6,26 +6,35 @@ ghost use Rattle.dbp_rules.specs.Places.{task, wired};
 ghost use Rattle.dbp_rules.specs.Rules as rule;
 ghost use Rattle.dbp_rules.specs.Rules.{IsNamed, IsStep};
 ghost use Rattle.dbp_rules.specs.Shapes.{IsShape, PlaceIn};
+ghost use Rattle.dbp_core.specs.Unfinished.{HasUnfinished};
 
 use crate::conditions::blocked;
 use crate::look_up::{declared_at, task_at, wired_at};
+use crate::rank_mask::RankMask;
 use crate::releaser::{aim, claim, open, see};
 use crate::steps::{end, finish, hear, is_open, look, put, read_word, shut, start, take};
 use dbp_plan::Plan;
 use dbp_rules::{Heard, Illegal, Place, State, Step, Wiring};
 
 // Why the task may not make the step, if that is so: its own part, or else a task that is ranked above it.
-fn forbidden(wiring: &Wiring, state: &State, i: u32, step: Step) -> Option<Illegal>
+fn forbidden(
+    wiring: &Wiring,
+    state: &State,
+    unfinished: RankMask,
+    i: u32,
+    step: Step,
+) -> Option<Illegal>
     requires wired { i < length wiring.now.tasks }
     requires tasks { length state.now.tasks ≡ length wiring.now.tasks }
     requires entries { length state.now.releaser.tasks ≡ length wiring.now.tasks }
     requires place { PlaceIn (wired wiring.now i) (task state.now i).part.place }
+    requires ranks { HasUnfinished wiring.now state.now unfinished }
     ensures { result ≡ rule.forbidden wiring.now state.now i step }
 {
     if let Some(why) = not_next(wiring, state, i, step) {
         return Some(why);
     }
-    blocked(wiring, state, i)
+    blocked(wiring, state, unfinished, i)
 }
 
 // Why the step isn't the task's next one, if that is so.
@@ -80,9 +89,16 @@ fn step_claim(plan: &Plan, wiring: &Wiring, state: &mut State, k: u32) -> Result
     Ok(Heard::Stored)
 }
 
-fn step_start(plan: &Plan, wiring: &Wiring, state: &mut State, i: u32) -> Result<Heard, Illegal>
+fn step_start(
+    plan: &Plan,
+    wiring: &Wiring,
+    state: &mut State,
+    unfinished: RankMask,
+    i: u32,
+) -> Result<Heard, Illegal>
     requires task { i < length wiring.now.tasks }
     requires shape { IsShape plan.now wiring.now state.old }
+    requires ranks { HasUnfinished wiring.now state.old unfinished }
     ensures { IsStep plan.now wiring.now state.old (Step.Start i) result state.new }
 {
     if let Some(why) = not_next(wiring, state, i, Step::Start { task: i }) {
@@ -91,19 +107,26 @@ fn step_start(plan: &Plan, wiring: &Wiring, state: &mut State, i: u32) -> Result
     if !is_open(state, i) {
         return Ok(Heard::Closed);
     }
-    if let Some(why) = blocked(wiring, state, i) {
+    if let Some(why) = blocked(wiring, state, unfinished, i) {
         return Err(why);
     }
     start(state, i);
     Ok(Heard::Started)
 }
 
-fn step_hear(plan: &Plan, wiring: &Wiring, state: &mut State, i: u32) -> Result<Heard, Illegal>
+fn step_hear(
+    plan: &Plan,
+    wiring: &Wiring,
+    state: &mut State,
+    unfinished: RankMask,
+    i: u32,
+) -> Result<Heard, Illegal>
     requires task { i < length wiring.now.tasks }
     requires shape { IsShape plan.now wiring.now state.old }
+    requires ranks { HasUnfinished wiring.now state.old unfinished }
     ensures { IsStep plan.now wiring.now state.old (Step.Hear i) result state.new }
 {
-    if let Some(why) = forbidden(wiring, state, i, Step::Hear { task: i }) {
+    if let Some(why) = forbidden(wiring, state, unfinished, i, Step::Hear { task: i }) {
         return Err(why);
     }
     let Place::Hear(n) = task_at(state, i).part.place else {
@@ -120,14 +143,16 @@ fn step_look(
     plan: &Plan,
     wiring: &Wiring,
     state: &mut State,
+    unfinished: RankMask,
     i: u32,
     read: u32,
 ) -> Result<Heard, Illegal>
     requires task { i < length wiring.now.tasks }
     requires shape { IsShape plan.now wiring.now state.old }
+    requires ranks { HasUnfinished wiring.now state.old unfinished }
     ensures { IsStep plan.now wiring.now state.old (Step.Look i read) result state.new }
 {
-    if let Some(why) = forbidden(wiring, state, i, Step::Look { task: i, read }) {
+    if let Some(why) = forbidden(wiring, state, unfinished, i, Step::Look { task: i, read }) {
         return Err(why);
     }
     let Place::Look(n) = task_at(state, i).part.place else {
@@ -144,14 +169,16 @@ fn step_take(
     plan: &Plan,
     wiring: &Wiring,
     state: &mut State,
+    unfinished: RankMask,
     i: u32,
     read: u32,
 ) -> Result<Heard, Illegal>
     requires task { i < length wiring.now.tasks }
     requires shape { IsShape plan.now wiring.now state.old }
+    requires ranks { HasUnfinished wiring.now state.old unfinished }
     ensures { IsStep plan.now wiring.now state.old (Step.Take i read) result state.new }
 {
-    if let Some(why) = forbidden(wiring, state, i, Step::Take { task: i, read }) {
+    if let Some(why) = forbidden(wiring, state, unfinished, i, Step::Take { task: i, read }) {
         return Err(why);
     }
     let Place::Take(n) = task_at(state, i).part.place else {
@@ -164,12 +191,19 @@ fn step_take(
     Ok(Heard::Word(word))
 }
 
-fn step_shut(plan: &Plan, wiring: &Wiring, state: &mut State, i: u32) -> Result<Heard, Illegal>
+fn step_shut(
+    plan: &Plan,
+    wiring: &Wiring,
+    state: &mut State,
+    unfinished: RankMask,
+    i: u32,
+) -> Result<Heard, Illegal>
     requires task { i < length wiring.now.tasks }
     requires shape { IsShape plan.now wiring.now state.old }
+    requires ranks { HasUnfinished wiring.now state.old unfinished }
     ensures { IsStep plan.now wiring.now state.old (Step.Shut i) result state.new }
 {
-    if let Some(why) = forbidden(wiring, state, i, Step::Shut { task: i }) {
+    if let Some(why) = forbidden(wiring, state, unfinished, i, Step::Shut { task: i }) {
         return Err(why);
     }
     shut(plan, wiring, state, i);
@@ -180,38 +214,54 @@ fn step_put(
     plan: &Plan,
     wiring: &Wiring,
     state: &mut State,
+    unfinished: RankMask,
     i: u32,
     port: u32,
 ) -> Result<Heard, Illegal>
     requires task { i < length wiring.now.tasks }
     requires shape { IsShape plan.now wiring.now state.old }
+    requires ranks { HasUnfinished wiring.now state.old unfinished }
     ensures { IsStep plan.now wiring.now state.old (Step.Put i port) result state.new }
 {
-    if let Some(why) = forbidden(wiring, state, i, Step::Put { task: i, port }) {
+    if let Some(why) = forbidden(wiring, state, unfinished, i, Step::Put { task: i, port }) {
         return Err(why);
     }
     put(wiring, state, i, port);
     Ok(Heard::Stored)
 }
 
-fn step_done(plan: &Plan, wiring: &Wiring, state: &mut State, i: u32) -> Result<Heard, Illegal>
+fn step_done(
+    plan: &Plan,
+    wiring: &Wiring,
+    state: &mut State,
+    unfinished: RankMask,
+    i: u32,
+) -> Result<Heard, Illegal>
     requires task { i < length wiring.now.tasks }
     requires shape { IsShape plan.now wiring.now state.old }
+    requires ranks { HasUnfinished wiring.now state.old unfinished }
     ensures { IsStep plan.now wiring.now state.old (Step.Done i) result state.new }
 {
-    if let Some(why) = forbidden(wiring, state, i, Step::Done { task: i }) {
+    if let Some(why) = forbidden(wiring, state, unfinished, i, Step::Done { task: i }) {
         return Err(why);
     }
     finish(state, i);
     Ok(Heard::Stored)
 }
 
-fn step_end(plan: &Plan, wiring: &Wiring, state: &mut State, i: u32) -> Result<Heard, Illegal>
+fn step_end(
+    plan: &Plan,
+    wiring: &Wiring,
+    state: &mut State,
+    unfinished: RankMask,
+    i: u32,
+) -> Result<Heard, Illegal>
     requires task { i < length wiring.now.tasks }
     requires shape { IsShape plan.now wiring.now state.old }
+    requires ranks { HasUnfinished wiring.now state.old unfinished }
     ensures { IsStep plan.now wiring.now state.old (Step.End i) result state.new }
 {
-    if let Some(why) = forbidden(wiring, state, i, Step::End { task: i }) {
+    if let Some(why) = forbidden(wiring, state, unfinished, i, Step::End { task: i }) {
         return Err(why);
     }
     end(state, i);
@@ -223,10 +273,12 @@ pub(crate) fn advance(
     plan: &Plan,
     wiring: &Wiring,
     state: &mut State,
+    unfinished: RankMask,
     step: Step,
 ) -> Result<Heard, Illegal>
     requires named { IsNamed plan.now.diagram step }
     requires shape { IsShape plan.now wiring.now state.old }
+    requires ranks { HasUnfinished wiring.now state.old unfinished }
     ensures { IsStep plan.now wiring.now state.old step result state.new }
 {
     match step {
@@ -234,13 +286,13 @@ pub(crate) fn advance(
         Step::Aim { task, slot } => step_aim(plan, wiring, state, task, slot),
         Step::Claim { link } => step_claim(plan, wiring, state, link),
         Step::OpenGate { task } => step_open(plan, wiring, state, task),
-        Step::Start { task } => step_start(plan, wiring, state, task),
-        Step::Hear { task } => step_hear(plan, wiring, state, task),
-        Step::Look { task, read } => step_look(plan, wiring, state, task, read),
-        Step::Take { task, read } => step_take(plan, wiring, state, task, read),
-        Step::Shut { task } => step_shut(plan, wiring, state, task),
-        Step::Put { task, port } => step_put(plan, wiring, state, task, port),
-        Step::Done { task } => step_done(plan, wiring, state, task),
-        Step::End { task } => step_end(plan, wiring, state, task),
+        Step::Start { task } => step_start(plan, wiring, state, unfinished, task),
+        Step::Hear { task } => step_hear(plan, wiring, state, unfinished, task),
+        Step::Look { task, read } => step_look(plan, wiring, state, unfinished, task, read),
+        Step::Take { task, read } => step_take(plan, wiring, state, unfinished, task, read),
+        Step::Shut { task } => step_shut(plan, wiring, state, unfinished, task),
+        Step::Put { task, port } => step_put(plan, wiring, state, unfinished, task, port),
+        Step::Done { task } => step_done(plan, wiring, state, unfinished, task),
+        Step::End { task } => step_end(plan, wiring, state, unfinished, task),
     }
 }

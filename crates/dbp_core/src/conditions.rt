@@ -2,8 +2,10 @@
 
 ghost use Rattle.std.specs.Prelude.{◌≡◌, ◌<◌, length, IfSome};
 ghost use Rattle.dbp_rules.specs.Rules as rule;
+ghost use Rattle.dbp_core.specs.Unfinished.{HasUnfinished};
 
 use crate::look_up::{entry_at, task_at, wired_at};
+use crate::rank_mask::RankMask;
 use dbp_rules::{Broken, Count, Illegal, State, Wiring};
 
 // The time of the task's first instance that hasn't ended; 0 where all have.
@@ -59,16 +61,25 @@ fn highest_blocking(wiring: &Wiring, state: &State, i: u32) -> Option<u32>
     found
 }
 
-// Why a higher rank keeps the task from its step.
-pub(crate) fn blocked(wiring: &Wiring, state: &State, i: u32) -> Option<Illegal>
+// Why a higher rank keeps the task from its step. The tasks are looked over only if a higher rank is unfinished.
+pub(crate) fn blocked(
+    wiring: &Wiring,
+    state: &State,
+    unfinished: RankMask,
+    i: u32,
+) -> Option<Illegal>
     requires wired { i < length wiring.now.tasks }
     requires tasks { length state.now.tasks ≡ length wiring.now.tasks }
     requires entries { length state.now.releaser.tasks ≡ length wiring.now.tasks }
+    requires ranks { HasUnfinished wiring.now state.now unfinished }
     ensures { result ≡ rule.unblocked wiring.now.count wiring.now state.now i }
 {
     match wiring.count {
         Count::All => None,
         Count::Ranked => {
+            if !unfinished.has_above(wired_at(wiring, i).rank) {
+                return None;
+            }
             let highest = highest_blocking(wiring, state, i)?;
             Some(Illegal {
                 broken: Broken::HigherUnfinished,

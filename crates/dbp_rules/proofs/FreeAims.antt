@@ -14,7 +14,8 @@ use Rattle.dbp_slots.specs.Slots.{counts_of, is_to_higher, is_to_lower}
 use Rattle.dbp_plan.proofs.Counts.{count-cons}
 use Rattle.release_list.specs.declared.release.Release.TheVariants as release
 use Rattle.dbp_rules.specs.Places.{claim_in, entry_in, is_counted, link, link_entry, task_entry, wired}
-use Rattle.dbp_rules.specs.Promises.{HasFreeSlot, HasFreeSlotIn, IsLeastAim, claimed_in, claimed_of, has_claim, has_claim_in}
+use Rattle.dbp_rules.specs.PartyRules.{claimed_in, has_claim_in}
+use Rattle.dbp_rules.specs.Promises.{HasFreeSlot, HasFreeSlotIn, IsLeastAim, claimed_of, has_claim}
 use Rattle.dbp_rules.specs.Rules as rule
 use Rattle.dbp_rules.specs.Sound.{Sound}
 use Rattle.dbp_rules.specs.Wired.{slot_count, wiring_of}

@@ -23,16 +23,20 @@ fn stays_kept(entry: &TaskEntry, slot: u32) -> bool
     }
 }
 
-fn is_counted(wiring: &Wiring, k: u32) -> bool
-    requires link { k < length wiring.now.links }
-    requires links { LinksFit wiring.now }
-    ensures { result ≡ is_counted wiring.now k }
-{
-    match wiring.count {
-        Count::All => true,
-        Count::Ranked => {
-            let link = wiring.links.items()[k as usize];
-            wiring.task(link.writer).rank < wiring.task(link.reader).rank
+impl Wiring {
+    /// Whether the link is counted: its claims keep its writer from a slot. Under `Ranked` those to readers that are
+    /// ranked above their writers aren't.
+    pub fn is_counted(&self, link: u32) -> bool
+        requires link { link < length self.now.links }
+        requires links { LinksFit self.now }
+        ensures { result ≡ is_counted self.now link }
+    {
+        match self.count {
+            Count::All => true,
+            Count::Ranked => {
+                let ends = self.links.items()[link as usize];
+                self.task(ends.writer).rank < self.task(ends.reader).rank
+            }
         }
     }
 }
@@ -48,7 +52,7 @@ fn claims_slot(wiring: &Wiring, part: &ReleaserPart, i: u32, slot: u32, k: u32) 
     let link = wiring.links.items()[k as usize];
     let claim = part.claim_over(k);
     link.writer == i
-        && is_counted(wiring, k)
+        && wiring.is_counted(k)
         && part.entry(link.reader).known < claim.instance
         && claim.slot == slot
 }
