@@ -73,4 +73,4 @@ slot_count_few p All i = omega (arith, links_few p.diagram (is_to_lower p.diagra
 pub aim_slot : (p : Plan) (count : Count) (s : State) (i slot : ℕ) → i < length p.diagram.tasks → rule.refusal (wiring_of p count) s (Aim i slot) ≡ None → slot < 265
 aim_slot p count s i slot named free =
     let slots : (wired (wiring_of p count) i).slots ≡ slot_count count p i = ap (λ (t : TaskWiring). t.slots) (wired_is p count i named) in
-    omega (arith, (aim_allowed (wiring_of p count) s i slot free).below, slots, slot_count_few p count i)
+    omega (arith, (aim_allowed (wiring_of p count) s.releaser i slot free).below, slots, slot_count_few p count i)

@@ -6,7 +6,7 @@ use Rattle.dbp_plan.specs.declared.plan.Plan.{Plan}
 use Rattle.dbp_plan.specs.Lookups.{declared}
 use Rattle.dbp_slots.specs.TableWords.{Sizes, TableWord, gate, ended, aim, claim, stamp, word}
 use Rattle.dbp_rules.specs.Moves.{ordered}
-use Rattle.dbp_rules.specs.PartyRules.{Loaded, a_number, a_value, an_order, hears_at, is_stamp_of, loaded_number, loaded_order, next_claim, no_word, opens_next, read_order_in, turn_at}
+use Rattle.dbp_rules.specs.PartyRules.{Loaded, a_number, a_value, an_order, hears_at, is_stamp_of, loaded_number, loaded_order, next_claim, no_word, is_opened_by, read_order_in, turn_at}
 use Rattle.dbp_rules.specs.Places.{entry_in, no_task, read_at, task, wired}
 use Rattle.dbp_rules.specs.Shapes.{link_in}
 use Rattle.dbp_rules.specs.SharedWords.{made_by, maker_part, order_value, signed_value, value_in}
@@ -89,7 +89,7 @@ loaded_word _ = pos 0
 -- what the step hears of what it loads, if the task that makes it has this part
 abbrev pub heard_of : Wiring → TaskPart → Step → Loaded → Heard
 heard_of w t (Seen i) l = heard.Ended (loaded_number l)
-heard_of w t (Start i) l = if opens_next t (loaded_number l) then heard.Started else heard.Closed
+heard_of w t (Start i) l = if is_opened_by t (loaded_number l) then heard.Started else heard.Closed
 heard_of w t (Hear i) l = heard.Order (loaded_order l).slot (loaded_order l).number
 heard_of w t (Look i r) l = if is_stamp_of (read_order_in (wired w i) t (turn_at t.place)) (loaded_number l) then heard.Ready else heard.NotYet
 heard_of w t (Take i r) l = heard.Word (loaded_word l)
