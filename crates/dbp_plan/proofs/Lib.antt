@@ -1,6 +1,7 @@
 pub mod Counts
 pub mod FirstFaults
 pub mod FirstIndexes
+pub mod ListEdits
 pub mod ListParts
 pub mod NameLaws
 pub mod Numbers
