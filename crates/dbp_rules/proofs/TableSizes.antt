@@ -39,18 +39,18 @@ same_sizes p =
 
 -- ---- small numbers
 
-count_few : (p : Plan) (count : Count) (i : ℕ) → slot_count count p i ≤ 1000
-count_few p Ranked i =
+pub slot_count_few : (p : Plan) (count : Count) (i : ℕ) → slot_count count p i ≤ 265
+slot_count_few p Ranked i =
     let closed : IsClosed p.diagram = p.rules.ranked.closed in
     omega (arith, links_few p.diagram (is_to_lower p.diagram.ranks i) closed, delay_short p.diagram i closed)
-count_few p All i =
+slot_count_few p All i =
     let closed : IsClosed p.diagram = p.rules.ranked.closed in
     omega (arith, links_few p.diagram (is_to_lower p.diagram.ranks i) closed, links_few p.diagram (is_to_higher p.diagram.ranks i) closed, delay_short p.diagram i closed)
 
 pub slots_few : (p : Plan) (count : Count) (i : ℕ) → i < length p.diagram.tasks → (wired (wiring_of p count) i).slots < 2 ^ 32
 slots_few p count i below =
     let same : (wired (wiring_of p count) i).slots ≡ slot_count count p i = ap (λ (t : TaskWiring). t.slots) (wired_is p count i below) in
-    omega (arith, same, count_few p count i)
+    omega (arith, same, slot_count_few p count i)
 
 pub order_small : (p : Plan) (count : Count) (i : ℕ) (o : Order) → i < length p.diagram.tasks → OrderFits (wired (wiring_of p count) i) o → (o.slot < 2 ^ 32) × (o.number < 2 ^ 32)
 order_small p count i o below fits = (omega (arith, slots_few p count i below, fits.0), omega (arith, fits.1))

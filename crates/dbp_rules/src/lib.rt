@@ -42,7 +42,7 @@ pub use state::{Slot, State, TaskState, TaskWords};
 pub use step::{Broken, Count, Heard, Illegal, Step};
 pub use wire::wire_plan;
 pub use wiring::{LinkEnd, ReadWiring, TaskWiring, Wiring};
-pub use word::{value_from_word, value_to_word};
+pub use word::{first_values_have_64_bits, value_from_word, value_to_word};
 pub use word_laws::{
     a_number_is_read_back, a_step_hears_one_word, a_step_stores_its_number,
     a_word_has_its_number_at_the_start, an_order_has_small_numbers, slot_words_have_64_bits,
