@@ -1,3 +1,5 @@
 pub mod Keeping
 pub mod Searches
 pub mod InputValues
+pub mod RankMasks
+pub mod ClaimedSlots

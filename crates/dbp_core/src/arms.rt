@@ -7,27 +7,30 @@ ghost use Rattle.dbp_rules.specs.Rules.{IsNamed, IsStep};
 ghost use Rattle.dbp_rules.specs.Shapes.{IsShape, PlaceIn};
 ghost use Rattle.dbp_rules.specs.Wired.{links_at};
 ghost use Rattle.dbp_rules.specs.declared.wiring.LinkEnd.TheVariants.{Writer};
+ghost use Rattle.dbp_core.specs.Unfinished.{HasUnfinished};
 
 use crate::conditions::{Kind, blocked, claimed, not_next_release, not_next_step, stays_kept};
 use crate::look_up::{declared_at, entry_at, task_at, wired_at};
+use crate::rank_mask::RankMask;
 use crate::releaser::{aim, claim, open, see};
 use crate::steps::{end, finish, hear, is_open, is_ready, look, put, read_word, shut, start, take};
 use dbp_plan::Plan;
 use dbp_rules::{Broken, Heard, Illegal, Place, State, Step, Wiring};
 
 // Why the task may not make the step of this kind, if that is so.
-fn forbidden(wiring: &Wiring, state: &State, i: u32, number: u32, operand: u32) -> Option<Illegal>
+fn forbidden(wiring: &Wiring, state: &State, unfinished: RankMask, i: u32, number: u32, operand: u32) -> Option<Illegal>
     requires wired { i < length wiring.now.tasks }
     requires tasks { length state.now.tasks ≡ length wiring.now.tasks }
     requires entries { length state.now.releaser.tasks ≡ length wiring.now.tasks }
     requires place { PlaceIn (wired wiring.now i) (task state.now i).part.place }
+    requires ranks { HasUnfinished wiring.now state.now unfinished }
     ensures { result ≡ rule.or_else (rule.steps_next wiring.now state.now i number operand) (rule.unblocked wiring.now.count wiring.now state.now i) }
 {
     let kind = Kind { number, operand };
     if let Some(why) = not_next_step(wiring, state, i, kind) {
         return Some(why);
     }
-    blocked(wiring, state, i)
+    blocked(wiring, state, unfinished, i)
 }
 
 fn step_open(plan: &Plan, wiring: &Wiring, state: &mut State, i: u32) -> Result<Heard, Illegal>
@@ -122,9 +125,10 @@ fn step_claim(plan: &Plan, wiring: &Wiring, state: &mut State, k: u32) -> Result
     Ok(Heard::Stored)
 }
 
-fn step_start(plan: &Plan, wiring: &Wiring, state: &mut State, i: u32) -> Result<Heard, Illegal>
+fn step_start(plan: &Plan, wiring: &Wiring, state: &mut State, unfinished: RankMask, i: u32) -> Result<Heard, Illegal>
     requires task { i < length wiring.now.tasks }
     requires shape { IsShape plan.now wiring.now state.old }
+    requires ranks { HasUnfinished wiring.now state.old unfinished }
     ensures { IsStep plan.now wiring.now state.old (Step.Start i) result state.new }
 {
     let kind = Kind {
@@ -137,19 +141,20 @@ fn step_start(plan: &Plan, wiring: &Wiring, state: &mut State, i: u32) -> Result
     if !is_open(state, i) {
         return Ok(Heard::Closed);
     }
-    if let Some(why) = blocked(wiring, state, i) {
+    if let Some(why) = blocked(wiring, state, unfinished, i) {
         return Err(why);
     }
     start(state, i);
     Ok(Heard::Started)
 }
 
-fn step_hear(plan: &Plan, wiring: &Wiring, state: &mut State, i: u32) -> Result<Heard, Illegal>
+fn step_hear(plan: &Plan, wiring: &Wiring, state: &mut State, unfinished: RankMask, i: u32) -> Result<Heard, Illegal>
     requires task { i < length wiring.now.tasks }
     requires shape { IsShape plan.now wiring.now state.old }
+    requires ranks { HasUnfinished wiring.now state.old unfinished }
     ensures { IsStep plan.now wiring.now state.old (Step.Hear i) result state.new }
 {
-    if let Some(why) = forbidden(wiring, state, i, 6, 0) {
+    if let Some(why) = forbidden(wiring, state, unfinished, i, 6, 0) {
         return Err(why);
     }
     let Place::Hear(n) = task_at(state, i).part.place else {
@@ -166,14 +171,16 @@ fn step_look(
     plan: &Plan,
     wiring: &Wiring,
     state: &mut State,
+    unfinished: RankMask,
     i: u32,
     read: u32,
 ) -> Result<Heard, Illegal>
     requires task { i < length wiring.now.tasks }
     requires shape { IsShape plan.now wiring.now state.old }
+    requires ranks { HasUnfinished wiring.now state.old unfinished }
     ensures { IsStep plan.now wiring.now state.old (Step.Look i read) result state.new }
 {
-    if let Some(why) = forbidden(wiring, state, i, 7, read) {
+    if let Some(why) = forbidden(wiring, state, unfinished, i, 7, read) {
         return Err(why);
     }
     let Place::Look(n) = task_at(state, i).part.place else {
@@ -190,14 +197,16 @@ fn step_take(
     plan: &Plan,
     wiring: &Wiring,
     state: &mut State,
+    unfinished: RankMask,
     i: u32,
     read: u32,
 ) -> Result<Heard, Illegal>
     requires task { i < length wiring.now.tasks }
     requires shape { IsShape plan.now wiring.now state.old }
+    requires ranks { HasUnfinished wiring.now state.old unfinished }
     ensures { IsStep plan.now wiring.now state.old (Step.Take i read) result state.new }
 {
-    if let Some(why) = forbidden(wiring, state, i, 8, read) {
+    if let Some(why) = forbidden(wiring, state, unfinished, i, 8, read) {
         return Err(why);
     }
     let Place::Take(n) = task_at(state, i).part.place else {
@@ -210,12 +219,13 @@ fn step_take(
     Ok(Heard::Word(word))
 }
 
-fn step_shut(plan: &Plan, wiring: &Wiring, state: &mut State, i: u32) -> Result<Heard, Illegal>
+fn step_shut(plan: &Plan, wiring: &Wiring, state: &mut State, unfinished: RankMask, i: u32) -> Result<Heard, Illegal>
     requires task { i < length wiring.now.tasks }
     requires shape { IsShape plan.now wiring.now state.old }
+    requires ranks { HasUnfinished wiring.now state.old unfinished }
     ensures { IsStep plan.now wiring.now state.old (Step.Shut i) result state.new }
 {
-    if let Some(why) = forbidden(wiring, state, i, 9, 0) {
+    if let Some(why) = forbidden(wiring, state, unfinished, i, 9, 0) {
         return Err(why);
     }
     shut(plan, wiring, state, i);
@@ -226,38 +236,42 @@ fn step_put(
     plan: &Plan,
     wiring: &Wiring,
     state: &mut State,
+    unfinished: RankMask,
     i: u32,
     port: u32,
 ) -> Result<Heard, Illegal>
     requires task { i < length wiring.now.tasks }
     requires shape { IsShape plan.now wiring.now state.old }
+    requires ranks { HasUnfinished wiring.now state.old unfinished }
     ensures { IsStep plan.now wiring.now state.old (Step.Put i port) result state.new }
 {
-    if let Some(why) = forbidden(wiring, state, i, 10, port) {
+    if let Some(why) = forbidden(wiring, state, unfinished, i, 10, port) {
         return Err(why);
     }
     put(wiring, state, i, port);
     Ok(Heard::Stored)
 }
 
-fn step_done(plan: &Plan, wiring: &Wiring, state: &mut State, i: u32) -> Result<Heard, Illegal>
+fn step_done(plan: &Plan, wiring: &Wiring, state: &mut State, unfinished: RankMask, i: u32) -> Result<Heard, Illegal>
     requires task { i < length wiring.now.tasks }
     requires shape { IsShape plan.now wiring.now state.old }
+    requires ranks { HasUnfinished wiring.now state.old unfinished }
     ensures { IsStep plan.now wiring.now state.old (Step.Done i) result state.new }
 {
-    if let Some(why) = forbidden(wiring, state, i, 11, 0) {
+    if let Some(why) = forbidden(wiring, state, unfinished, i, 11, 0) {
         return Err(why);
     }
     finish(state, i);
     Ok(Heard::Stored)
 }
 
-fn step_end(plan: &Plan, wiring: &Wiring, state: &mut State, i: u32) -> Result<Heard, Illegal>
+fn step_end(plan: &Plan, wiring: &Wiring, state: &mut State, unfinished: RankMask, i: u32) -> Result<Heard, Illegal>
     requires task { i < length wiring.now.tasks }
     requires shape { IsShape plan.now wiring.now state.old }
+    requires ranks { HasUnfinished wiring.now state.old unfinished }
     ensures { IsStep plan.now wiring.now state.old (Step.End i) result state.new }
 {
-    if let Some(why) = forbidden(wiring, state, i, 12, 0) {
+    if let Some(why) = forbidden(wiring, state, unfinished, i, 12, 0) {
         return Err(why);
     }
     end(state, i);
@@ -269,10 +283,12 @@ pub(crate) fn advance(
     plan: &Plan,
     wiring: &Wiring,
     state: &mut State,
+    unfinished: RankMask,
     step: Step,
 ) -> Result<Heard, Illegal>
     requires named { IsNamed plan.now.diagram step }
     requires shape { IsShape plan.now wiring.now state.old }
+    requires ranks { HasUnfinished wiring.now state.old unfinished }
     ensures { IsStep plan.now wiring.now state.old step result state.new }
 {
     match step {
@@ -280,13 +296,13 @@ pub(crate) fn advance(
         Step::Aim { task, slot } => step_aim(plan, wiring, state, task, slot),
         Step::Claim { link } => step_claim(plan, wiring, state, link),
         Step::OpenGate { task } => step_open(plan, wiring, state, task),
-        Step::Start { task } => step_start(plan, wiring, state, task),
-        Step::Hear { task } => step_hear(plan, wiring, state, task),
-        Step::Look { task, read } => step_look(plan, wiring, state, task, read),
-        Step::Take { task, read } => step_take(plan, wiring, state, task, read),
-        Step::Shut { task } => step_shut(plan, wiring, state, task),
-        Step::Put { task, port } => step_put(plan, wiring, state, task, port),
-        Step::Done { task } => step_done(plan, wiring, state, task),
-        Step::End { task } => step_end(plan, wiring, state, task),
+        Step::Start { task } => step_start(plan, wiring, state, unfinished, task),
+        Step::Hear { task } => step_hear(plan, wiring, state, unfinished, task),
+        Step::Look { task, read } => step_look(plan, wiring, state, unfinished, task, read),
+        Step::Take { task, read } => step_take(plan, wiring, state, unfinished, task, read),
+        Step::Shut { task } => step_shut(plan, wiring, state, unfinished, task),
+        Step::Put { task, port } => step_put(plan, wiring, state, unfinished, task, port),
+        Step::Done { task } => step_done(plan, wiring, state, unfinished, task),
+        Step::End { task } => step_end(plan, wiring, state, unfinished, task),
     }
 }

@@ -6,8 +6,10 @@ ghost use Rattle.dbp_rules.specs.Rules as rule;
 ghost use Rattle.dbp_rules.specs.Shapes.{PlaceIn};
 ghost use Rattle.dbp_rules.specs.Wired.{links_at};
 ghost use Rattle.dbp_rules.specs.declared.wiring.LinkEnd.TheVariants.{Writer};
+ghost use Rattle.dbp_core.specs.Unfinished.{HasUnfinished};
 
 use crate::look_up::{claim_at, entry_at, task_at, wired_at};
+use crate::rank_mask::RankMask;
 use dbp_rules::{Broken, Count, Illegal, Place, State, TaskEntry, TaskWiring, Wiring};
 use release_list::Release;
 
@@ -106,7 +108,7 @@ pub(crate) fn stays_kept(entry: &TaskEntry, slot: u32) -> bool
     }
 }
 
-fn is_counted(wiring: &Wiring, k: u32) -> bool
+pub(crate) fn is_counted(wiring: &Wiring, k: u32) -> bool
     requires link { k < length wiring.now.links }
     requires writer { (link wiring.now k).writer < length wiring.now.tasks }
     requires reader { (link wiring.now k).reader < length wiring.now.tasks }
@@ -209,16 +211,25 @@ fn highest_blocking(wiring: &Wiring, state: &State, i: u32) -> Option<u32>
     found
 }
 
-// Why a higher rank keeps the task from its step.
-pub(crate) fn blocked(wiring: &Wiring, state: &State, i: u32) -> Option<Illegal>
+// Why a higher rank keeps the task from its step. The tasks are looked over only if a higher rank is unfinished.
+pub(crate) fn blocked(
+    wiring: &Wiring,
+    state: &State,
+    unfinished: RankMask,
+    i: u32,
+) -> Option<Illegal>
     requires wired { i < length wiring.now.tasks }
     requires tasks { length state.now.tasks ≡ length wiring.now.tasks }
     requires entries { length state.now.releaser.tasks ≡ length wiring.now.tasks }
+    requires ranks { HasUnfinished wiring.now state.now unfinished }
     ensures { result ≡ rule.unblocked wiring.now.count wiring.now state.now i }
 {
     match wiring.count {
         Count::All => None,
         Count::Ranked => {
+            if !unfinished.has_above(wired_at(wiring, i).rank) {
+                return None;
+            }
             let highest = highest_blocking(wiring, state, i)?;
             Some(Illegal {
                 broken: Broken::HigherUnfinished,

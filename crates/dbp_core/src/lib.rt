@@ -2,10 +2,12 @@
 //! step, exactly by the rules of `dbp_rules`.
 #![tactic(auto)]
 
+mod aiming;
 mod arms;
 mod conditions;
 mod look_up;
 mod machine;
+mod rank_mask;
 mod releaser;
 mod sensing;
 mod steps;

@@ -6,8 +6,11 @@ ghost use Rattle.sync_meaning.specs.SomeMeaningTables.{rows_in};
 ghost use Rattle.dbp_rules.specs.Shapes.{IsShape};
 ghost use Rattle.dbp_rules.specs.Sound.{Sound};
 ghost use Rattle.dbp_rules.specs.Wired.{wiring_of};
+ghost use Rattle.dbp_core.specs.Unfinished.{HasUnfinished};
 
+use crate::aiming::least_free;
 use crate::arms::advance;
+use crate::rank_mask::RankMask;
 use dbp_plan::{NoMemory, Plan, Row};
 use dbp_rules::{Count, Heard, Illegal, State, Step, Wiring, start_state, wire_plan};
 use std::alloc::Global;
@@ -19,18 +22,22 @@ pub struct Core {
     plan: Plan,
     wiring: Wiring,
     state: State,
+    unfinished: RankMask,
     ghost wired: { wiring ≡ wiring_of plan wiring.count },
     ghost shape: { IsShape plan wiring state },
+    ghost ranks: { HasUnfinished wiring state unfinished },
     ghost sound: { ∥ Sound plan wiring (rows_in (meaning_of plan)) state ∥₁ },
 }
 
 impl Core {
-    ghost use Rattle.std.specs.Prelude.{◌≡◌, ◌<◌, length, IfOk};
+    ghost use Rattle.std.specs.Prelude.{◌≡◌, ◌<◌, length, slice_get, Some, IfOk};
     ghost use Rattle.dbp_plan.specs.declared.table.Table.{Table};
     ghost use Rattle.dbp_plan.specs.Table.{IsRow};
     ghost use Rattle.sync_meaning.specs.Meaning.{IsMeaning};
-    ghost use Rattle.dbp_core.specs.Cores.{count_in, plan_in, state_in};
-    ghost use Rattle.dbp_rules.specs.Places.{task as state_of};
+    ghost use Rattle.release_list.specs.declared.release.Release.TheVariants.{Aim as AimOf};
+    ghost use Rattle.dbp_core.specs.Cores.{count_in, plan_in, state_in, wiring_in};
+    ghost use Rattle.dbp_rules.specs.Places.{task as state_of, task_entry};
+    ghost use Rattle.dbp_rules.specs.Promises.{IsLeastAim};
     ghost use Rattle.dbp_rules.specs.Rules.{IsNamed, IsStep};
     ghost use Rattle.dbp_rules.specs.SoundParts.{last_shut};
     ghost use Rattle.dbp_rules.specs.Start.{start_of};
@@ -47,6 +54,7 @@ impl Core {
             plan,
             wiring,
             state,
+            unfinished: RankMask::empty(),
         })
     }
 
@@ -59,7 +67,25 @@ impl Core {
         ensures count { count_in self.new ≡ count_in self.old }
         ensures step { IsStep (plan_in self.old) (wiring_of (plan_in self.old) (count_in self.old)) (state_in self.old) step result (state_in self.new) }
     {
-        advance(&self.plan, &self.wiring, &mut self.state, step)
+        let answer = advance(
+            &self.plan,
+            &self.wiring,
+            &mut self.state,
+            self.unfinished,
+            step,
+        );
+        self.unfinished.recount(&self.wiring, &self.state, step);
+        answer
+    }
+
+    /// The least slot that the task may be aimed at: the least that no counted claim needs and that doesn't stay kept.
+    /// The task's aim is the releaser's next action, and its last instance is known to have ended. It takes no memory.
+    pub fn least_aim(&self, task: u32) -> u32
+        requires next { slice_get (wiring_in self.now).releases (state_in self.now).releaser.place ≡ Some (AimOf task) }
+        requires ended { (task_entry (state_in self.now) task).aimed ≡ (task_entry (state_in self.now) task).known }
+        ensures { IsLeastAim (wiring_in self.now) (state_in self.now) task result }
+    {
+        least_free(&self.plan, &self.wiring, &self.state, task)
     }
 
     /// The plan.
@@ -67,6 +93,14 @@ impl Core {
         ensures { result.now ≡ plan_in self.now }
     {
         &self.plan
+    }
+
+    /// What the steps look up in the plan.
+    pub fn wiring(&self) -> &Wiring
+        ensures wiring { result.now ≡ wiring_in self.now }
+        ensures plan { wiring_in self.now ≡ wiring_of (plan_in self.now) (count_in self.now) }
+    {
+        &self.wiring
     }
 
     /// The row that the task computed at its last `Shut`, or the first values of its outs before any. It is the
