@@ -1,5 +1,5 @@
 -- Masks of ranks: their bits, what they say of the tasks that block a step, and that they stay right from step to step.
-use Rattle.std.proofs.Common.{◌≡◌, ◌≢◌, ℕ, zero, suc, ◌+◌, ◌<◌, ◌≤◌, Bool, true, false, length, get_or, Option, Some, None, refl, sym, ◌∙◌, ap, subst, arith, inl, inr, get_or-set_other, get_or-set_same, w32}
+use Rattle.std.proofs.Common.{◌≡◌, ◌≢◌, ℕ, zero, suc, ◌+◌, ◌<◌, ◌≤◌, ◌^◌, Bool, true, false, length, get_or, Option, Some, None, refl, sym, ◌∙◌, ap, subst, arith, inl, inr, get_or-set_other, get_or-set_same, w32}
 use Rattle.std.specs.Prelude.{Result, nat_lt, ◌==◌, slice_get}
 use Rattle.std.specs.Int.{bit_at, trailing_zeros}
 use Rattle.std.proofs.lemmas.Bool.{cases_Bool, cases_eq, cases_lt, eq-eqb, ltb-true, ne_eqb}
@@ -39,10 +39,15 @@ none_below n r rank few above below = elim (cases_eq n 0) [
       ne_eqb (bit_at n r) 1 (λ is. absurd (omega (arith, is, none)))
 ]
 
+-- 0 has none
+no_bit : trailing_zeros w32 0 ≡ 32
+unfolding lib.Count.count_trailing_zeros
+no_bit = refl
+
 -- the lowest bit is one
 pub some_below : (n rank : ℕ) → n < 2 ^ 32 → trailing_zeros w32 n < rank → rank ≤ 32 → (r : ℕ) × (r < rank) × ((bit_at n r == 1) ≡ true)
 some_below n rank few below fits = elim (cases_eq n 0) [
-  | inl empty ↦ let all : trailing_zeros w32 n ≡ 32 = rw empty refl in absurd (omega (arith, all))
+  | inl empty ↦ absurd (omega (arith, below, fits, ap (trailing_zeros w32) empty ∙ no_bit))
   | inr some ↦
       let at = bit_at-trailing_zeros w32 n (omega arith) few in
       (trailing_zeros w32 n, below, eq-eqb (bit_at n (trailing_zeros w32 n)) 1 at.1)
@@ -79,17 +84,6 @@ has_ranks p count =
     }
 
 -- ---- steps
-
--- a mask that is right for all tasks but one, and is then set for that one
-pub set_right : (w : Wiring) (s : State) (old new : RankMask) (i : ℕ) → HasRanks w → i < length w.tasks
-    → ((j : ℕ) → j < length w.tasks → j ≢ i → has_rank old (wired w j).rank ≡ is_unfinished s j)
-    → has_rank new (wired w i).rank ≡ is_unfinished s i
-    → ((r : ℕ) → r < 32 → r ≢ (wired w i).rank → has_rank new r ≡ has_rank old r)
-    → HasUnfinished w s new
-set_right w s old new i ranks below others same kept j fits = elim (cases_eq j i) [
-  | inl here ↦ ap (λ n. has_rank new (wired w n).rank) here ∙ same ∙ ap (is_unfinished s) (sym here)
-  | inr other ↦ kept (wired w j).rank (ranks.few j fits) (ranks.apart j i fits below other) ∙ others j fits other
-]
 
 module _ (p : Plan) (w : Wiring) (s : State) (shape : IsShape p w s) where
   -- a task with another part that has ended as often

@@ -1,7 +1,8 @@
 // The ranks that have an unfinished instance, as bits of a number: by them a task's step finds out whether a higher
 // rank is unfinished, without a look over all tasks.
 
-ghost use Rattle.dbp_core.specs.Unfinished.{has_rank};
+ghost use Rattle.std.specs.Prelude.{◌≡◌, ◌<◌, length};
+ghost use Rattle.dbp_core.specs.Unfinished.{is_unfinished, recounted_task};
 
 use crate::look_up::{entry_at, task_at, wired_at};
 use dbp_rules::{State, Step, Wiring};
@@ -29,7 +30,8 @@ impl RankMask {
         ensures none { result ≡ false → (r : ℕ) → r < rank → has_rank self r ≡ false }
         ensures some { rank ≤ 32 → result ≡ true → (r : ℕ) × (r < rank) × (has_rank self r ≡ true) }
     {
-        self.bits.trailing_zeros() < rank
+        let bits = self.bits;
+        bits.trailing_zeros() < rank
     }
 
     // Puts the rank in, or takes it out.
