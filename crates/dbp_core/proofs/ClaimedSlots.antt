@@ -1,17 +1,27 @@
 -- The slots that claims keep from a task, found among the links that leave it, and the least slot that is free.
-use Rattle.std.proofs.Common.{◌≡◌, ℕ, zero, suc, ◌+◌, ◌-◌, ◌<◌, ◌≤◌, ◌⊎◌, Bool, true, false, cond, All, Contains, List, [], ◌∷◌, ◌++◌, length, map, take, get_or, filter, refl, sym, ◌∙◌, ap, arith, inl, inr, length-append}
+use Rattle.std.proofs.Common.{◌≡◌, ℕ, zero, suc, ◌+◌, ◌-◌, ◌<◌, ◌≤◌, ◌⊎◌, Bool, true, false, cond, All, Contains, List, [], ◌∷◌, ◌++◌, length, map, take, get_or, filter, refl, sym, ◌∙◌, ap, subst, arith, inl, inr, length-append}
 use Rattle.std.specs.Prelude.{◌==◌}
 use Rattle.std.specs.List.{range_with_len}
 use Rattle.std.proofs.lemmas.Bool.{and_parts, cases_Bool}
 use Rattle.std.proofs.lemmas.List.{length-map, take_all}
 use Rattle.std.proofs.lemmas.List.Elements.{Contains-append_cases, Contains-append_left, Contains-append_right}
+use Rattle.std.proofs.lemmas.List.FromFn.{length-range_with_len}
+use Rattle.std.proofs.lemmas.List.Sums.{count_by-le-length, length-filter}
 use Rattle.dbp_slots.specs.FreeSlot.{IsLeastFree}
-use Rattle.dbp_rules.specs.Places.{link, link_entry}
+use Rattle.dbp_plan.specs.declared.limits.TheConstants.{MAX_READ_LINES}
+use Rattle.dbp_plan.specs.Lookups.{link_at}
+use Rattle.dbp_plan.specs.declared.plan.Plan.{Plan}
+use Rattle.dbp_rules.specs.Places.{link, link_entry, wired}
 use Rattle.dbp_rules.specs.Promises.{claimed_of, has_claim}
+use Rattle.dbp_rules.specs.Rules.{staying}
+use Rattle.dbp_rules.specs.Shapes.{IsShape}
+use Rattle.dbp_rules.specs.declared.parts.TaskEntry.{TaskEntry}
 use Rattle.dbp_rules.specs.Wired.{links_at}
 use Rattle.dbp_rules.specs.declared.state.State.{State}
 use Rattle.dbp_rules.specs.declared.wiring.LinkEnd.TheVariants.{Writer}
+use Rattle.dbp_rules.specs.declared.wiring.TaskWiring.{TaskWiring}
 use Rattle.dbp_rules.specs.declared.wiring.Wiring.{Wiring}
+use Rattle.dbp_rules.proofs.IntoTask.{links_below}
 
 -- ---- claims
 
@@ -46,10 +56,12 @@ claimed_more w s i n [] below is = absurd (omega arith)
 claimed_more w s i zero (k ∷ ks) below is = rw is refl
 claimed_more w s i (suc n) (k ∷ ks) below is =
     let rest : claimed_over w s i (take (n + 1) ks) ≡ claimed_over w s i (take n ks) ++ (link_entry s (get_or ks n 0)).slot ∷ [] = claimed_more w s i n ks (omega arith) is in
-    elim (cases_Bool (has_claim w s i k)) [
+    let one : suc n + 1 ≡ suc (n + 1) = omega arith in
+    ap (λ m. claimed_over w s i (take m (k ∷ ks))) one
+    ∙ (elim (cases_Bool (has_claim w s i k)) as (λ _. claimed_over w s i (k ∷ take (n + 1) ks) ≡ claimed_over w s i (k ∷ take n ks) ++ (link_entry s (get_or ks n 0)).slot ∷ []) [
       | inl yes_ ↦ rw yes_ (ap (λ ys. (link_entry s k).slot ∷ ys) rest)
       | inr not_ ↦ rw not_ rest
-    ]
+    ])
 
 pub unclaimed_more : (w : Wiring) (s : State) (i n : ℕ) (ks : List ℕ) → n < length ks → has_claim w s i (get_or ks n 0) ≡ false
     → claimed_over w s i (take (n + 1) ks) ≡ claimed_over w s i (take n ks)
@@ -57,10 +69,12 @@ unclaimed_more w s i n [] below isnt = absurd (omega arith)
 unclaimed_more w s i zero (k ∷ ks) below isnt = rw isnt refl
 unclaimed_more w s i (suc n) (k ∷ ks) below isnt =
     let rest : claimed_over w s i (take (n + 1) ks) ≡ claimed_over w s i (take n ks) = unclaimed_more w s i n ks (omega arith) isnt in
-    elim (cases_Bool (has_claim w s i k)) [
+    let one : suc n + 1 ≡ suc (n + 1) = omega arith in
+    ap (λ m. claimed_over w s i (take m (k ∷ ks))) one
+    ∙ (elim (cases_Bool (has_claim w s i k)) as (λ _. claimed_over w s i (k ∷ take (n + 1) ks) ≡ claimed_over w s i (k ∷ take n ks)) [
       | inl yes_ ↦ rw yes_ (ap (λ ys. (link_entry s k).slot ∷ ys) rest)
       | inr not_ ↦ rw not_ rest
-    ]
+    ])
 
 -- there are no more of them than links
 pub claimed_few : (w : Wiring) (s : State) (i : ℕ) (ks : List ℕ) → length (claimed_over w s i ks) ≤ length ks
@@ -69,6 +83,20 @@ claimed_few w s i (k ∷ ks) = elim (cases_Bool (has_claim w s i k)) [
   | inl yes_ ↦ rw yes_ (omega (arith, claimed_few w s i ks))
   | inr not_ ↦ rw not_ (omega (arith, claimed_few w s i ks))
 ]
+
+-- ---- the links that leave a task
+
+-- as its wiring lists them
+pub leaving_is : (p : Plan) (w : Wiring) (s : State) (i : ℕ) (t : TaskWiring) (ks : List ℕ) → IsShape p w s → i < length w.tasks → ks ≡ t.leaving → t ≡ wired w i → ks ≡ links_at Writer w.links i
+leaving_is p w s i t ks shape below own is = own ∙ ap (λ x. x.leaving) is ∙ (shape.wiring.each_task i below).leaving
+
+pub leaving_below : (w : Wiring) (i n : ℕ) (ks : List ℕ) → ks ≡ links_at Writer w.links i → n < length ks → get_or ks n 0 < length w.links
+leaving_below w i n ks is inside = subst (λ xs. All (λ k. k < length w.links) xs) (sym is) (links_below Writer w.links i) n 0 inside
+
+pub leaving_few : (p : Plan) (w : Wiring) (s : State) (i : ℕ) (ks : List ℕ) → IsShape p w s → ks ≡ links_at Writer w.links i → length ks ≤ MAX_READ_LINES
+leaving_few p w s i ks shape is =
+    let size : length (links_at Writer w.links i) ≤ length (range_with_len 0 (length w.links)) = rw (length-filter (λ k. (link_at w.links k).writer == i) (range_with_len 0 (length w.links))) (count_by-le-length (λ k. (link_at w.links k).writer == i) (range_with_len 0 (length w.links))) in
+    omega (arith, ap length is, size, length-range_with_len 0 (length w.links), ap length shape.wiring.links, p.rules.ranked.closed.links)
 
 -- ---- free slots
 
@@ -89,3 +117,10 @@ free_moved claims kept current slots slot free = record {
     | inr keeps ↦ inr (Contains-append_right (current ∷ []) kept s keeps)
   ];
 }
+
+-- the first of the slots that stay kept is the current one
+pub free_staying : (e : TaskEntry) (claims : List ℕ) (slots slot : ℕ) → 1 ≤ length e.kept → IsLeastFree (claims ++ e.current ∷ []) (take (length e.kept - 1) e.kept) slots slot → IsLeastFree claims (staying e) slots slot
+free_staying e claims slots slot some free =
+    let one : length e.kept ≡ suc (length e.kept - 1) = omega arith in
+    let first : e.current ∷ take (length e.kept - 1) e.kept ≡ staying e = sym (ap (λ n. take n (e.current ∷ e.kept)) one) in
+    subst (λ xs. IsLeastFree claims xs slots slot) first (free_moved claims (take (length e.kept - 1) e.kept) e.current slots slot free)

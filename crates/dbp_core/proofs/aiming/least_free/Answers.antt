@@ -1,0 +1,15 @@
+use Rattle.std.proofs.Common.{◌≡◌, ◌-◌, List, [], ◌∷◌, ◌++◌, length, take, ap, ◌∙◌, arith, refl}
+use Rattle.dbp_rules.specs.Places.{task_entry, wired}
+use Rattle.dbp_rules.specs.Promises.{claimed_of}
+use Rattle.dbp_slots.specs.FreeSlot.{IsLeastFree}
+use Rattle.dbp_core.proofs.ClaimedSlots.{free_staying}
+use Rattle.dbp_core.proofs.aiming.least_free.Goals as goal
+
+pub returns-in-len1-up : goal.returns-in-len1-up
+returns-in-len1-up c =
+    let kept : c.items.result.now ≡ (task_entry c.args.state.now c.args.i).kept = c.items.ensures.value ∙ ap (λ e. e.kept) c.entry_at-entry.ensures in
+    let taken : c.as_slice-in-len1-up.result.now ≡ claimed_of c.args.wiring.now c.args.state.now c.args.i ++ (task_entry c.args.state.now c.args.i).current ∷ [] =
+    c.as_slice-in-len1-up.ensures.value ∙ c.push.ensures.items ∙ rw (c.claimed_slots-taken.ensures.slots, c.entry_at-entry.ensures) refl in
+    free_staying (task_entry c.args.state.now c.args.i) (claimed_of c.args.wiring.now c.args.state.now c.args.i) (wired c.args.wiring.now c.args.i).slots c.free_slot-in-len1-up.result
+    (omega (arith, c.in-len1-up.len_at_least, ap length kept))
+    (rw (taken, kept, c.wired_at.ensures) at c.free_slot-in-len1-up.ensures)
