@@ -8,19 +8,23 @@ use Rattle.std.proofs.lemmas.List.Elements.{Contains-append_cases, Contains-appe
 use Rattle.std.proofs.lemmas.List.FromFn.{length-range_with_len}
 use Rattle.std.proofs.lemmas.List.Sums.{count_by-le-length, length-filter}
 use Rattle.dbp_slots.specs.FreeSlot.{IsLeastFree}
+use Rattle.sync_meaning.specs.SomeMeaning.{meaning_of}
+use Rattle.sync_meaning.specs.SomeMeaningTables.{rows_in}
 use Rattle.dbp_plan.specs.declared.limits.TheConstants.{MAX_READ_LINES}
 use Rattle.dbp_plan.specs.Lookups.{link_at}
 use Rattle.dbp_plan.specs.declared.plan.Plan.{Plan}
 use Rattle.dbp_rules.specs.Places.{link, link_entry, wired}
-use Rattle.dbp_rules.specs.Promises.{claimed_of, has_claim}
+use Rattle.dbp_rules.specs.Promises.{HasFreeSlot, claimed_of, has_claim}
 use Rattle.dbp_rules.specs.Rules.{staying}
 use Rattle.dbp_rules.specs.Shapes.{IsShape}
 use Rattle.dbp_rules.specs.declared.parts.TaskEntry.{TaskEntry}
-use Rattle.dbp_rules.specs.Wired.{links_at}
+use Rattle.dbp_rules.specs.Sound.{Sound}
+use Rattle.dbp_rules.specs.Wired.{links_at, wiring_of}
 use Rattle.dbp_rules.specs.declared.state.State.{State}
 use Rattle.dbp_rules.specs.declared.wiring.LinkEnd.TheVariants.{Writer}
 use Rattle.dbp_rules.specs.declared.wiring.TaskWiring.{TaskWiring}
 use Rattle.dbp_rules.specs.declared.wiring.Wiring.{Wiring}
+use Rattle.dbp_rules.proofs.FreeAims.{has_free_slot}
 use Rattle.dbp_rules.proofs.IntoTask.{links_below}
 
 -- ---- claims
@@ -124,3 +128,8 @@ free_staying e claims slots slot some free =
     let one : length e.kept ≡ suc (length e.kept - 1) = omega arith in
     let first : e.current ∷ take (length e.kept - 1) e.kept ≡ staying e = sym (ap (λ n. take n (e.current ∷ e.kept)) one) in
     subst (λ xs. IsLeastFree claims xs slots slot) first (free_moved claims (take (length e.kept - 1) e.kept) e.current slots slot free)
+
+-- under a plan's own wiring there is one
+pub has_room : (p : Plan) (w : Wiring) (s : State) (i : ℕ) → w ≡ wiring_of p w.count → Sound p w (rows_in (meaning_of p)) s → i < length p.diagram.tasks → HasFreeSlot w s i
+has_room p w s i own sound named =
+    subst (λ x. HasFreeSlot x s i) (sym own) (has_free_slot p w.count (rows_in (meaning_of p)) s i (subst (λ x. Sound p x (rows_in (meaning_of p)) s) own sound) named)

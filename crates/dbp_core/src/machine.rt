@@ -22,6 +22,7 @@ pub struct Core {
     plan: Plan,
     wiring: Wiring,
     state: State,
+    // The ranks of the tasks that have an aimed instance which hasn't ended.
     unfinished: RankMask,
     ghost wired: { wiring ≡ wiring_of plan wiring.count },
     ghost shape: { IsShape plan wiring state },
