@@ -36,12 +36,7 @@ fn has_claim(wiring: &Wiring, state: &State, i: u32, k: u32) -> bool
 }
 
 // The slots that the claims of the task's links keep from it.
-fn claimed_slots(
-    plan: &Plan,
-    wiring: &Wiring,
-    state: &State,
-    i: u32,
-) -> ArrayVec<u32, MAX_TAKEN>
+fn claimed_slots(plan: &Plan, wiring: &Wiring, state: &State, i: u32) -> ArrayVec<u32, MAX_TAKEN>
     requires task { i < length wiring.now.tasks }
     requires shape { IsShape plan.now wiring.now state.now }
     ensures slots { result.items ≡ claimed_of wiring.now state.now i }

@@ -18,7 +18,14 @@ use dbp_plan::Plan;
 use dbp_rules::{Broken, Heard, Illegal, Place, State, Step, Wiring};
 
 // Why the task may not make the step of this kind, if that is so.
-fn forbidden(wiring: &Wiring, state: &State, unfinished: RankMask, i: u32, number: u32, operand: u32) -> Option<Illegal>
+fn forbidden(
+    wiring: &Wiring,
+    state: &State,
+    unfinished: RankMask,
+    i: u32,
+    number: u32,
+    operand: u32,
+) -> Option<Illegal>
     requires wired { i < length wiring.now.tasks }
     requires tasks { length state.now.tasks ≡ length wiring.now.tasks }
     requires entries { length state.now.releaser.tasks ≡ length wiring.now.tasks }
@@ -125,7 +132,13 @@ fn step_claim(plan: &Plan, wiring: &Wiring, state: &mut State, k: u32) -> Result
     Ok(Heard::Stored)
 }
 
-fn step_start(plan: &Plan, wiring: &Wiring, state: &mut State, unfinished: RankMask, i: u32) -> Result<Heard, Illegal>
+fn step_start(
+    plan: &Plan,
+    wiring: &Wiring,
+    state: &mut State,
+    unfinished: RankMask,
+    i: u32,
+) -> Result<Heard, Illegal>
     requires task { i < length wiring.now.tasks }
     requires shape { IsShape plan.now wiring.now state.old }
     requires ranks { HasUnfinished wiring.now state.old unfinished }
@@ -148,7 +161,13 @@ fn step_start(plan: &Plan, wiring: &Wiring, state: &mut State, unfinished: RankM
     Ok(Heard::Started)
 }
 
-fn step_hear(plan: &Plan, wiring: &Wiring, state: &mut State, unfinished: RankMask, i: u32) -> Result<Heard, Illegal>
+fn step_hear(
+    plan: &Plan,
+    wiring: &Wiring,
+    state: &mut State,
+    unfinished: RankMask,
+    i: u32,
+) -> Result<Heard, Illegal>
     requires task { i < length wiring.now.tasks }
     requires shape { IsShape plan.now wiring.now state.old }
     requires ranks { HasUnfinished wiring.now state.old unfinished }
@@ -219,7 +238,13 @@ fn step_take(
     Ok(Heard::Word(word))
 }
 
-fn step_shut(plan: &Plan, wiring: &Wiring, state: &mut State, unfinished: RankMask, i: u32) -> Result<Heard, Illegal>
+fn step_shut(
+    plan: &Plan,
+    wiring: &Wiring,
+    state: &mut State,
+    unfinished: RankMask,
+    i: u32,
+) -> Result<Heard, Illegal>
     requires task { i < length wiring.now.tasks }
     requires shape { IsShape plan.now wiring.now state.old }
     requires ranks { HasUnfinished wiring.now state.old unfinished }
@@ -252,7 +277,13 @@ fn step_put(
     Ok(Heard::Stored)
 }
 
-fn step_done(plan: &Plan, wiring: &Wiring, state: &mut State, unfinished: RankMask, i: u32) -> Result<Heard, Illegal>
+fn step_done(
+    plan: &Plan,
+    wiring: &Wiring,
+    state: &mut State,
+    unfinished: RankMask,
+    i: u32,
+) -> Result<Heard, Illegal>
     requires task { i < length wiring.now.tasks }
     requires shape { IsShape plan.now wiring.now state.old }
     requires ranks { HasUnfinished wiring.now state.old unfinished }
@@ -265,7 +296,13 @@ fn step_done(plan: &Plan, wiring: &Wiring, state: &mut State, unfinished: RankMa
     Ok(Heard::Stored)
 }
 
-fn step_end(plan: &Plan, wiring: &Wiring, state: &mut State, unfinished: RankMask, i: u32) -> Result<Heard, Illegal>
+fn step_end(
+    plan: &Plan,
+    wiring: &Wiring,
+    state: &mut State,
+    unfinished: RankMask,
+    i: u32,
+) -> Result<Heard, Illegal>
     requires task { i < length wiring.now.tasks }
     requires shape { IsShape plan.now wiring.now state.old }
     requires ranks { HasUnfinished wiring.now state.old unfinished }

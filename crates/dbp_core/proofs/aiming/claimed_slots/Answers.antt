@@ -1,4 +1,4 @@
-use Rattle.std.proofs.Common.{◌≡◌, ◌<◌, ◌≤◌, [], ◌∷◌, ◌++◌,  length, take, ap, sym, ◌∙◌, arith, refl}
+use Rattle.std.proofs.Common.{◌≡◌, ◌<◌, ◌≤◌, [], ◌∷◌, ◌++◌, length, take, ap, sym, ◌∙◌, arith, refl}
 use Rattle.std.proofs.lemmas.List.{length-take-le, take_all}
 use Rattle.dbp_plan.specs.declared.limits.TheConstants.{MAX_READ_LINES}
 use Rattle.dbp_rules.specs.Wired.{links_at}

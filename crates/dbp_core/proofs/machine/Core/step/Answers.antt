@@ -27,7 +27,7 @@ pub recount-requires-clause-others : goal.recount-requires-clause-others
 recount-requires-clause-others c =
     let old = c.args.self.now in
     λ j below other. old.ranks j below
-        ∙ sym (asked_unfinished old.plan old.wiring old.state old.shape c.advance-answer.new.state c.args.step c.advance-answer.result j c.requires c.advance-answer.ensures other)
+    ∙ sym (asked_unfinished old.plan old.wiring old.state old.shape c.advance-answer.new.state c.args.step c.advance-answer.result j c.requires c.advance-answer.ensures other)
 
 pub invariant_of-self : goal.invariant_of-self
 invariant_of-self c =
