@@ -1,7 +1,6 @@
-use Rattle.std.proofs.Common.{◌≡◌, ◌-◌, List, [], ◌∷◌, ◌++◌, length, take, ap, ◌∙◌, arith, refl}
+use Rattle.std.proofs.Common.{◌≡◌, [], ◌∷◌, ◌++◌, length, ap, ◌∙◌, arith, refl}
 use Rattle.dbp_rules.specs.Places.{task_entry, wired}
 use Rattle.dbp_rules.specs.Promises.{claimed_of}
-use Rattle.dbp_slots.specs.FreeSlot.{IsLeastFree}
 use Rattle.dbp_core.proofs.ClaimedSlots.{free_staying}
 use Rattle.dbp_core.proofs.aiming.least_free.Goals as goal
 
