@@ -35,7 +35,7 @@ loop-k-preserved c =
     elim c.if-has_claim.branch [
       | then-has_claim b ↦
           ap (λ v. v.items) b.claimed-is ∙ b.push.ensures.items ∙ ap (λ xs. xs ++ b.claim_over.result.slot ∷ []) c.loop-k.invariant
-          ∙ ap (λ (e : LinkEntry). claimed_over c.args.wiring.now c.args.state.now c.args.i (take c.loop-k.k-index c.items-k-items.result.now) ++ e.slot ∷ []) b.claim_at.ensures
+          ∙ ap (λ (e : LinkEntry). claimed_over c.args.wiring.now c.args.state.now c.args.i (take c.loop-k.k-index c.items-k-items.result.now) ++ e.slot ∷ []) b.claim_over.ensures
           ∙ sym (claimed_more c.args.wiring.now c.args.state.now c.args.i c.loop-k.k-index c.items-k-items.result.now c.loop-k-test.true (sym c.has_claim.ensures ∙ b.if-has_claim.true))
       | else-has_claim b ↦
           ap (λ v. v.items) b.claimed-is ∙ c.loop-k.invariant
