@@ -163,6 +163,10 @@ module _ (p : Plan) (w : Wiring) (rows : ℕ → ℕ → List ℤ) (s : State) (
     slot = λ k below. (sound.shape.each_link k below).claim.0;
   }
 
+  -- as many slots are kept as the wiring says
+  pub kept_size : (i : ℕ) → i < length p.diagram.tasks → length (task_entry s i).kept ≡ (wired w i).kept
+  kept_size i named = (sound.shape.each_entry i (there i named)).kept
+
   pub task_in_shape : (i : ℕ) → i < length p.diagram.tasks → TaskPartShape w i (task s i).part
   task_in_shape i named =
       let below : i < length w.tasks = there i named in
