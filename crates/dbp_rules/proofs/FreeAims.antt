@@ -1,5 +1,5 @@
 -- A slot is free for each aim: claimed and kept slots are fewer than a task's slots.
-use Rattle.std.proofs.Common.{◌≡◌, ◌≢◌, ℕ, zero, suc, ℤ, ◌+◌, ◌<◌, ◌≤◌, ◌⊎◌, Bool, true, false, cond, Contains, List, [], ◌∷◌, length, map, get_or, Some, refl, sym, ◌∙◌, ap, subst, arith, inl, inr}
+use Rattle.std.proofs.Common.{◌≡◌, ◌≢◌, ℕ, zero, suc, ◌+◌, ◌<◌, ◌≤◌, ◌⊎◌, Bool, true, false, cond, Contains, List, [], ◌∷◌, length, map, get_or, Some, refl, sym, ◌∙◌, ap, subst, arith, inl, inr}
 use Rattle.std.specs.Prelude.{count_by, filter, nat_lt, slice_get, ◌==◌, ◌||◌}
 use Rattle.std.specs.List.{list_any, range_with_len}
 use Rattle.std.proofs.lemmas.Bool.{and_parts, cases_Bool, cases_lt, eq-eqb, eqb-true, lt-ltb, ltb-true}
@@ -116,7 +116,7 @@ claims_few p All r i =
 
 pub has_free_slot : (p : Plan) (count : Count) (r : ReleaserPart) (i : ℕ) → i < length p.diagram.tasks → length (entry_in r i).kept ≡ (wired (wiring_of p count) i).kept → HasFreeSlotIn (wiring_of p count) r i
 has_free_slot p count r i named size =
-    let kept : length (rule.staying (entry_in r i)) ≡ length (entry_in r i).kept = length-take-le (length (entry_in r i).kept) ((entry_in r i).current ∷ (entry_in r i).kept) (omega arith) in
+    let kept : length (rule.kept_after_aim (entry_in r i)) ≡ length (entry_in r i).kept = length-take-le (length (entry_in r i).kept) ((entry_in r i).current ∷ (entry_in r i).kept) (omega arith) in
     let claimed : length (claimed_in (wiring_of p count) r i) ≡ count_by (has_claim_in (wiring_of p count) r i) (range_with_len 0 (length p.diagram.links)) =
     length-map (filter (has_claim_in (wiring_of p count) r i) (range_with_len 0 (length p.diagram.links))) (λ k. (claim_in r k).slot) ∙ length-filter (has_claim_in (wiring_of p count) r i) (range_with_len 0 (length p.diagram.links)) in
     let slots : (wired (wiring_of p count) i).slots ≡ slot_count count p i = ap (λ (t : TaskWiring). t.slots) (wired_is p count i named) in
@@ -226,7 +226,7 @@ keeps_claims w r i slot k is same =
     rw (out.0, counted.0, counted.1, eq-eqb (claim_in r k).slot slot same) refl
 
 pub exact_aim : (w : Wiring) (r : ReleaserPart) (i slot : ℕ) → slice_get w.releases r.place ≡ Some (release.Aim i) → (entry_in r i).aimed ≡ (entry_in r i).known
-    → IsLeastFree (claimed_in w r i) (rule.staying (entry_in r i)) (wired w i).slots slot → IsLeastAimIn w r i slot
+    → IsLeastFree (claimed_in w r i) (rule.kept_after_aim (entry_in r i)) (wired w i).slots slot → IsLeastAimIn w r i slot
 exact_aim w r i slot here known free = record {
   free = free;
   allowed = allowed_aim w r i slot (record {
@@ -234,7 +234,7 @@ exact_aim w r i slot here known free = record {
     known = known;
     below = free.below;
     fresh = elim (cases_Bool (rule.stays_kept (entry_in r i) slot)) [
-      | inl stays ↦ absurd (free.unkept (any_contains (rule.staying (entry_in r i)) slot stays))
+      | inl stays ↦ absurd (free.unkept (any_contains (rule.kept_after_aim (entry_in r i)) slot stays))
       | inr gone ↦ gone
     ];
     unclaimed = λ k fits. elim (cases_Bool (rule.claims_slot_in w r i slot k)) [
@@ -252,7 +252,7 @@ exact_aim w r i slot here known free = record {
               let v : IsValue (has_claim_in w r i) (λ j. (claim_in r j).slot) n 0 (length w.links) = value_found (has_claim_in w r i) (λ j. (claim_in r j).slot) n 0 (length w.links) (contains_any (claimed_in w r i) n claimed) in
               let is : rule.claims_slot_in w r i n v.number ≡ true = keeps_claims w r i n v.number v.passes v.value in
               absurd (cc (is, a.unclaimed v.number (omega (arith, v.below))))
-          | inr stays ↦ let is : rule.stays_kept (entry_in r i) n ≡ true = contains_any (rule.staying (entry_in r i)) n stays in absurd (cc (is, a.fresh))
+          | inr stays ↦ let is : rule.stays_kept (entry_in r i) n ≡ true = contains_any (rule.kept_after_aim (entry_in r i)) n stays in absurd (cc (is, a.fresh))
         ]
         | inr more ↦ more
       ];
@@ -268,7 +268,7 @@ pub some_aim : (p : Plan) (count : Count) (r : ReleaserPart) (i : ℕ) → lengt
     → slice_get (wiring_of p count).releases r.place ≡ Some (release.Aim i) → (entry_in r i).aimed ≡ (entry_in r i).known → (slot : ℕ) × IsLeastAimIn (wiring_of p count) r i slot
 some_aim p count r i size here known =
     let few : HasFreeSlotIn (wiring_of p count) r i = has_free_slot p count r i (aim_named p count r.place i here) size in
-    elim (free_from (claimed_in (wiring_of p count) r i) (rule.staying (entry_in r i)) (wired (wiring_of p count) i).slots 0 (wired (wiring_of p count) i).slots (omega arith) (λ m below. absurd (omega arith))) [
+    elim (free_from (claimed_in (wiring_of p count) r i) (rule.kept_after_aim (entry_in r i)) (wired (wiring_of p count) i).slots 0 (wired (wiring_of p count) i).slots (omega arith) (λ m below. absurd (omega arith))) [
       | inl found ↦ (found.0, exact_aim (wiring_of p count) r i found.0 here known found.1)
-      | inr taken ↦ absurd (one_free (claimed_in (wiring_of p count) r i) (rule.staying (entry_in r i)) (wired (wiring_of p count) i).slots few taken)
+      | inr taken ↦ absurd (one_free (claimed_in (wiring_of p count) r i) (rule.kept_after_aim (entry_in r i)) (wired (wiring_of p count) i).slots few taken)
     ]

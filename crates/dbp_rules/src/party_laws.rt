@@ -4,7 +4,7 @@ ghost use Rattle.std.specs.Prelude.{◌≡◌, ◌<◌, ℕ, ℤ, List as Items,
 ghost use Rattle.dbp_plan.specs.declared.plan.Plan.{Plan};
 ghost use Rattle.dbp_slots.specs.FreeSlot.{IsLeastFree};
 ghost use Rattle.release_list.specs.declared.release.Release.TheVariants.{Aim as AimOf};
-ghost use Rattle.dbp_rules.specs.PartyRules.{Loaded, claimed_in, releaser_after, releaser_refusal, staying, task_after, task_refusal};
+ghost use Rattle.dbp_rules.specs.PartyRules.{Loaded, claimed_in, releaser_after, releaser_refusal, kept_after_aim, task_after, task_refusal};
 ghost use Rattle.dbp_rules.specs.PartyShapes.{IsNamedIn, ReleaserLoads, ReleaserShape, TaskLoads, TaskPartShape};
 ghost use Rattle.dbp_rules.specs.Places.{entry_in, task, wired};
 ghost use Rattle.dbp_rules.specs.Promises.{HasFreeSlotIn, IsLeastAimIn};
@@ -66,5 +66,5 @@ pub fn a_releaser_has_a_free_slot()
     ensures least { (p : Plan) (count : Count) (r : ReleaserPart) (i : ℕ) → length (entry_in r i).kept ≡ (wired (wiring_of p count) i).kept
         → slice_get (wiring_of p count).releases r.place ≡ Some (AimOf i) → (entry_in r i).aimed ≡ (entry_in r i).known → (slot : ℕ) × IsLeastAimIn (wiring_of p count) r i slot }
     ensures exact { (p : Plan) (count : Count) (r : ReleaserPart) (i slot : ℕ) → slice_get (wiring_of p count).releases r.place ≡ Some (AimOf i) → (entry_in r i).aimed ≡ (entry_in r i).known
-        → IsLeastFree (claimed_in (wiring_of p count) r i) (staying (entry_in r i)) (wired (wiring_of p count) i).slots slot → IsLeastAimIn (wiring_of p count) r i slot }
+        → IsLeastFree (claimed_in (wiring_of p count) r i) (kept_after_aim (entry_in r i)) (wired (wiring_of p count) i).slots slot → IsLeastAimIn (wiring_of p count) r i slot }
 {}

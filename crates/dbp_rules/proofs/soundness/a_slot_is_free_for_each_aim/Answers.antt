@@ -1,6 +1,3 @@
-use Rattle.std.proofs.Common.{◌≡◌, ◌<◌, ℕ, length, arith}
-use Rattle.dbp_rules.specs.Places.{task_entry, wired}
-use Rattle.dbp_rules.specs.Sound.{Sound}
 use Rattle.dbp_rules.specs.Wired.{wiring_of}
 use Rattle.dbp_rules.proofs.FreeAims.{aim_named, exact_aim, has_free_slot, some_aim}
 use Rattle.dbp_rules.proofs.Parties.{kept_size}
