@@ -12,9 +12,9 @@ use Rattle.sync_meaning.specs.SomeMeaningTables.{rows_in}
 use Rattle.dbp_plan.specs.declared.limits.TheConstants.{MAX_READ_LINES}
 use Rattle.dbp_plan.specs.Lookups.{link_at}
 use Rattle.dbp_plan.specs.declared.plan.Plan.{Plan}
-use Rattle.dbp_rules.specs.Places.{link, link_entry, wired}
+use Rattle.dbp_rules.specs.Places.{link, link_entry, task_entry, wired}
 use Rattle.dbp_rules.specs.Promises.{HasFreeSlot, claimed_of, has_claim}
-use Rattle.dbp_rules.specs.Rules.{staying}
+use Rattle.dbp_rules.specs.Rules.{kept_after_aim}
 use Rattle.dbp_rules.specs.Shapes.{IsShape}
 use Rattle.dbp_rules.specs.declared.parts.TaskEntry.{TaskEntry}
 use Rattle.dbp_rules.specs.Sound.{Sound}
@@ -122,13 +122,13 @@ free_moved claims kept current slots slot free = record {
 }
 
 -- the first of the slots that stay kept is the current one
-pub free_staying : (e : TaskEntry) (claims : List ℕ) (slots slot : ℕ) → 1 ≤ length e.kept → IsLeastFree (claims ++ e.current ∷ []) (take (length e.kept - 1) e.kept) slots slot → IsLeastFree claims (staying e) slots slot
+pub free_staying : (e : TaskEntry) (claims : List ℕ) (slots slot : ℕ) → 1 ≤ length e.kept → IsLeastFree (claims ++ e.current ∷ []) (take (length e.kept - 1) e.kept) slots slot → IsLeastFree claims (kept_after_aim e) slots slot
 free_staying e claims slots slot some free =
     let one : length e.kept ≡ suc (length e.kept - 1) = omega arith in
-    let first : e.current ∷ take (length e.kept - 1) e.kept ≡ staying e = sym (ap (λ n. take n (e.current ∷ e.kept)) one) in
+    let first : e.current ∷ take (length e.kept - 1) e.kept ≡ kept_after_aim e = sym (ap (λ n. take n (e.current ∷ e.kept)) one) in
     subst (λ xs. IsLeastFree claims xs slots slot) first (free_moved claims (take (length e.kept - 1) e.kept) e.current slots slot free)
 
 -- under a plan's own wiring there is one
 pub has_room : (p : Plan) (w : Wiring) (s : State) (i : ℕ) → w ≡ wiring_of p w.count → Sound p w (rows_in (meaning_of p)) s → i < length p.diagram.tasks → HasFreeSlot w s i
 has_room p w s i own sound named =
-    subst (λ x. HasFreeSlot x s i) (sym own) (has_free_slot p w.count (rows_in (meaning_of p)) s i (subst (λ x. Sound p x (rows_in (meaning_of p)) s) own sound) named)
+    subst (λ x. HasFreeSlot x s i) (sym own) (has_free_slot p w.count s.releaser i named (subst (λ x. length (task_entry s i).kept ≡ (wired x i).kept) own (sound.shape.each_entry i (omega (arith, named, sound.shape.wiring.tasks))).kept))

@@ -5,7 +5,7 @@ ghost use Rattle.dbp_plan.specs.declared.limits.TheConstants.{MAX_READ_LINES};
 ghost use Rattle.dbp_rules.specs.PartyShapes.{LinksFit};
 ghost use Rattle.dbp_rules.specs.Places.{task_entry, wired};
 ghost use Rattle.dbp_rules.specs.Promises.{HasFreeSlot, claimed_of, has_claim};
-ghost use Rattle.dbp_rules.specs.Rules.{staying};
+ghost use Rattle.dbp_rules.specs.Rules.{kept_after_aim};
 ghost use Rattle.dbp_rules.specs.Shapes.{IsShape};
 ghost use Rattle.dbp_slots.specs.FreeSlot.{IsLeastFree};
 
@@ -55,7 +55,7 @@ pub(crate) fn least_free(plan: &Plan, wiring: &Wiring, state: &State, i: u32) ->
     requires task { i < length wiring.now.tasks }
     requires shape { IsShape plan.now wiring.now state.now }
     requires room { HasFreeSlot wiring.now state.now i }
-    ensures { IsLeastFree (claimed_of wiring.now state.now i) (staying (task_entry state.now i)) (wired wiring.now i).slots result }
+    ensures { IsLeastFree (claimed_of wiring.now state.now i) (kept_after_aim (task_entry state.now i)) (wired wiring.now i).slots result }
 {
     let mut taken = claimed_slots(plan, wiring, state, i);
     let entry = entry_at(state, i);

@@ -12,7 +12,7 @@ pub(crate) fn see(state: &mut State, i: u32) -> u32
     requires entries { i < length state.old.releaser.tasks }
     requires tasks { i < length state.old.tasks }
     ensures ended { result ≡ (task state.old i).words.ended }
-    ensures next { state.new ≡ with_entry state.old i (move.seen (task_entry state.old i) (task state.old i).words.ended) }
+    ensures next { state.new ≡ with_entry state.old i (move.after_seen (task_entry state.old i) (task state.old i).words.ended) }
 {
     let ended = task_at(state, i).words.ended;
     state.releaser.see(i, ended);
@@ -23,7 +23,7 @@ pub(crate) fn open(state: &mut State, i: u32)
     requires entries { i < length state.old.releaser.tasks }
     requires tasks { i < length state.old.tasks }
     requires place { state.old.releaser.place + 1 < 2 ^ 32 }
-    ensures { state.new ≡ further (with_task state.old i (record (task state.old i) { words = move.opened (task state.old i).words (task_entry state.old i).aimed })) }
+    ensures { state.new ≡ further (with_task state.old i (record (task state.old i) { words = move.words_after_open (task state.old i).words (task_entry state.old i).aimed })) }
 {
     let gate = state.releaser.open(i);
     let task = &mut state.tasks.items_mut()[i as usize];
@@ -35,7 +35,7 @@ pub(crate) fn aim(state: &mut State, i: u32, slot: u32)
     requires tasks { i < length state.old.tasks }
     requires aimed { (task_entry state.old i).aimed + 1 < 2 ^ 32 }
     requires place { state.old.releaser.place + 1 < 2 ^ 32 }
-    ensures { state.new ≡ further (with_task (with_entry state.old i (move.aimed (task_entry state.old i) slot)) i (record (task state.old i) { words = move.aimed_words (task state.old i).words (move.aimed (task_entry state.old i) slot) })) }
+    ensures { state.new ≡ further (with_task (with_entry state.old i (move.after_aim (task_entry state.old i) slot)) i (record (task state.old i) { words = move.words_after_aim (task state.old i).words (move.after_aim (task_entry state.old i) slot) })) }
 {
     let aim = state.releaser.aim(i, slot);
     let task = &mut state.tasks.items_mut()[i as usize];
@@ -50,7 +50,7 @@ pub(crate) fn claim(wiring: &Wiring, state: &mut State, k: u32)
     requires reader { (link wiring.now k).reader < length state.old.releaser.tasks }
     requires kept { (link wiring.now k).delay < length (task_entry state.old (link wiring.now k).writer).kept + 1 }
     requires place { state.old.releaser.place + 1 < 2 ^ 32 }
-    ensures { state.new ≡ further (with_claim state.old k (move.claimed (link wiring.now k).delay (task_entry state.old (link wiring.now k).writer) (task_entry state.old (link wiring.now k).reader))) }
+    ensures { state.new ≡ further (with_claim state.old k (move.claim_entry (link wiring.now k).delay (task_entry state.old (link wiring.now k).writer) (task_entry state.old (link wiring.now k).reader))) }
 {
     let order = state.releaser.claim(wiring, k);
     state.orders.items_mut()[k as usize] = order;

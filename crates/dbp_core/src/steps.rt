@@ -28,7 +28,7 @@ pub(crate) fn is_open(state: &State, i: u32) -> bool
 pub(crate) fn start(state: &mut State, i: u32)
     requires task { i < length state.old.tasks }
     requires ended { (task state.old i).part.ended + 1 < 2 ^ 32 }
-    ensures { state.new ≡ with_part state.old i (move.started (task state.old i).part (rule.is_open state.old i)) }
+    ensures { state.new ≡ with_part state.old i (move.after_start (task state.old i).part (rule.is_open state.old i)) }
 {
     let task = &mut state.tasks.items_mut()[i as usize];
     task.part.start(task.words.gate);
@@ -60,7 +60,7 @@ pub(crate) fn hear(wiring: &Wiring, state: &mut State, i: u32, n: u32) -> Order
     requires few { 1 + length (wired wiring.now i).links < 2 ^ 32 }
     requires small { n + 1 < 2 ^ 32 }
     ensures order { result ≡ rule.order_word wiring.now state.old i n }
-    ensures next { state.new ≡ with_part state.old i (move.heard (wired wiring.now i) (task state.old i).part n (rule.order_word wiring.now state.old i n)) }
+    ensures next { state.new ≡ with_part state.old i (move.after_hear (wired wiring.now i) (task state.old i).part n (rule.order_word wiring.now state.old i n)) }
 {
     let order = order_word(wiring, state, i, n);
     let task = &mut state.tasks.items_mut()[i as usize];
@@ -110,7 +110,7 @@ pub(crate) fn look(wiring: &Wiring, state: &mut State, i: u32, n: u32) -> bool
     requires slot { (rule.read_order wiring.now state.old i n).slot < length (task state.old (read_at (wired wiring.now i) n).writer).words.slots }
     requires number { (rule.read_order wiring.now state.old i n).number + 1 < 2 ^ 32 }
     ensures ready { result ≡ rule.is_ready wiring.now state.old i n }
-    ensures next { state.new ≡ with_part state.old i (move.looked (task state.old i).part n (rule.is_ready wiring.now state.old i n)) }
+    ensures next { state.new ≡ with_part state.old i (move.after_look (task state.old i).part n (rule.is_ready wiring.now state.old i n)) }
 {
     let stamp = read_slot(wiring, state, i, n).stamp;
     let task = &mut state.tasks.items_mut()[i as usize];
@@ -124,7 +124,7 @@ pub(crate) fn take(wiring: &Wiring, state: &mut State, i: u32, n: u32, kept: usi
     requires at { rule.turn_at (task state.old i).part.place ≡ n }
     requires kept { kept < length (task state.old i).work.now }
     requires small { n + 1 < 2 ^ 32 }
-    ensures { state.new ≡ with_task state.old i (record { words = (task state.old i).words; part = move.took (wired wiring.now i) (task state.old i).part n; work = move.with_now (task state.old i).work kept word }) }
+    ensures { state.new ≡ with_task state.old i (record { words = (task state.old i).words; part = move.after_take (wired wiring.now i) (task state.old i).part n; work = move.with_now (task state.old i).work kept word }) }
 {
     let task = &mut state.tasks.items_mut()[i as usize];
     task.work.set(kept, word);
@@ -160,7 +160,7 @@ pub(crate) fn finish(state: &mut State, i: u32)
     requires slot { move.own_slot (task state.old i).part < length (task state.old i).words.slots }
     requires ended { (task state.old i).part.ended + 2 < 2 ^ 32 }
     ensures { state.new ≡ with_task state.old i (record {
-      words = move.stamped (task state.old i).words (move.own_slot (task state.old i).part) ((task state.old i).part.ended + 2);
+      words = move.with_stamp (task state.old i).words (move.own_slot (task state.old i).part) ((task state.old i).part.ended + 2);
       part = move.at_place (task state.old i).part place.End;
       work = (task state.old i).work;
     }) }
@@ -177,7 +177,7 @@ pub(crate) fn end(state: &mut State, i: u32)
     requires ended { (task state.old i).part.ended + 1 < 2 ^ 32 }
     ensures { state.new ≡ with_task state.old i (record {
       words = move.with_ended (task state.old i).words ((task state.old i).part.ended + 1);
-      part = move.ended (task state.old i).part;
+      part = move.after_end (task state.old i).part;
       work = move.advanced (task state.old i).work;
     }) }
 {
@@ -199,7 +199,7 @@ pub(crate) fn shut(plan: &Plan, wiring: &Wiring, state: &mut State, i: u32)
     requires now { length (task state.old i).work.now ≡ place_count (declared plan.now i) }
     requires later { length (task state.old i).work.later ≡ length (declared plan.now i).states }
     ensures { state.new ≡ with_task state.old i (record {
-      words = move.stamped (task state.old i).words (move.own_slot (task state.old i).part) 0;
+      words = move.with_stamp (task state.old i).words (move.own_slot (task state.old i).part) 0;
       part = move.at_place (task state.old i).part (place.Put 0);
       work = move.worked (declared plan.now i) (rule.sensed plan.now wiring.now state.old i) (task state.old i).work;
     }) }

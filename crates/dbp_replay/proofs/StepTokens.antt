@@ -24,7 +24,8 @@ use Rattle.dbp_replay.specs.Names.{HasNames, HasSlotNumber}
 use Rattle.dbp_replay.specs.Places.{IsThere, link_in, port_name, read_name, task_in, task_of}
 use Rattle.dbp_replay.specs.Scripts.{Says}
 use Rattle.dbp_replay.specs.StepForms.{form_of, named_step, number_of, numbered, of_kind, of_task, operand_of, step_with, with_operand}
-use Rattle.dbp_replay.specs.Texts.{delay_words, kind_of, operand_words, spaced, step_text}
+use Rattle.dbp_replay.specs.Texts.{delay_words, operand_words, spaced, step_text}
+use Rattle.dbp_rules.specs.StepKinds.{kind_of}
 use Rattle.dbp_replay.proofs.FirstPlaces.{link-place, port-place, port-printable, read-place, read-printable, task-place, task-printable}
 use Rattle.dbp_replay.proofs.StepWords.{first-printable, first-text, first-unsigned, first_token, kind-again}
 

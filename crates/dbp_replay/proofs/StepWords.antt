@@ -13,16 +13,16 @@ use Rattle.dia_tokens.specs.Pieces.{name}
 use Rattle.dia_tokens.specs.Printable.{IsPrintableName, IsPrintableToken}
 use Rattle.dia_tokens.specs.TokenText.{line_text, text_behind}
 use Rattle.dia_tokens.specs.Words.{word_of}
-use Rattle.dbp_replay.specs.declared.kind.Kind.{Kind}
-use Rattle.dbp_replay.specs.declared.kind.Kind.TheVariants.{Done}
+use Rattle.dbp_rules.specs.declared.kind.StepKind.{StepKind}
+use Rattle.dbp_rules.specs.declared.kind.StepKind.TheVariants.{Done}
 use Rattle.dbp_replay.specs.StepForms.{form_of, kind_with, spelled}
 
 -- the token of a kind's word: only `done` is a reserved word
-abbrev pub first_token : Kind → Token
+abbrev pub first_token : StepKind → Token
 first_token Done = token.Word word.Done
 first_token k = token.Name (form_of k).0
 
-pub first-text : (k : Kind) (ts : List Token) → (form_of k).0 ++ text_behind Loose ts ≡ line_text (first_token k ∷ ts)
+pub first-text : (k : StepKind) (ts : List Token) → (form_of k).0 ++ text_behind Loose ts ≡ line_text (first_token k ∷ ts)
 first-text Done ts = refl
 first-text k ts = refl
 
@@ -30,15 +30,15 @@ first-text k ts = refl
 tested-name : (text : List ℕ) → BeginsAsName text → list_all is_name_byte text ≡ true → length text ≤ MAX_NAME → word_of text ≡ name text → IsPrintableName text
 tested-name text begins each fits free = (record { begins = begins; each = AllPass-from_list_all is_name_byte text each; fits = fits }, free)
 
-pub first-printable : (k : Kind) → IsPrintableToken (first_token k)
+pub first-printable : (k : StepKind) → IsPrintableToken (first_token k)
 unfolding word_of
 first-printable Done = tt
 first-printable k = tested-name (form_of k).0 refl refl (omega arith) refl
 
-pub kind-again : (k : Kind) → kind_with (spelled (first_token k)) ≡ Some k
+pub kind-again : (k : StepKind) → kind_with (spelled (first_token k)) ≡ Some k
 kind-again Done = refl
 kind-again k = refl
 
-pub first-unsigned : (k : Kind) → IsUnsigned (first_token k)
+pub first-unsigned : (k : StepKind) → IsUnsigned (first_token k)
 first-unsigned Done = tt
 first-unsigned k = tt

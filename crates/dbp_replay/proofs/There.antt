@@ -17,8 +17,8 @@ use Rattle.dia_tokens.specs.declared.token.Word.TheVariants.{Pre}
 use Rattle.dbp_replay.specs.declared.form.Form.{Form}
 use Rattle.dbp_replay.specs.declared.form.Operand.{Operand}
 use Rattle.dbp_replay.specs.declared.form.Operand.TheVariants as operand
-use Rattle.dbp_replay.specs.declared.kind.Kind.{Kind}
-use Rattle.dbp_replay.specs.declared.kind.Kind.TheVariants.{Seen, Aim, Claim, OpenGate, Start, Hear, Look, Take, Shut, Put, Done, End}
+use Rattle.dbp_rules.specs.declared.kind.StepKind.{StepKind}
+use Rattle.dbp_rules.specs.declared.kind.StepKind.TheVariants.{Seen, Aim, Claim, OpenGate, Start, Hear, Look, Take, Shut, Put, Done, End}
 use Rattle.dbp_replay.specs.declared.kind.Takes.{Takes}
 use Rattle.dbp_replay.specs.declared.kind.Takes.TheVariants.{Nothing, Slot, Writer, Read, Port}
 use Rattle.dbp_replay.specs.Places.{IsThere, link_in, task_in}
@@ -78,7 +78,7 @@ linked d i delay n (Some w) there below e =
 named-below : (d : Diagram) (name : List ℕ) (i : ℕ) → task_named d name ≡ Some i → i < length d.tasks
 named-below d name i e = within-below (length d.tasks) (position_or_len (λ t. bytes_eq t.name name) d.tasks) i e
 
-there : (d : Diagram) (kind : Kind) (i n : ℕ) (o : Operand) → i < length d.tasks → Fits (form_of kind).1 o → number_of d i o ≡ Some n → IsThere d (step_with kind i n)
+there : (d : Diagram) (kind : StepKind) (i n : ℕ) (o : Operand) → i < length d.tasks → Fits (form_of kind).1 o → number_of d i o ≡ Some n → IsThere d (step_with kind i n)
 there d Seen i n o below fits e = record { named = below; task = below; operand = tt }
 there d Aim i n o below fits e = record { named = below; task = below; operand = tt }
 there d Claim i n (operand.Link delay w) below fits e =
@@ -97,7 +97,7 @@ there d _ i n o below fits e = absurd (fits)
 
 -- ---- the step of tokens
 
-there-numbered : (d : Diagram) (kind : Kind) (i : ℕ) (o : Operand) (e : Step) (n : Option ℕ) → number_of d i o ≡ n → i < length d.tasks → Fits (form_of kind).1 o → numbered kind i n ≡ Ok e → IsThere d e
+there-numbered : (d : Diagram) (kind : StepKind) (i : ℕ) (o : Operand) (e : Step) (n : Option ℕ) → number_of d i o ≡ n → i < length d.tasks → Fits (form_of kind).1 o → numbered kind i n ≡ Ok e → IsThere d e
 there-numbered d kind i o e None is below fits ok = absurd (cc (ok))
 there-numbered d kind i o e (Some n) is below fits ok =
     let same : step_with kind i n ≡ e = cc (ok) in
@@ -107,11 +107,11 @@ there-named : (d : Diagram) (f : Form) (e : Step) (i : Option ℕ) → task_name
 there-named d f e None is fits ok = absurd (cc (ok))
 there-named d f e (Some i) is fits ok = there-numbered d f.kind i f.operand e (number_of d i f.operand) refl (named-below d f.task i is) fits ok
 
-there-operand : (d : Diagram) (kind : Kind) (task : List ℕ) (e : Step) (o : Option Operand) → ((p : Operand) → o ≡ Some p → Fits (form_of kind).1 p) → named_step d (with_operand kind task o) ≡ Ok e → IsThere d e
+there-operand : (d : Diagram) (kind : StepKind) (task : List ℕ) (e : Step) (o : Option Operand) → ((p : Operand) → o ≡ Some p → Fits (form_of kind).1 p) → named_step d (with_operand kind task o) ≡ Ok e → IsThere d e
 there-operand d kind task e None fits ok = absurd (cc (ok))
 there-operand d kind task e (Some o) fits ok = there-named d (record { kind = kind; task = task; operand = o }) e (task_named d task) refl (fits o refl) ok
 
-there-kind : (d : Diagram) (task : List ℕ) (rest : List Token) (e : Step) (k : Option Kind) → named_step d (of_kind k task rest) ≡ Ok e → IsThere d e
+there-kind : (d : Diagram) (task : List ℕ) (rest : List Token) (e : Step) (k : Option StepKind) → named_step d (of_kind k task rest) ≡ Ok e → IsThere d e
 there-kind d task rest e None ok = absurd (cc (ok))
 there-kind d task rest e (Some kind) ok = there-operand d kind task e (operand_of (form_of kind).1 rest) (λ o is. operand-fits (form_of kind).1 rest o is) ok
 

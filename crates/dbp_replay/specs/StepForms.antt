@@ -16,14 +16,14 @@ use Rattle.dbp_replay.specs.declared.fail.ScriptCode.TheVariants.{BadStep, StepN
 use Rattle.dbp_replay.specs.declared.form.Form.{Form}
 use Rattle.dbp_replay.specs.declared.form.Operand.{Operand}
 use Rattle.dbp_replay.specs.declared.form.Operand.TheVariants as operand
-use Rattle.dbp_replay.specs.declared.kind.Kind.{Kind}
-use Rattle.dbp_replay.specs.declared.kind.Kind.TheVariants.{Seen, Aim, Claim, OpenGate, Start, Hear, Look, Take, Shut, Put, Done, End}
+use Rattle.dbp_rules.specs.declared.kind.StepKind.{StepKind}
+use Rattle.dbp_rules.specs.declared.kind.StepKind.TheVariants.{Seen, Aim, Claim, OpenGate, Start, Hear, Look, Take, Shut, Put, Done, End}
 use Rattle.dbp_replay.specs.declared.kind.Takes.{Takes}
 use Rattle.dbp_replay.specs.declared.kind.Takes.TheVariants.{Nothing, Slot, Writer, Read, Port}
 
 -- ---- the table of forms: the word that begins a line, and what stands behind the task
 
-abbrev pub form_of : Kind → List ℕ × Takes
+abbrev pub form_of : StepKind → List ℕ × Takes
 form_of Seen = (codes "seen", Nothing)
 form_of Aim = (codes "aim", Slot)
 form_of Claim = (codes "claim", Writer)
@@ -37,14 +37,14 @@ form_of Put = (codes "put", Port)
 form_of Done = (codes "done", Nothing)
 form_of End = (codes "end", Nothing)
 
-abbrev pub all_kinds : List Kind
+abbrev pub all_kinds : List StepKind
 all_kinds = Seen ∷ Aim ∷ Claim ∷ OpenGate ∷ Start ∷ Hear ∷ Look ∷ Take ∷ Shut ∷ Put ∷ Done ∷ End ∷ []
 
 -- the first of the kinds that has the word
-abbrev pub kind_among : List Kind → List ℕ → Option Kind
+abbrev pub kind_among : List StepKind → List ℕ → Option StepKind
 kind_among kinds text = find (λ k. bytes_eq (form_of k).0 text) kinds
 
-abbrev pub kind_with : List ℕ → Option Kind
+abbrev pub kind_with : List ℕ → Option StepKind
 kind_with text = kind_among all_kinds text
 
 -- ---- the form of tokens
@@ -71,11 +71,11 @@ operand_of Port (token.Name p ∷ []) = Some (operand.Port p)
 operand_of _ _ = None
 
 -- a line of the kind with this task
-abbrev pub with_operand : Kind → List ℕ → Option Operand → Option Form
+abbrev pub with_operand : StepKind → List ℕ → Option Operand → Option Form
 with_operand kind task None = None
 with_operand kind task (Some o) = Some (record { kind = kind; task = task; operand = o })
 
-abbrev pub of_kind : Option Kind → List ℕ → List Token → Option Form
+abbrev pub of_kind : Option StepKind → List ℕ → List Token → Option Form
 of_kind None task rest = None
 of_kind (Some kind) task rest = with_operand kind task (operand_of (form_of kind).1 rest)
 
@@ -118,7 +118,7 @@ number_of d i (operand.Read n) = read_named d i n
 number_of d i (operand.Port n) = port_named d i n
 
 -- the step of the kind: of this task, and with this number where it takes one
-abbrev pub step_with : Kind → ℕ → ℕ → Step
+abbrev pub step_with : StepKind → ℕ → ℕ → Step
 step_with Seen i n = step.Seen i
 step_with Aim i n = step.Aim i n
 step_with Claim i n = step.Claim n
@@ -132,7 +132,7 @@ step_with Put i n = step.Put i n
 step_with Done i n = step.Done i
 step_with End i n = step.End i
 
-abbrev pub numbered : Kind → ℕ → Option ℕ → Result Step ScriptCode
+abbrev pub numbered : StepKind → ℕ → Option ℕ → Result Step ScriptCode
 numbered kind i None = Err StepName
 numbered kind i (Some n) = Ok (step_with kind i n)
 

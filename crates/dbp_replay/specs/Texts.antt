@@ -2,29 +2,14 @@
 use Rattle.std.specs.Prelude.{ℕ, ◌==◌, if◌then◌else◌, codes, List, [], ◌∷◌, ◌++◌}
 use Rattle.std.specs.Fmt.{decimal, signed_decimal}
 use Rattle.std.specs.List.{flat_map}
+use Rattle.dbp_rules.specs.StepKinds.{kind_of}
 use Rattle.dbp_rules.specs.declared.step.Heard.{Heard}
 use Rattle.dbp_rules.specs.declared.step.Heard.TheVariants as heard
 use Rattle.dbp_rules.specs.declared.step.Step.{Step}
 use Rattle.dbp_rules.specs.declared.step.Step.TheVariants as step
 use Rattle.dbp_plan.specs.declared.diagram.Diagram.{Diagram}
-use Rattle.dbp_replay.specs.declared.kind.Kind.{Kind}
-use Rattle.dbp_replay.specs.declared.kind.Kind.TheVariants.{Seen, Aim, Claim, OpenGate, Start, Hear, Look, Take, Shut, Put, Done, End}
 use Rattle.dbp_replay.specs.Places.{link_in, port_name, read_name, task_in, task_of}
 use Rattle.dbp_replay.specs.StepForms.{form_of}
-
-abbrev pub kind_of : Step → Kind
-kind_of (step.Seen i) = Seen
-kind_of (step.Aim i slot) = Aim
-kind_of (step.Claim k) = Claim
-kind_of (step.OpenGate i) = OpenGate
-kind_of (step.Start i) = Start
-kind_of (step.Hear i) = Hear
-kind_of (step.Look i r) = Look
-kind_of (step.Take i r) = Take
-kind_of (step.Shut i) = Shut
-kind_of (step.Put i p) = Put
-kind_of (step.Done i) = Done
-kind_of (step.End i) = End
 
 -- each word behind a space
 abbrev pub spaced : List (List ℕ) → List ℕ

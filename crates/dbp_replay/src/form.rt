@@ -3,7 +3,8 @@
 ghost use Rattle.std.specs.Prelude.{◌≡◌};
 ghost use Rattle.dbp_replay.specs.StepForms.{form_in, operand_of, slot_of, spelled};
 
-use crate::kind::{Kind, Takes, kind_with};
+use crate::kind::{Takes, kind_with, takes_of};
+use dbp_core::StepKind;
 use dbp_plan::Name;
 use dia_tokens::{Token, Word};
 
@@ -20,7 +21,7 @@ pub(crate) enum Operand {
 /// A line of a script, with names as they were read.
 #[derive(Clone, Copy)]
 pub(crate) struct Form {
-    pub(crate) kind: Kind,
+    pub(crate) kind: StepKind,
     pub(crate) task: Name,
     pub(crate) operand: Operand,
 }
@@ -74,7 +75,7 @@ pub(crate) fn form_in(tokens: &[Token]) -> Option<Form>
         return None;
     };
     let kind = kind_with(spelled(first))?;
-    let operand = operand_of(kind.takes(), rest)?;
+    let operand = operand_of(takes_of(kind), rest)?;
     Some(Form {
         kind,
         task: *task,

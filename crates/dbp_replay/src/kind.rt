@@ -3,22 +3,7 @@
 ghost use Rattle.std.specs.Prelude.{◌≡◌};
 ghost use Rattle.dbp_replay.specs.StepForms.{all_kinds, form_of, kind_among, kind_with};
 
-/// The kinds of steps.
-#[derive(Clone, Copy, Debug, PartialEq, Eq)]
-pub(crate) enum Kind {
-    Seen,
-    Aim,
-    Claim,
-    OpenGate,
-    Start,
-    Hear,
-    Look,
-    Take,
-    Shut,
-    Put,
-    Done,
-    End,
-}
+use dbp_core::StepKind;
 
 /// What a line has behind its word and its task.
 #[derive(Clone, Copy, Debug, PartialEq, Eq)]
@@ -35,69 +20,67 @@ pub(crate) enum Takes {
     Port,
 }
 
-impl Kind {
-    /// The word that begins a line.
-    pub(crate) fn word(self) -> &'static [u8]
-        ensures { result.now ≡ (form_of self).0 }
-    {
-        match self {
-            Kind::Seen => b"seen",
-            Kind::Aim => b"aim",
-            Kind::Claim => b"claim",
-            Kind::OpenGate => b"open",
-            Kind::Start => b"start",
-            Kind::Hear => b"hear",
-            Kind::Look => b"look",
-            Kind::Take => b"take",
-            Kind::Shut => b"shut",
-            Kind::Put => b"put",
-            Kind::Done => b"done",
-            Kind::End => b"end",
-        }
-    }
-
-    /// What stands behind the task.
-    pub(crate) fn takes(self) -> Takes
-        ensures { result ≡ (form_of self).1 }
-    {
-        match self {
-            Kind::Aim => Takes::Slot,
-            Kind::Claim => Takes::Writer,
-            Kind::Look | Kind::Take => Takes::Read,
-            Kind::Put => Takes::Port,
-            _ => Takes::Nothing,
-        }
+/// The word that begins a line of the kind.
+pub(crate) fn word_of(kind: StepKind) -> &'static [u8]
+    ensures { result.now ≡ (form_of kind).0 }
+{
+    match kind {
+        StepKind::Seen => b"seen",
+        StepKind::Aim => b"aim",
+        StepKind::Claim => b"claim",
+        StepKind::OpenGate => b"open",
+        StepKind::Start => b"start",
+        StepKind::Hear => b"hear",
+        StepKind::Look => b"look",
+        StepKind::Take => b"take",
+        StepKind::Shut => b"shut",
+        StepKind::Put => b"put",
+        StepKind::Done => b"done",
+        StepKind::End => b"end",
     }
 }
 
-fn all_kinds() -> &'static [Kind]
+/// What stands after the task in a line of the kind.
+pub(crate) fn takes_of(kind: StepKind) -> Takes
+    ensures { result ≡ (form_of kind).1 }
+{
+    match kind {
+        StepKind::Aim => Takes::Slot,
+        StepKind::Claim => Takes::Writer,
+        StepKind::Look | StepKind::Take => Takes::Read,
+        StepKind::Put => Takes::Port,
+        _ => Takes::Nothing,
+    }
+}
+
+fn all_kinds() -> &'static [StepKind]
     ensures { result.now ≡ all_kinds }
 {
     &[
-        Kind::Seen,
-        Kind::Aim,
-        Kind::Claim,
-        Kind::OpenGate,
-        Kind::Start,
-        Kind::Hear,
-        Kind::Look,
-        Kind::Take,
-        Kind::Shut,
-        Kind::Put,
-        Kind::Done,
-        Kind::End,
+        StepKind::Seen,
+        StepKind::Aim,
+        StepKind::Claim,
+        StepKind::OpenGate,
+        StepKind::Start,
+        StepKind::Hear,
+        StepKind::Look,
+        StepKind::Take,
+        StepKind::Shut,
+        StepKind::Put,
+        StepKind::Done,
+        StepKind::End,
     ]
 }
 
 /// The first of the kinds that has the word.
-fn kind_among(kinds: &[Kind], text: &[u8]) -> Option<Kind>
+fn kind_among(kinds: &[StepKind], text: &[u8]) -> Option<StepKind>
     ensures { result ≡ kind_among kinds.now text.now }
 {
-    kinds.iter().find(|kind| kind.word() == text).copied()
+    kinds.iter().find(|kind| word_of(**kind) == text).copied()
 }
 
 /// The kind of the lines that begin with the word.
-pub(crate) fn kind_with(text: &[u8]) -> Option<Kind>
+pub(crate) fn kind_with(text: &[u8]) -> Option<StepKind>
     ensures { result ≡ kind_with text.now }
 {
     kind_among(all_kinds(), text)

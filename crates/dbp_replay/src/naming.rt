@@ -8,9 +8,8 @@ ghost use Rattle.dbp_replay.specs.StepForms.{is_link, link_between, named_step, 
 
 use crate::fail::ScriptCode;
 use crate::form::{Form, Operand, form_in};
-use crate::kind::Kind;
 use crate::look_up::task_at;
-use dbp_core::Step;
+use dbp_core::{Step, StepKind};
 use dbp_plan::{Diagram, Link, Name, Out, Read, Task};
 use dia_tokens::Token;
 
@@ -33,7 +32,7 @@ fn named_step(diagram: &Diagram, form: Form) -> Result<Step, ScriptCode>
     }
 }
 
-fn numbered(kind: Kind, i: u32, number: Option<u32>) -> Result<Step, ScriptCode>
+fn numbered(kind: StepKind, i: u32, number: Option<u32>) -> Result<Step, ScriptCode>
     ensures { result ≡ numbered kind i number }
 {
     match number {
@@ -43,22 +42,22 @@ fn numbered(kind: Kind, i: u32, number: Option<u32>) -> Result<Step, ScriptCode>
 }
 
 /// The step of the kind: of this task, and with this number where it takes one.
-fn step_with(kind: Kind, task: u32, number: u32) -> Step
+fn step_with(kind: StepKind, task: u32, number: u32) -> Step
     ensures { result ≡ step_with kind task number }
 {
     match kind {
-        Kind::Seen => Step::Seen { task },
-        Kind::Aim => Step::Aim { task, slot: number },
-        Kind::Claim => Step::Claim { link: number },
-        Kind::OpenGate => Step::OpenGate { task },
-        Kind::Start => Step::Start { task },
-        Kind::Hear => Step::Hear { task },
-        Kind::Look => Step::Look { task, read: number },
-        Kind::Take => Step::Take { task, read: number },
-        Kind::Shut => Step::Shut { task },
-        Kind::Put => Step::Put { task, port: number },
-        Kind::Done => Step::Done { task },
-        Kind::End => Step::End { task },
+        StepKind::Seen => Step::Seen { task },
+        StepKind::Aim => Step::Aim { task, slot: number },
+        StepKind::Claim => Step::Claim { link: number },
+        StepKind::OpenGate => Step::OpenGate { task },
+        StepKind::Start => Step::Start { task },
+        StepKind::Hear => Step::Hear { task },
+        StepKind::Look => Step::Look { task, read: number },
+        StepKind::Take => Step::Take { task, read: number },
+        StepKind::Shut => Step::Shut { task },
+        StepKind::Put => Step::Put { task, port: number },
+        StepKind::Done => Step::Done { task },
+        StepKind::End => Step::End { task },
     }
 }
 

@@ -2,9 +2,9 @@
 
 ghost use Rattle.std.specs.Prelude.{◌≡◌, ◌∷◌, ◌++◌, All, IfOk, OnOk};
 ghost use Rattle.dbp_replay.specs.Places.{IsThere};
-ghost use Rattle.dbp_replay.specs.Texts.{delay_words, heard_words, kind_of, operand_words, script_text, spaced, step_text};
+ghost use Rattle.dbp_replay.specs.Texts.{delay_words, heard_words, operand_words, script_text, spaced, step_text};
 
-use crate::kind::Kind;
+use crate::kind::word_of;
 use crate::look_up::{link_at, port_name, read_name, task_name, task_of};
 use dbp_core::{Heard, Step};
 use dbp_plan::{Diagram, List, NoMemory};
@@ -34,28 +34,9 @@ pub(crate) fn push_step(text: &mut Vec<u8>, diagram: &Diagram, step: Step) -> Re
     requires { IsThere diagram.now step }
     ensures { OnOk result (text.new.items ≡ text.old.items ++ step_text diagram.now step) }
 {
-    text.extend_from_slice(kind_of(step).word())?;
+    text.extend_from_slice(word_of(step.kind()))?;
     push_word(text, task_name(diagram, task_of(diagram, step)))?;
     push_operand(text, diagram, step)
-}
-
-fn kind_of(step: Step) -> Kind
-    ensures { result ≡ kind_of step }
-{
-    match step {
-        Step::Seen { .. } => Kind::Seen,
-        Step::Aim { .. } => Kind::Aim,
-        Step::Claim { .. } => Kind::Claim,
-        Step::OpenGate { .. } => Kind::OpenGate,
-        Step::Start { .. } => Kind::Start,
-        Step::Hear { .. } => Kind::Hear,
-        Step::Look { .. } => Kind::Look,
-        Step::Take { .. } => Kind::Take,
-        Step::Shut { .. } => Kind::Shut,
-        Step::Put { .. } => Kind::Put,
-        Step::Done { .. } => Kind::Done,
-        Step::End { .. } => Kind::End,
-    }
 }
 
 // Adds the words behind the task.

@@ -5,7 +5,7 @@ use Rattle.std.proofs.lemmas.Bool.{cases_eq}
 use Rattle.dbp_plan.specs.declared.plan.Plan.{Plan}
 use Rattle.dbp_plan.specs.Lookups.{declared}
 use Rattle.release_list.specs.Schedule.{aims}
-use Rattle.dbp_rules.specs.Moves.{ordered}
+use Rattle.dbp_rules.specs.Moves.{claim_order}
 use Rattle.dbp_rules.specs.Places.{no_link_entry, no_order, no_task, no_task_entry, task, task_entry, wired}
 use Rattle.dbp_rules.specs.Rules.{further, with_claim, with_entry, with_task}
 use Rattle.dbp_rules.specs.Shapes.{EntryShape, IsShape, LinkShape, TaskShape}
@@ -87,7 +87,7 @@ further_on p w s shape same = record {
   each_link = shape.each_link;
 }
 
-pub claim_changes : (p : Plan) (w : Wiring) (s : State) (k : ℕ) (c : LinkEntry) → IsShape p w s → k < length w.links → LinkShape w k c (ordered c) → IsShape p w (with_claim s k c)
+pub claim_changes : (p : Plan) (w : Wiring) (s : State) (k : ℕ) (c : LinkEntry) → IsShape p w s → k < length w.links → LinkShape w k c (claim_order c) → IsShape p w (with_claim s k c)
 claim_changes p w s k c shape below ok =
     let inside : k < length s.releaser.links = rw shape.claims below in
     let within : k < length s.orders = rw shape.orders below in
@@ -96,12 +96,12 @@ claim_changes p w s k c shape below ok =
       entries = shape.entries;
       claims = length-set s.releaser.links k c ∙ shape.claims;
       tasks = shape.tasks;
-      orders = length-set s.orders k (ordered c) ∙ shape.orders;
+      orders = length-set s.orders k (claim_order c) ∙ shape.orders;
       aimed = shape.aimed;
       each_entry = shape.each_entry;
       each_task = shape.each_task;
       each_link = λ j. elim (cases_eq j k) [
         | inl same ↦ λ _. rw (same, get_or-set_same, get_or-set_same) ok
-        | inr other ↦ λ fits. rw (get_or-set_other s.orders k j (ordered c) no_order other, get_or-set_other s.releaser.links k j c no_link_entry other) (shape.each_link j fits)
+        | inr other ↦ λ fits. rw (get_or-set_other s.orders k j (claim_order c) no_order other, get_or-set_other s.releaser.links k j c no_link_entry other) (shape.each_link j fits)
       ];
     }

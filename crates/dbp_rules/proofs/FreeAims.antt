@@ -1,5 +1,5 @@
 -- A slot is free for each aim: claimed and kept slots are fewer than a task's slots.
-use Rattle.std.proofs.Common.{◌≡◌, ◌≢◌, ℕ, zero, suc, ℤ, ◌+◌, ◌<◌, ◌≤◌, ◌⊎◌, Bool, true, false, cond, Contains, List, [], ◌∷◌, length, map, get_or, Some, refl, sym, ◌∙◌, ap, subst, arith, inl, inr}
+use Rattle.std.proofs.Common.{◌≡◌, ◌≢◌, ℕ, zero, suc, ◌+◌, ◌<◌, ◌≤◌, ◌⊎◌, Bool, true, false, cond, Contains, List, [], ◌∷◌, length, map, get_or, Some, refl, sym, ◌∙◌, ap, subst, arith, inl, inr}
 use Rattle.std.specs.Prelude.{count_by, filter, nat_lt, slice_get, ◌==◌, ◌||◌}
 use Rattle.std.specs.List.{list_any, range_with_len}
 use Rattle.std.proofs.lemmas.Bool.{and_parts, cases_Bool, cases_lt, eq-eqb, eqb-true, lt-ltb, ltb-true}
@@ -13,14 +13,13 @@ use Rattle.dbp_slots.specs.FreeSlot.{IsLeastFree}
 use Rattle.dbp_slots.specs.Slots.{counts_of, is_to_higher, is_to_lower}
 use Rattle.dbp_plan.proofs.Counts.{count-cons}
 use Rattle.release_list.specs.declared.release.Release.TheVariants as release
-use Rattle.dbp_rules.specs.Places.{claim_in, entry_in, is_counted, link, link_entry, task_entry, wired}
+use Rattle.dbp_rules.specs.PartyRules as rule
 use Rattle.dbp_rules.specs.PartyRules.{claimed_in, has_claim_in}
-use Rattle.dbp_rules.specs.Promises.{HasFreeSlot, HasFreeSlotIn, IsLeastAim, claimed_of, has_claim}
-use Rattle.dbp_rules.specs.Rules as rule
-use Rattle.dbp_rules.specs.Sound.{Sound}
+use Rattle.dbp_rules.specs.Places.{claim_in, entry_in, is_counted, link, wired}
+use Rattle.dbp_rules.specs.Promises.{HasFreeSlotIn, IsLeastAimIn}
+use Rattle.dbp_rules.specs.Shapes.{IsWired}
 use Rattle.dbp_rules.specs.Wired.{slot_count, wiring_of}
 use Rattle.dbp_rules.specs.declared.parts.ReleaserPart.{ReleaserPart}
-use Rattle.dbp_rules.specs.declared.state.State.{State}
 use Rattle.dbp_rules.specs.declared.step.Count.{Count}
 use Rattle.dbp_rules.specs.declared.step.Count.TheVariants.{All, Ranked}
 use Rattle.dbp_rules.specs.declared.wiring.TaskWiring.{TaskWiring}
@@ -29,6 +28,7 @@ use Rattle.dbp_rules.proofs.Aims.{IsAllowedAim, aim_allowed, allowed_aim}
 use Rattle.dbp_rules.proofs.IntoTask.{count_or}
 use Rattle.dbp_rules.proofs.SoundOwn.{IsOwn, own_wiring, rank_is}
 use Rattle.dbp_rules.proofs.WiringParts.{wired_is}
+use Rattle.dbp_rules.proofs.Wirings.{wiring-whole}
 
 -- ---- counts
 
@@ -114,18 +114,14 @@ claims_few p All r i =
     (λ k below is. let here : 0 + k ≡ k = omega arith in lower_or_higher p All r i k below (keeps p All r i k (ap (has_claim_in (wiring_of p All) r i) (sym here) ∙ is)).0) in
     omega (arith, few, count_or (is_to_lower p.diagram.ranks i) (is_to_higher p.diagram.ranks i) p.diagram.links)
 
--- so a slot is free, in any releaser's part that keeps as many slots of the task as the wiring says
-pub free_slot_in : (p : Plan) (count : Count) (r : ReleaserPart) (i : ℕ) → i < length p.diagram.tasks → length (entry_in r i).kept ≡ (wired (wiring_of p count) i).kept → HasFreeSlotIn (wiring_of p count) r i
-free_slot_in p count r i named same =
-    let kept : length (rule.staying (entry_in r i)) ≡ length (entry_in r i).kept = length-take-le (length (entry_in r i).kept) ((entry_in r i).current ∷ (entry_in r i).kept) (omega arith) in
+pub has_free_slot : (p : Plan) (count : Count) (r : ReleaserPart) (i : ℕ) → i < length p.diagram.tasks → length (entry_in r i).kept ≡ (wired (wiring_of p count) i).kept → HasFreeSlotIn (wiring_of p count) r i
+has_free_slot p count r i named size =
+    let kept : length (rule.kept_after_aim (entry_in r i)) ≡ length (entry_in r i).kept = length-take-le (length (entry_in r i).kept) ((entry_in r i).current ∷ (entry_in r i).kept) (omega arith) in
     let claimed : length (claimed_in (wiring_of p count) r i) ≡ count_by (has_claim_in (wiring_of p count) r i) (range_with_len 0 (length p.diagram.links)) =
     length-map (filter (has_claim_in (wiring_of p count) r i) (range_with_len 0 (length p.diagram.links))) (λ k. (claim_in r k).slot) ∙ length-filter (has_claim_in (wiring_of p count) r i) (range_with_len 0 (length p.diagram.links)) in
     let slots : (wired (wiring_of p count) i).slots ≡ slot_count count p i = ap (λ (t : TaskWiring). t.slots) (wired_is p count i named) in
     let delayed : (wired (wiring_of p count) i).kept ≡ (counts_of p.diagram i).delayed = ap (λ (t : TaskWiring). t.kept) (wired_is p count i named) in
-    omega (arith, claims_few p count r i, claimed, kept, same, slots, delayed)
-
-pub has_free_slot : (p : Plan) (count : Count) (rows : ℕ → ℕ → List ℤ) (s : State) (i : ℕ) → Sound p (wiring_of p count) rows s → i < length p.diagram.tasks → HasFreeSlot (wiring_of p count) s i
-has_free_slot p count rows s i sound named = free_slot_in p count s.releaser i named (sound.shape.each_entry i (omega (arith, named, sound.shape.wiring.tasks))).kept
+    omega (arith, claims_few p count r i, claimed, kept, size, slots, delayed)
 
 -- ---- members of lists
 
@@ -216,59 +212,63 @@ free_from claims kept slots n (suc rest) sum taken = elim (cases_Bool (list_any 
 ]
 
 -- a link that claims the slot keeps it, and the other way round
-claims_keeps : (w : Wiring) (s : State) (i slot k : ℕ) → rule.claims_slot w s i slot k ≡ true → (has_claim w s i k ≡ true) × ((link_entry s k).slot ≡ slot)
-claims_keeps w s i slot k is =
+claims_keeps : (w : Wiring) (r : ReleaserPart) (i slot k : ℕ) → rule.claims_slot_in w r i slot k ≡ true → (has_claim_in w r i k ≡ true) × ((claim_in r k).slot ≡ slot)
+claims_keeps w r i slot k is =
     let out = and_parts ((link w k).writer == i) _ is in
     let counted = and_parts (is_counted w k) _ out.1 in
-    let known = and_parts (nat_lt (task_entry s (link w k).reader).known (link_entry s k).instance) ((link_entry s k).slot == slot) counted.1 in
-    (rw (out.0, counted.0, known.0) refl, eqb-true (link_entry s k).slot slot known.1)
+    let known = and_parts (nat_lt (entry_in r (link w k).reader).known (claim_in r k).instance) ((claim_in r k).slot == slot) counted.1 in
+    (rw (out.0, counted.0, known.0) refl, eqb-true (claim_in r k).slot slot known.1)
 
-keeps_claims : (w : Wiring) (s : State) (i slot k : ℕ) → has_claim w s i k ≡ true → (link_entry s k).slot ≡ slot → rule.claims_slot w s i slot k ≡ true
-keeps_claims w s i slot k is same =
+keeps_claims : (w : Wiring) (r : ReleaserPart) (i slot k : ℕ) → has_claim_in w r i k ≡ true → (claim_in r k).slot ≡ slot → rule.claims_slot_in w r i slot k ≡ true
+keeps_claims w r i slot k is same =
     let out = and_parts ((link w k).writer == i) _ is in
-    let counted = and_parts (is_counted w k) (nat_lt (task_entry s (link w k).reader).known (link_entry s k).instance) out.1 in
-    rw (out.0, counted.0, counted.1, eq-eqb (link_entry s k).slot slot same) refl
+    let counted = and_parts (is_counted w k) (nat_lt (entry_in r (link w k).reader).known (claim_in r k).instance) out.1 in
+    rw (out.0, counted.0, counted.1, eq-eqb (claim_in r k).slot slot same) refl
 
-pub exact_aim : (w : Wiring) (s : State) (i slot : ℕ) → slice_get w.releases s.releaser.place ≡ Some (release.Aim i) → (task_entry s i).aimed ≡ (task_entry s i).known
-    → IsLeastFree (claimed_of w s i) (rule.staying (task_entry s i)) (wired w i).slots slot → IsLeastAim w s i slot
-exact_aim w s i slot here known free = record {
+pub exact_aim : (w : Wiring) (r : ReleaserPart) (i slot : ℕ) → slice_get w.releases r.place ≡ Some (release.Aim i) → (entry_in r i).aimed ≡ (entry_in r i).known
+    → IsLeastFree (claimed_in w r i) (rule.kept_after_aim (entry_in r i)) (wired w i).slots slot → IsLeastAimIn w r i slot
+exact_aim w r i slot here known free = record {
   free = free;
-  allowed = allowed_aim w s.releaser i slot (record {
+  allowed = allowed_aim w r i slot (record {
     here = here;
     known = known;
     below = free.below;
-    fresh = elim (cases_Bool (rule.stays_kept (task_entry s i) slot)) [
-      | inl stays ↦ absurd (free.unkept (any_contains (rule.staying (task_entry s i)) slot stays))
+    fresh = elim (cases_Bool (rule.stays_kept (entry_in r i) slot)) [
+      | inl stays ↦ absurd (free.unkept (any_contains (rule.kept_after_aim (entry_in r i)) slot stays))
       | inr gone ↦ gone
     ];
-    unclaimed = λ k fits. elim (cases_Bool (rule.claims_slot w s i slot k)) [
+    unclaimed = λ k fits. elim (cases_Bool (rule.claims_slot_in w r i slot k)) [
       | inl claims_ ↦
-          let both = claims_keeps w s i slot k claims_ in
-          absurd (free.unclaimed (any_contains (claimed_of w s i) slot (value_there (has_claim w s i) (λ j. (link_entry s j).slot) slot 0 (length w.links) k (omega arith) (omega arith) both.0 both.1)))
+          let both = claims_keeps w r i slot k claims_ in
+          absurd (free.unclaimed (any_contains (claimed_in w r i) slot (value_there (has_claim_in w r i) (λ j. (claim_in r j).slot) slot 0 (length w.links) k (omega arith) (omega arith) both.0 both.1)))
       | inr none ↦ none
     ];
   });
   least = λ n also.
-      let a : IsAllowedAim w s.releaser i n = aim_allowed w s.releaser i n also in
+      let a : IsAllowedAim w r i n = aim_allowed w r i n also in
       elim (cases_lt n slot) [
         | inl less ↦ elim (free.least n less) [
           | inl claimed ↦
-              let v : IsValue (has_claim w s i) (λ j. (link_entry s j).slot) n 0 (length w.links) = value_found (has_claim w s i) (λ j. (link_entry s j).slot) n 0 (length w.links) (contains_any (claimed_of w s i) n claimed) in
-              let is : rule.claims_slot w s i n v.number ≡ true = keeps_claims w s i n v.number v.passes v.value in
+              let v : IsValue (has_claim_in w r i) (λ j. (claim_in r j).slot) n 0 (length w.links) = value_found (has_claim_in w r i) (λ j. (claim_in r j).slot) n 0 (length w.links) (contains_any (claimed_in w r i) n claimed) in
+              let is : rule.claims_slot_in w r i n v.number ≡ true = keeps_claims w r i n v.number v.passes v.value in
               absurd (cc (is, a.unclaimed v.number (omega (arith, v.below))))
-          | inr stays ↦ let is : rule.stays_kept (task_entry s i) n ≡ true = contains_any (rule.staying (task_entry s i)) n stays in absurd (cc (is, a.fresh))
+          | inr stays ↦ let is : rule.stays_kept (entry_in r i) n ≡ true = contains_any (rule.kept_after_aim (entry_in r i)) n stays in absurd (cc (is, a.fresh))
         ]
         | inr more ↦ more
       ];
 }
 
-pub some_aim : (p : Plan) (count : Count) (rows : ℕ → ℕ → List ℤ) (s : State) (i : ℕ) → Sound p (wiring_of p count) rows s
-    → slice_get (wiring_of p count).releases s.releaser.place ≡ Some (release.Aim i) → (task_entry s i).aimed ≡ (task_entry s i).known → (slot : ℕ) × IsLeastAim (wiring_of p count) s i slot
-some_aim p count rows s i sound here known =
-    let w : Wiring = wiring_of p count in
-    let named : i < length p.diagram.tasks = (sound.shape.wiring.releases.at_aim s.releaser.place i here).named in
-    let few : HasFreeSlot (wiring_of p count) s i = has_free_slot p count rows s i sound named in
-    elim (free_from (claimed_of (wiring_of p count) s i) (rule.staying (task_entry s i)) (wired (wiring_of p count) i).slots 0 (wired (wiring_of p count) i).slots (omega arith) (λ m below. absurd (omega arith))) [
-      | inl found ↦ (found.0, exact_aim (wiring_of p count) s i found.0 here known found.1)
-      | inr taken ↦ absurd (one_free (claimed_of (wiring_of p count) s i) (rule.staying (task_entry s i)) (wired (wiring_of p count) i).slots few taken)
+-- an aim is one of a task of the diagram
+pub aim_named : (p : Plan) (count : Count) (place i : ℕ) → slice_get (wiring_of p count).releases place ≡ Some (release.Aim i) → i < length p.diagram.tasks
+aim_named p count place i here =
+    let whole : IsWired p (wiring_of p count) = wiring-whole p count in
+    (whole.releases.at_aim place i here).named
+
+pub some_aim : (p : Plan) (count : Count) (r : ReleaserPart) (i : ℕ) → length (entry_in r i).kept ≡ (wired (wiring_of p count) i).kept
+    → slice_get (wiring_of p count).releases r.place ≡ Some (release.Aim i) → (entry_in r i).aimed ≡ (entry_in r i).known → (slot : ℕ) × IsLeastAimIn (wiring_of p count) r i slot
+some_aim p count r i size here known =
+    let few : HasFreeSlotIn (wiring_of p count) r i = has_free_slot p count r i (aim_named p count r.place i here) size in
+    elim (free_from (claimed_in (wiring_of p count) r i) (rule.kept_after_aim (entry_in r i)) (wired (wiring_of p count) i).slots 0 (wired (wiring_of p count) i).slots (omega arith) (λ m below. absurd (omega arith))) [
+      | inl found ↦ (found.0, exact_aim (wiring_of p count) r i found.0 here known found.1)
+      | inr taken ↦ absurd (one_free (claimed_in (wiring_of p count) r i) (rule.kept_after_aim (entry_in r i)) (wired (wiring_of p count) i).slots few taken)
     ]

@@ -1,18 +1,17 @@
 -- Each allowed step keeps what its party's part keeps by itself.
-use Rattle.std.proofs.Common.{◌≡◌, ℕ, ◌+◌, ◌-◌, ◌<◌, ◌≤◌, Bool, List, [], ◌∷◌, length, get_or, Some, None, refl, sym, ◌∙◌, ap, subst, arith, inl, inr, length-append}
+use Rattle.std.proofs.Common.{◌≡◌, ℕ, ◌+◌, ◌-◌, ◌<◌, ◌≤◌, Bool, [], ◌∷◌, length, Some, None, refl, sym, ◌∙◌, ap, subst, arith, inl, inr, length-append}
 use Rattle.std.specs.Prelude.{slice_get}
 use Rattle.std.proofs.lemmas.Bool.{cases_Bool, eqb-true}
 use Rattle.std.proofs.lemmas.List.{length-set, length-take-le}
 use Rattle.std.proofs.lemmas.Option.{slice_get_within}
 use Rattle.dbp_plan.specs.declared.plan.Plan.{Plan}
-use Rattle.dbp_plan.specs.Occurrences.{times_of}
 use Rattle.release_list.specs.Schedule.{aims, claims, seen_by}
 use Rattle.release_list.specs.declared.release.Release.TheVariants as release
 use Rattle.dbp_rules.specs.Moves as move
 use Rattle.dbp_rules.specs.PartyRules as rule
 use Rattle.dbp_rules.specs.PartyRules.{Loaded, loaded_number, loaded_order}
 use Rattle.dbp_rules.specs.PartyShapes.{IsNamedIn, ReleaserLoads, ReleaserShape, TaskLoads, TaskPartShape}
-use Rattle.dbp_rules.specs.Places.{claim_in, entry_in, link, no_link_entry, no_task_entry, wired}
+use Rattle.dbp_rules.specs.Places.{entry_in, link, no_link_entry, no_task_entry, wired}
 use Rattle.dbp_rules.specs.Shapes.{EntryShape, IsWired, OrderFits, PlaceIn, heard_by, place_number, running, slot_owner}
 use Rattle.dbp_rules.specs.StepKinds.{kind_number, kind_of, subject_of}
 use Rattle.dbp_rules.specs.declared.parts.LinkEntry.{LinkEntry}
@@ -47,7 +46,7 @@ module _ (w : Wiring) (i : ℕ) (t : TaskPart) (ok : TaskPartShape w i t) where
     each_heard = ok.each_heard;
   }
 
-  started_part : (gate : ℕ) → t.place ≡ place.Idle → gate ≤ length (wired w i).times → TaskPartShape w i (move.started t (rule.is_opened_by t gate))
+  started_part : (gate : ℕ) → t.place ≡ place.Idle → gate ≤ length (wired w i).times → TaskPartShape w i (move.after_start t (rule.is_opened_by t gate))
   started_part gate at few = elim (cases_Bool (rule.is_opened_by t gate)) [
     | inl is ↦
         let opened : gate ≡ t.ended + 1 = eqb-true gate (t.ended + 1) is in
@@ -55,7 +54,7 @@ module _ (w : Wiring) (i : ℕ) (t : TaskPart) (ok : TaskPartShape w i t) where
     | inr isnt ↦ rw isnt ok
   ]
 
-  heard_part : (n : ℕ) (o : Order) → t.place ≡ place.Hear n → OrderFits (wired w (slot_owner w i n)) o → TaskPartShape w i (move.heard (wired w i) t n o)
+  heard_part : (n : ℕ) (o : Order) → t.place ≡ place.Hear n → OrderFits (wired w (slot_owner w i n)) o → TaskPartShape w i (move.after_hear (wired w i) t n o)
   heard_part n o at fits =
       let inside : PlaceIn (wired w i) (place.Hear n) = subst (λ (q : Place). PlaceIn (wired w i) q) at ok.place in
       let few : n ≤ length (wired w i).links = omega (arith, inside) in
@@ -69,7 +68,7 @@ module _ (w : Wiring) (i : ℕ) (t : TaskPart) (ok : TaskPartShape w i t) where
         each_heard = orders_more w i n t.heard.items o size ok.each_heard fits;
       }
 
-  looked_part : (n : ℕ) (ready : Bool) → t.place ≡ place.Look n → TaskPartShape w i (move.looked t n ready)
+  looked_part : (n : ℕ) (ready : Bool) → t.place ≡ place.Look n → TaskPartShape w i (move.after_look t n ready)
   looked_part n ready at = elim (cases_Bool ready) [
     | inl is ↦
         let inside : PlaceIn (wired w i) (place.Look n) = subst (λ (q : Place). PlaceIn (wired w i) q) at ok.place in
@@ -77,7 +76,7 @@ module _ (w : Wiring) (i : ℕ) (t : TaskPart) (ok : TaskPartShape w i t) where
     | inr isnt ↦ rw isnt ok
   ]
 
-  ended_part : t.place ≡ place.End → TaskPartShape w i (move.ended t)
+  ended_part : t.place ≡ place.End → TaskPartShape w i (move.after_end t)
   ended_part at =
       let busy : running t.place ≡ 1 = ap running at in
       record {
@@ -122,11 +121,11 @@ module _ (w : Wiring) (i : ℕ) (t : TaskPart) (ok : TaskPartShape w i t) where
 -- ---- the releaser's part
 
 module _ (p : Plan) (w : Wiring) (whole : IsWired p w) (r : ReleaserPart) (ok : ReleaserShape p w r) where
-  seen_part : (i n : ℕ) → i < length w.tasks → (entry_in r i).known ≤ n → n ≤ (entry_in r i).aimed → ReleaserShape p w (rule.with_entry_in r i (move.seen (entry_in r i) n))
+  seen_part : (i n : ℕ) → i < length w.tasks → (entry_in r i).known ≤ n → n ≤ (entry_in r i).aimed → ReleaserShape p w (rule.with_entry_in r i (move.after_seen (entry_in r i) n))
   seen_part i n below first last =
       let inside : i < length r.tasks = rw ok.entries below in
       let e : EntryShape (wired w i) (entry_in r i) = ok.each_entry i below in
-      let u : TaskEntry = move.seen (entry_in r i) n in
+      let u : TaskEntry = move.after_seen (entry_in r i) n in
       record {
         place = ok.place;
         entries = length-set r.tasks i u ∙ ok.entries;
@@ -140,12 +139,12 @@ module _ (p : Plan) (w : Wiring) (whole : IsWired p w) (r : ReleaserPart) (ok : 
         slot = ok.slot;
       }
 
-  aimed_part : (i slot : ℕ) → i < length w.tasks → IsAllowedAim w r i slot → ReleaserShape p w (rule.one_further (rule.with_entry_in r i (move.aimed (entry_in r i) slot)))
+  aimed_part : (i slot : ℕ) → i < length w.tasks → IsAllowedAim w r i slot → ReleaserShape p w (rule.one_further (rule.with_entry_in r i (move.after_aim (entry_in r i) slot)))
   aimed_part i slot below a =
       let here : slice_get w.releases r.place ≡ Some (release.Aim i) = a.here in
       let inside : i < length r.tasks = rw ok.entries below in
       let e : EntryShape (wired w i) (entry_in r i) = ok.each_entry i below in
-      let u : TaskEntry = move.aimed (entry_in r i) slot in
+      let u : TaskEntry = move.after_aim (entry_in r i) slot in
       record {
         place = omega (arith, slice_get_within w.releases r.place (release.Aim i) here);
         entries = length-set r.tasks i u ∙ ok.entries;

@@ -1,5 +1,5 @@
 -- A step's refusal and what it makes of its party are said by that party's part, and the parts of a sound state are in shape.
-use Rattle.std.proofs.Common.{◌≡◌, ℕ, zero, suc, ℤ, ◌+◌, ◌<◌, ◌≤◌, List, length, Option, Some, None, refl, sym, ◌∙◌, ap, subst, arith, inl, inr, get_or-set_same}
+use Rattle.std.proofs.Common.{◌≡◌, ℕ, ℤ, ◌<◌, ◌≤◌, List, length, Option, Some, None, refl, sym, ◌∙◌, ap, subst, arith, inl, inr, get_or-set_same}
 use Rattle.std.proofs.lemmas.Bool.{cases_Bool}
 use Rattle.std.proofs.lemmas.Option.{same_Some}
 use Rattle.dbp_plan.specs.declared.plan.Plan.{Plan}
@@ -9,9 +9,8 @@ use Rattle.dbp_rules.specs.PartyShapes.{LinksFit, ReleaserLoads, ReleaserShape, 
 use Rattle.dbp_rules.specs.Places.{no_task, task, task_entry, wired}
 use Rattle.dbp_rules.specs.Rules as rule
 use Rattle.dbp_rules.specs.SharedWords.{made_by}
-use Rattle.dbp_rules.specs.Shapes.{IsShape, IsTaskWired, IsWired, OrderFits, PlaceIn, TaskShape, link_in, place_number, running, slot_owner}
+use Rattle.dbp_rules.specs.Shapes.{IsTaskWired, IsWired, OrderFits, PlaceIn, TaskShape, place_number, slot_owner}
 use Rattle.dbp_rules.specs.Sound.{Sound}
-use Rattle.dbp_rules.specs.SoundParts.{TaskSound}
 use Rattle.dbp_rules.specs.declared.parts.Place.{Place}
 use Rattle.dbp_rules.specs.declared.parts.Place.TheVariants as place
 use Rattle.dbp_rules.specs.declared.state.State.{State}
@@ -23,7 +22,7 @@ use Rattle.dbp_rules.specs.declared.step.Illegal.{Illegal}
 use Rattle.dbp_rules.specs.declared.step.Step.{Step}
 use Rattle.dbp_rules.specs.declared.step.Step.TheVariants.{Seen, Aim, Claim, OpenGate, Start, Hear, Look, Take, Shut, Put, Done, End}
 use Rattle.dbp_rules.specs.declared.wiring.Wiring.{Wiring}
-use Rattle.dbp_rules.proofs.Allowed.{at_next, or_else_none, place_of}
+use Rattle.dbp_rules.proofs.Allowed.{at_next, or_else_none}
 use Rattle.dbp_rules.proofs.StateKept.{word_ordered}
 
 -- ---- refusals
@@ -162,6 +161,10 @@ module _ (p : Plan) (w : Wiring) (rows : ℕ → ℕ → List ℤ) (s : State) (
     number = λ k below. (sound.claims k below).number;
     slot = λ k below. (sound.shape.each_link k below).claim.0;
   }
+
+  -- as many slots are kept as the wiring says
+  pub kept_size : (i : ℕ) → i < length p.diagram.tasks → length (task_entry s i).kept ≡ (wired w i).kept
+  kept_size i named = (sound.shape.each_entry i (there i named)).kept
 
   pub task_in_shape : (i : ℕ) → i < length p.diagram.tasks → TaskPartShape w i (task s i).part
   task_in_shape i named =

@@ -3,7 +3,7 @@ use Rattle.std.proofs.Common.{◌≡◌, ◌≢◌, ℕ, ℤ, ◌+◌, ◌<◌, 
 use Rattle.std.proofs.lemmas.Bool.{cases_eq}
 use Rattle.dbp_plan.specs.declared.plan.Plan.{Plan}
 use Rattle.release_list.specs.Schedule.{claims, opens}
-use Rattle.dbp_rules.specs.Moves.{ordered}
+use Rattle.dbp_rules.specs.Moves.{claim_order}
 use Rattle.dbp_rules.specs.Places.{link, link_entry, no_link_entry, no_order, no_task, no_task_entry, order, task, task_entry}
 use Rattle.dbp_rules.specs.Rules.{with_entry, with_task}
 use Rattle.dbp_rules.specs.Shapes.{IsShape}
@@ -106,9 +106,9 @@ module _ (p : Plan) (w : Wiring) (rows : ℕ → ℕ → List ℤ) (s : State) (
 
   -- a claim
   pub claim_frame : (new : State) (k : ℕ) (c : LinkEntry) → IsShape p w new → k < length w.links → s.releaser.place < length w.releases → new.releaser.place ≡ s.releaser.place + 1
-      → new.releaser.tasks ≡ s.releaser.tasks → new.tasks ≡ s.tasks → new.releaser.links ≡ set s.releaser.links k c → new.orders ≡ set s.orders k (ordered c)
+      → new.releaser.tasks ≡ s.releaser.tasks → new.tasks ≡ s.tasks → new.releaser.links ≡ set s.releaser.links k c → new.orders ≡ set s.orders k (claim_order c)
       → ((j : ℕ) → opens w.releases (s.releaser.place + 1) j ≡ opens w.releases s.releaser.place j)
-      → ClaimSound p w (s.releaser.place + 1) k c (ordered c)
+      → ClaimSound p w (s.releaser.place + 1) k c (claim_order c)
       → ((j : ℕ) → j ≢ k → claims w.releases (s.releaser.place + 1) j ≡ claims w.releases s.releaser.place j)
       → LinkSound p w k c (task_entry s (link w k).writer) (task s (link w k).writer) (task_entry s (link w k).reader) (task s (link w k).reader)
       → Sound p w rows new
@@ -119,8 +119,8 @@ module _ (p : Plan) (w : Wiring) (rows : ℕ → ℕ → List ℤ) (s : State) (
       let entry_is : (j : ℕ) → task_entry new j ≡ task_entry s j = λ j. rw entries refl in
       let link_same : link_entry new k ≡ c = rw links (get_or-set_same s.releaser.links k c no_link_entry inside) in
       let link_other : (j : ℕ) → j ≢ k → link_entry new j ≡ link_entry s j = λ j other. rw links (get_or-set_other s.releaser.links k j c no_link_entry other) in
-      let order_same : order new k ≡ ordered c = rw orders (get_or-set_same s.orders k (ordered c) no_order within) in
-      let order_other : (j : ℕ) → j ≢ k → order new j ≡ order s j = λ j other. rw orders (get_or-set_other s.orders k j (ordered c) no_order other) in
+      let order_same : order new k ≡ claim_order c = rw orders (get_or-set_same s.orders k (claim_order c) no_order within) in
+      let order_other : (j : ℕ) → j ≢ k → order new j ≡ order s j = λ j other. rw orders (get_or-set_other s.orders k j (claim_order c) no_order other) in
       record {
         shape = shape;
         place = omega (arith, more, place);

@@ -114,7 +114,7 @@ passed_more false known ended more further first second = second
 
 -- a link is sound where its reader has gone on
 pub reader_on : (p : Plan) (w : Wiring) (k : ℕ) (c : LinkEntry) (v : TaskEntry) (writer : TaskState) (e f : TaskEntry) (reader other : TaskState) → e.known ≤ f.known → reader.words.ended ≤ other.words.ended
-    → ((j : ℕ) → j + 1 < length other.part.heard.items → link_in (wired w (link w k).reader) j ≡ k → move.heard_order other.part (j + 1) ≡ move.ordered c)
+    → ((j : ℕ) → j + 1 < length other.part.heard.items → link_in (wired w (link w k).reader) j ≡ k → move.heard_order other.part (j + 1) ≡ move.claim_order c)
     → ((n : ℕ) → other.part.place ≡ Take n → (read_of p w (link w k).reader n).link ≡ k → (slot_at writer.words.slots c.slot).stamp ≡ c.number + 1)
     → LinkSound p w k c v writer e reader → LinkSound p w k c v writer f other
 reader_on p w k c v writer e f reader other known ended heard ready old =

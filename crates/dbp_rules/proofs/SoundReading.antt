@@ -58,7 +58,7 @@ module _ (p : Plan) (w : Wiring) (rows : ℕ → ℕ → List ℤ) (s : State) (
       → take (length (declared p i).states) work.now ≡ take (length (declared p i).states) (task s i).work.now
       → ((n : ℕ) → n < taken_by (length (wired w i).reads) part.place → get_or work.now (place_of_read p w i n) (pos 0) ≡ meant p rows i ((task s i).part.ended + 1) (read_of p w i n))
       → work.row ≡ (task s i).work.row
-      → ((k : ℕ) → k < length w.links → (link w k).reader ≡ i → (j : ℕ) → j + 1 < length part.heard.items → link_in (wired w i) j ≡ k → move.heard_order part (j + 1) ≡ move.ordered (link_entry s k))
+      → ((k : ℕ) → k < length w.links → (link w k).reader ≡ i → (j : ℕ) → j + 1 < length part.heard.items → link_in (wired w i) j ≡ k → move.heard_order part (j + 1) ≡ move.claim_order (link_entry s k))
       → ((k : ℕ) → k < length w.links → (link w k).reader ≡ i → (n : ℕ) → part.place ≡ place.Take n → (read_of p w i n).link ≡ k → (slot_at (task s (link w k).writer).words.slots (link_entry s k).slot).stamp ≡ (link_entry s k).number + 1)
       → Sound p w rows (rule.with_task s i (record { words = (task s i).words; part = part; work = work }))
   goes_sound i part work below shape from to same heard states taken row orders ready =
@@ -71,10 +71,10 @@ module _ (p : Plan) (w : Wiring) (rows : ℕ → ℕ → List ℤ) (s : State) (
       old)
 
   -- what the task has heard of a link
-  pub old_orders : (i : ℕ) → (k : ℕ) → k < length w.links → (link w k).reader ≡ i → (j : ℕ) → j + 1 < length (task s i).part.heard.items → link_in (wired w i) j ≡ k → move.heard_order (task s i).part (j + 1) ≡ move.ordered (link_entry s k)
+  pub old_orders : (i : ℕ) → (k : ℕ) → k < length w.links → (link w k).reader ≡ i → (j : ℕ) → j + 1 < length (task s i).part.heard.items → link_in (wired w i) j ≡ k → move.heard_order (task s i).part (j + 1) ≡ move.claim_order (link_entry s k)
   old_orders i k fits is j inside here =
       let old : LinkSound p w k (link_entry s k) (task_entry s (link w k).writer) (task s (link w k).writer) (task_entry s (link w k).reader) (task s (link w k).reader) = sound.links k fits in
-      subst (λ (x : ℕ). j + 1 < length (task s x).part.heard.items → link_in (wired w x) j ≡ k → move.heard_order (task s x).part (j + 1) ≡ move.ordered (link_entry s k)) is (old.heard j) inside here
+      subst (λ (x : ℕ). j + 1 < length (task s x).part.heard.items → link_in (wired w x) j ≡ k → move.heard_order (task s x).part (j + 1) ≡ move.claim_order (link_entry s k)) is (old.heard j) inside here
 
   -- ---- start
 
@@ -103,9 +103,9 @@ module _ (p : Plan) (w : Wiring) (rows : ℕ → ℕ → List ℤ) (s : State) (
       let some : 0 < length items = omega arith in
       get_or_append_left items (rule.order_word w s i (suc j) ∷ []) no_order 0 some ∙ old some
 
-  hear_link : (i k n j : ℕ) (items : List Order) → length items ≡ n → order s k ≡ move.ordered (link_entry s k)
-      → (j + 1 < length items → link_in (wired w i) j ≡ k → get_or items (j + 1) no_order ≡ move.ordered (link_entry s k))
-      → j + 1 < n + 1 → link_in (wired w i) j ≡ k → get_or (items ++ rule.order_word w s i n ∷ []) (j + 1) no_order ≡ move.ordered (link_entry s k)
+  hear_link : (i k n j : ℕ) (items : List Order) → length items ≡ n → order s k ≡ move.claim_order (link_entry s k)
+      → (j + 1 < length items → link_in (wired w i) j ≡ k → get_or items (j + 1) no_order ≡ move.claim_order (link_entry s k))
+      → j + 1 < n + 1 → link_in (wired w i) j ≡ k → get_or (items ++ rule.order_word w s i n ∷ []) (j + 1) no_order ≡ move.claim_order (link_entry s k)
   hear_link i k zero j items size word old below here = absurd (omega arith)
   hear_link i k (suc m) j items size word old below here = elim (cases_lt (j + 1) (suc m)) [
     | inl before ↦
@@ -129,7 +129,7 @@ module _ (p : Plan) (w : Wiring) (rows : ℕ → ℕ → List ℤ) (s : State) (
       let o : Order = rule.order_word w s i n in
       let longer : length ((task s i).part.heard.items ++ rule.order_word w s i n ∷ []) ≡ n + 1 = length_push (task s i).part.heard.items (rule.order_word w s i n) ∙ ap (λ x. x + 1) size in
       let none : taken_by (length (wired w i).reads) (move.hear_place (wired w i) (n + 1)) ≡ 0 = taken_hear (wired w i) (n + 1) in
-      goes_sound i (move.heard (wired w i) (task s i).part n (rule.order_word w s i n)) (task s i).work below (step_kept p w s sound.shape (Hear i) named free)
+      goes_sound i (move.after_hear (wired w i) (task s i).part n (rule.order_word w s i n)) (task s i).work below (step_kept p w s sound.shape (Hear i) named free)
       (subst (λ (q : Place). IsEarly q) (sym at) (early_hear n)) (early_heard (wired w i) (n + 1)) refl
       (λ _. hear_own i n (task s i).part.heard.items size ok.heard) refl (λ m less. absurd (omega arith)) refl
       (λ k inside into j less here. hear_link i k n j (task s i).part.heard.items size (sound.claims k inside).order (old_orders i k inside into j) (omega arith) here)
@@ -145,7 +145,7 @@ module _ (p : Plan) (w : Wiring) (rows : ℕ → ℕ → List ℤ) (s : State) (
     read : IsOwnRead p w i n
     read = own.reads i n below few
 
-    pub read_claim : rule.read_order w s i n ≡ move.ordered (link_entry s k)
+    pub read_claim : rule.read_order w s i n ≡ move.claim_order (link_entry s k)
     read_claim =
         let inside : read.place + 1 < length (task s i).part.heard.items = omega (arith, read.few, (sound.shape.each_task i below).heard, all) in
         ap (λ x. move.heard_order (task s i).part x) read.order ∙ old_orders i k read.below read.reader read.place inside read.there
@@ -255,7 +255,7 @@ module _ (p : Plan) (w : Wiring) (rows : ℕ → ℕ → List ℤ) (s : State) (
       let wired_task = own.whole.each_task i below in
       let room : spot < length (task s i).work.now = omega (arith, shape.now, number, (wired_task.each_read n few).read) in
       let word : ℤ = rule.read_word w s i n in
-      goes_sound i (move.took (wired w i) (task s i).part n) (move.with_read (declared p i) (task s i).work r (rule.read_word w s i n)) below (step_kept p w s sound.shape (Take i r) named free)
+      goes_sound i (move.after_take (wired w i) (task s i).part n) (move.with_read (declared p i) (task s i).work r (rule.read_word w s i n)) below (step_kept p w s sound.shape (Take i r) named free)
       (subst (λ (q : Place). IsEarly q) (sym at) (early_take n)) (early_read (length (wired w i).reads) (n + 1)) refl ok.heard
       (take_past (length (declared p i).states) spot (task s i).work.now (rule.read_word w s i n) (omega arith))
       (λ m less. elim (cases_eq m n) [

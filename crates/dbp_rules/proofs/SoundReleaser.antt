@@ -43,7 +43,7 @@ not_there xs n j none below = λ same.
 
 -- ---- seen
 
-seen_task : (p : Plan) (w : Wiring) (rows : ℕ → ℕ → List ℤ) (i : ℕ) (e : TaskEntry) (t : TaskState) → TaskSound p w rows i e t → TaskSound p w rows i (move.seen e t.words.ended) t
+seen_task : (p : Plan) (w : Wiring) (rows : ℕ → ℕ → List ℤ) (i : ℕ) (e : TaskEntry) (t : TaskState) → TaskSound p w rows i e t → TaskSound p w rows i (move.after_seen e t.words.ended) t
 seen_task p w rows i e t ok = record {
   known = omega arith;
   ended = ok.ended;
@@ -73,7 +73,7 @@ kept_stamp t e w (suc j) size first each below = rw (get_or-take (length e.kept)
 
 aim_task : (p : Plan) (w : Wiring) (rows : ℕ → ℕ → List ℤ) (i slot : ℕ) (e : TaskEntry) (t : TaskState) → TaskSound p w rows i e t → TaskShape w (declared p i) i e.aimed t → EntryShape (wired w i) e
     → e.aimed ≡ e.known → rule.stays_kept e slot ≡ false
-    → TaskSound p w rows i (move.aimed e slot) (record t { words = move.aimed_words t.words (move.aimed e slot) })
+    → TaskSound p w rows i (move.after_aim e slot) (record t { words = move.words_after_aim t.words (move.after_aim e slot) })
 aim_task p w rows i slot e t ok shape fits known free =
     let rest : t.part.place ≡ place.Idle = idle t.part.place (omega (arith, shape.gate, shape.aimed, ok.known, ok.ended)) in
     let filled : filled_by t.part.place ≡ 0 = ap filled_by rest in
@@ -92,7 +92,7 @@ aim_task p w rows i slot e t ok shape fits known free =
       filling = λ some. absurd (omega arith);
       put = λ port below. absurd (omega arith);
       kept = λ j below. kept_stamp (wired w i) e t j fits.kept now ok.kept below;
-      kept_apart = λ _ j below. not_there (rule.staying e) slot j free (omega (arith, fits.kept, length-take-le (length e.kept) (e.current ∷ e.kept) (omega arith)));
+      kept_apart = λ _ j below. not_there (rule.kept_after_aim e) slot j free (omega (arith, fits.kept, length-take-le (length e.kept) (e.current ∷ e.kept) (omega arith)));
       states = ok.states;
       taken = ok.taken;
       row = ok.row;
@@ -102,7 +102,7 @@ aim_task p w rows i slot e t ok shape fits known free =
 -- a link out of the task
 aim_writes : (p : Plan) (w : Wiring) (rows : ℕ → ℕ → List ℤ) (i k slot : ℕ) (c : LinkEntry) (v : TaskEntry) (t : TaskState) (e : TaskEntry) (reader : TaskState) → TaskSound p w rows i v t → TaskShape w (declared p i) i v.aimed t
     → v.aimed ≡ v.known → (is_counted w k ≡ true → e.known < c.instance → c.slot ≢ slot) → seen_by w.links p.batches k c.instance ≤ v.aimed
-    → LinkSound p w k c v t e reader → LinkSound p w k c (move.aimed v slot) (record t { words = move.aimed_words t.words (move.aimed v slot) }) e reader
+    → LinkSound p w k c v t e reader → LinkSound p w k c (move.after_aim v slot) (record t { words = move.words_after_aim t.words (move.after_aim v slot) }) e reader
 aim_writes p w rows i k slot c v t e reader ok shape known free seen old =
     let rest : t.part.place ≡ place.Idle = idle t.part.place (omega (arith, shape.gate, shape.aimed, ok.known, ok.ended)) in
     let shut : shut_by t.part.place ≡ 0 = ap shut_by rest in
@@ -121,7 +121,7 @@ aim_writes p w rows i k slot c v t e reader ok shape known free seen old =
 
 -- a link into the task
 aim_reads : (p : Plan) (w : Wiring) (k slot : ℕ) (c : LinkEntry) (v : TaskEntry) (writer : TaskState) (e : TaskEntry) (t : TaskState) → LinkSound p w k c v writer e t
-    → LinkSound p w k c v writer (move.aimed e slot) (record t { words = move.aimed_words t.words (move.aimed e slot) })
+    → LinkSound p w k c v writer (move.after_aim e slot) (record t { words = move.words_after_aim t.words (move.after_aim e slot) })
 aim_reads p w k slot c v writer e t old = record { holds = old.holds; current = old.current; heard = old.heard; ready = old.ready }
 
 -- ---- claim
@@ -157,9 +157,9 @@ module _ (p : Plan) (w : Wiring) (rows : ℕ → ℕ → List ℤ) (s : State) (
       let inside : i < length s.releaser.tasks = rw sound.shape.entries below in
       let e : TaskEntry = task_entry s i in
       let ok : TaskSound p w rows i (task_entry s i) (task s i) = sound.tasks i below in
-      task_frame p w rows s own sound (rule.next p w s (Seen i)) i (move.seen (task_entry s i) (task s i).words.ended) (task s i)
+      task_frame p w rows s own sound (rule.next p w s (Seen i)) i (move.after_seen (task_entry s i) (task s i).words.ended) (task s i)
       (step_kept p w s sound.shape (Seen i) named refl) sound.place
-      (changed_entry s i (move.seen (task_entry s i) (task s i).words.ended) inside)
+      (changed_entry s i (move.after_seen (task_entry s i) (task s i).words.ended) inside)
       (sound.gates i below) (λ j other. refl) (λ k. refl)
       (seen_task p w rows i (task_entry s i) (task s i) ok)
       (λ k fits is.
@@ -167,7 +167,7 @@ module _ (p : Plan) (w : Wiring) (rows : ℕ → ℕ → List ℤ) (s : State) (
       record { holds = old.holds; current = old.current; heard = old.heard; ready = old.ready })
       (λ k fits is.
       let old : LinkSound p w k (link_entry s k) (task_entry s (link w k).writer) (task s (link w k).writer) (task_entry s i) (task s i) = rw is at (sound.links k fits) in
-      reader_on p w k (link_entry s k) (task_entry s (link w k).writer) (task s (link w k).writer) (task_entry s i) (move.seen (task_entry s i) (task s i).words.ended) (task s i) (task s i) ok.known (omega arith) old.heard old.ready old)
+      reader_on p w k (link_entry s k) (task_entry s (link w k).writer) (task s (link w k).writer) (task_entry s i) (move.after_seen (task_entry s i) (task s i).words.ended) (task s i) (task s i) ok.known (omega arith) old.heard old.ready old)
 
   pub open_sound : (i : ℕ) → i < length p.diagram.tasks → rule.refusal w s (OpenGate i) ≡ None → Sound p w rows (rule.next p w s (OpenGate i))
   open_sound i named free =
@@ -176,13 +176,13 @@ module _ (p : Plan) (w : Wiring) (rows : ℕ → ℕ → List ℤ) (s : State) (
       let next = next_none broken.Place (rule.release_kind (slice_get w.releases s.releaser.place)) 4 i free in
       let here : slice_get w.releases s.releaser.place ≡ Some (release.OpenGate i) = at_open (slice_get w.releases s.releaser.place) i next.0 next.1 in
       let at = own.whole.releases.at_open s.releaser.place i here in
-      let t : TaskState = record (task s i) { words = move.opened (task s i).words (task_entry s i).aimed } in
+      let t : TaskState = record (task s i) { words = move.words_after_open (task s i).words (task_entry s i).aimed } in
       let ok : TaskSound p w rows i (task_entry s i) (task s i) = sound.tasks i below in
       let gate : (task_entry s i).aimed ≡ opens w.releases (s.releaser.place + 1) i = sound.shape.aimed i below ∙ at.aimed ∙ sym (opens_same w.releases s.releaser.place i here) in
-      task_frame p w rows s own sound (rule.next p w s (OpenGate i)) i (task_entry s i) (record (task s i) { words = move.opened (task s i).words (task_entry s i).aimed })
+      task_frame p w rows s own sound (rule.next p w s (OpenGate i)) i (task_entry s i) (record (task s i) { words = move.words_after_open (task s i).words (task_entry s i).aimed })
       (step_kept p w s sound.shape (OpenGate i) named free) (omega (arith, slice_get_within w.releases s.releaser.place (release.OpenGate i) here))
-      (changed_further s (rule.with_task s i (record (task s i) { words = move.opened (task s i).words (task_entry s i).aimed })) i (task_entry s i) (record (task s i) { words = move.opened (task s i).words (task_entry s i).aimed })
-      (changed_task s i (record (task s i) { words = move.opened (task s i).words (task_entry s i).aimed }) inside))
+      (changed_further s (rule.with_task s i (record (task s i) { words = move.words_after_open (task s i).words (task_entry s i).aimed })) i (task_entry s i) (record (task s i) { words = move.words_after_open (task s i).words (task_entry s i).aimed })
+      (changed_task s i (record (task s i) { words = move.words_after_open (task s i).words (task_entry s i).aimed }) inside))
       gate (λ j other. opens_other w.releases s.releaser.place i j here other) (λ k. open_claims w.releases s.releaser.place i k here)
       (record { known = ok.known; ended = ok.ended; aimed = ok.aimed; aim = ok.aim; heard = ok.heard; whole = ok.whole; filled = ok.filled; filling = ok.filling; put = ok.put; kept = ok.kept; kept_apart = ok.kept_apart; states = ok.states; taken = ok.taken; row = ok.row; later = ok.later })
       (λ k fits is.
@@ -205,15 +205,15 @@ module _ (p : Plan) (w : Wiring) (rows : ℕ → ℕ → List ℤ) (s : State) (
       let within : i < length s.releaser.tasks = rw sound.shape.entries below in
       let a : IsAllowedAim w s.releaser i slot = aim_allowed w s.releaser i slot free in
       let here : slice_get w.releases s.releaser.place ≡ Some (release.Aim i) = a.here in
-      let e : TaskEntry = move.aimed (task_entry s i) slot in
-      let t : TaskState = record (task s i) { words = move.aimed_words (task s i).words (move.aimed (task_entry s i) slot) } in
+      let e : TaskEntry = move.after_aim (task_entry s i) slot in
+      let t : TaskState = record (task s i) { words = move.words_after_aim (task s i).words (move.after_aim (task_entry s i) slot) } in
       let ok : TaskSound p w rows i (task_entry s i) (task s i) = sound.tasks i below in
       let shape : TaskShape w (declared p i) i (task_entry s i).aimed (task s i) = sound.shape.each_task i below in
-      task_frame p w rows s own sound (rule.next p w s (Aim i slot)) i (move.aimed (task_entry s i) slot) (record (task s i) { words = move.aimed_words (task s i).words (move.aimed (task_entry s i) slot) })
+      task_frame p w rows s own sound (rule.next p w s (Aim i slot)) i (move.after_aim (task_entry s i) slot) (record (task s i) { words = move.words_after_aim (task s i).words (move.after_aim (task_entry s i) slot) })
       (step_kept p w s sound.shape (Aim i slot) named free) (omega (arith, slice_get_within w.releases s.releaser.place (release.Aim i) here))
-      (changed_further s (rule.with_task (rule.with_entry s i (move.aimed (task_entry s i) slot)) i (record (task s i) { words = move.aimed_words (task s i).words (move.aimed (task_entry s i) slot) })) i
-      (move.aimed (task_entry s i) slot) (record (task s i) { words = move.aimed_words (task s i).words (move.aimed (task_entry s i) slot) })
-      (changed_both s i (move.aimed (task_entry s i) slot) (record (task s i) { words = move.aimed_words (task s i).words (move.aimed (task_entry s i) slot) }) within inside))
+      (changed_further s (rule.with_task (rule.with_entry s i (move.after_aim (task_entry s i) slot)) i (record (task s i) { words = move.words_after_aim (task s i).words (move.after_aim (task_entry s i) slot) })) i
+      (move.after_aim (task_entry s i) slot) (record (task s i) { words = move.words_after_aim (task s i).words (move.after_aim (task_entry s i) slot) })
+      (changed_both s i (move.after_aim (task_entry s i) slot) (record (task s i) { words = move.words_after_aim (task s i).words (move.after_aim (task_entry s i) slot) }) within inside))
       (sound.gates i below ∙ sym (aim_opens w.releases s.releaser.place i i here)) (λ j other. aim_opens w.releases s.releaser.place i j here) (λ k. aim_claims w.releases s.releaser.place i k here)
       (aim_task p w rows i slot (task_entry s i) (task s i) ok shape (sound.shape.each_entry i below) a.known a.fresh)
       (λ k fits is.
@@ -241,7 +241,7 @@ module _ (p : Plan) (w : Wiring) (rows : ℕ → ℕ → List ℤ) (s : State) (
       let gate : (task s (link w k).reader).words.gate + 1 ≡ (task_entry s (link w k).reader).aimed = omega (arith, sound.gates (link w k).reader reader, at.opened, aimed) in
       let rest : (task s (link w k).reader).part.place ≡ place.Idle = idle (task s (link w k).reader).part.place (omega (arith, shape.gate, gate, ok.known, ok.ended, ok.aimed)) in
       let orders : length (task s (link w k).reader).part.heard.items ≡ 0 = shape.heard ∙ ap (heard_by (1 + length (wired w (link w k).reader).links)) rest in
-      claim_frame p w rows s own sound (rule.next p w s (Claim k)) k (move.claimed (link w k).delay (task_entry s (link w k).writer) (task_entry s (link w k).reader))
+      claim_frame p w rows s own sound (rule.next p w s (Claim k)) k (move.claim_entry (link w k).delay (task_entry s (link w k).writer) (task_entry s (link w k).reader))
       (step_kept p w s sound.shape (Claim k) named free) below (slice_get_within w.releases s.releaser.place (release.Claim k) here) refl refl refl refl refl
       (λ j. claim_opens w.releases s.releaser.place k j here)
       (record {

@@ -251,8 +251,8 @@ module _ (p : Plan) (w : Wiring) (rows : ℕ → ℕ → List ℤ) (s : State) (
       let at : (task s i).part.place ≡ place.End = at_step i 12 0 (rule.unblocked w.count w s i) free in
       let filled : filled_by (task s i).part.place ≡ 1 = ap filled_by at in
       let shut : shut_by (task s i).part.place ≡ 1 = ap shut_by at in
-      let t : TaskState = record { words = move.with_ended (task s i).words ((task s i).part.ended + 1); part = move.ended (task s i).part; work = move.advanced (task s i).work } in
-      task_step p w rows s own sound i (record { words = move.with_ended (task s i).words ((task s i).part.ended + 1); part = move.ended (task s i).part; work = move.advanced (task s i).work }) below
+      let t : TaskState = record { words = move.with_ended (task s i).words ((task s i).part.ended + 1); part = move.after_end (task s i).part; work = move.advanced (task s i).work } in
+      task_step p w rows s own sound i (record { words = move.with_ended (task s i).words ((task s i).part.ended + 1); part = move.after_end (task s i).part; work = move.advanced (task s i).work }) below
       (step_kept p w s sound.shape (End i) named free) refl
       (record {
         known = omega (arith, ok.known, ok.ended);
@@ -271,6 +271,6 @@ module _ (p : Plan) (w : Wiring) (rows : ℕ → ℕ → List ℤ) (s : State) (
         row = ok.row ∙ ap (rows i) (omega arith);
         later = λ some. absurd (omega arith);
       })
-      (λ k inside is old. writer_same p w k (link_entry s k) (task_entry s i) (task_entry s i) (task s i) (record { words = move.with_ended (task s i).words ((task s i).part.ended + 1); part = move.ended (task s i).part; work = move.advanced (task s i).work }) (task_entry s (link w k).reader) (task s (link w k).reader) refl refl refl (omega arith) (omega arith) old)
-      (λ k inside is old. reader_on p w k (link_entry s k) (task_entry s (link w k).writer) (task s (link w k).writer) (task_entry s i) (task_entry s i) (task s i) (record { words = move.with_ended (task s i).words ((task s i).part.ended + 1); part = move.ended (task s i).part; work = move.advanced (task s i).work }) (omega arith) (omega (arith, ok.ended))
+      (λ k inside is old. writer_same p w k (link_entry s k) (task_entry s i) (task_entry s i) (task s i) (record { words = move.with_ended (task s i).words ((task s i).part.ended + 1); part = move.after_end (task s i).part; work = move.advanced (task s i).work }) (task_entry s (link w k).reader) (task s (link w k).reader) refl refl refl (omega arith) (omega arith) old)
+      (λ k inside is old. reader_on p w k (link_entry s k) (task_entry s (link w k).writer) (task s (link w k).writer) (task_entry s i) (task_entry s i) (task s i) (record { words = move.with_ended (task s i).words ((task s i).part.ended + 1); part = move.after_end (task s i).part; work = move.advanced (task s i).work }) (omega arith) (omega (arith, ok.ended))
       (λ j less _. absurd (omega arith)) (λ n takes _. absurd (cc (takes))) old)

@@ -69,24 +69,24 @@ module _ (p : Plan) (w : Wiring) (rows : ℕ → ℕ → List ℤ) (s : State) (
 
   pub spared : (e : Step) → rule.IsNamed p.diagram e → rule.refusal w s e ≡ None → SparesClaims p w s e
   spared (Seen i) named free k fits live = inl refl
-  spared (Aim i slot) named free k fits live = inl (slots_stay i k (record (task s i) { words = move.aimed_words (task s i).words (move.aimed (task_entry s i) slot) }) named refl)
+  spared (Aim i slot) named free k fits live = inl (slots_stay i k (record (task s i) { words = move.words_after_aim (task s i).words (move.after_aim (task_entry s i) slot) }) named refl)
   spared (Claim j) named free k fits live = inl refl
-  spared (OpenGate i) named free k fits live = inl (slots_stay i k (record (task s i) { words = move.opened (task s i).words (task_entry s i).aimed }) named refl)
-  spared (Start i) named free k fits live = inl (slots_stay i k (record (task s i) { part = move.started (task s i).part (rule.is_open s i) }) named refl)
-  spared (Hear i) named free k fits live = inl (slots_stay i k (record (task s i) { part = move.heard (wired w i) (task s i).part (rule.hears_at (task s i).part.place) (rule.order_word w s i (rule.hears_at (task s i).part.place)) }) named refl)
-  spared (Look i r) named free k fits live = inl (slots_stay i k (record (task s i) { part = move.looked (task s i).part (rule.turn_at (task s i).part.place) (rule.is_ready w s i (rule.turn_at (task s i).part.place)) }) named refl)
+  spared (OpenGate i) named free k fits live = inl (slots_stay i k (record (task s i) { words = move.words_after_open (task s i).words (task_entry s i).aimed }) named refl)
+  spared (Start i) named free k fits live = inl (slots_stay i k (record (task s i) { part = move.after_start (task s i).part (rule.is_open s i) }) named refl)
+  spared (Hear i) named free k fits live = inl (slots_stay i k (record (task s i) { part = move.after_hear (wired w i) (task s i).part (rule.hears_at (task s i).part.place) (rule.order_word w s i (rule.hears_at (task s i).part.place)) }) named refl)
+  spared (Look i r) named free k fits live = inl (slots_stay i k (record (task s i) { part = move.after_look (task s i).part (rule.turn_at (task s i).part.place) (rule.is_ready w s i (rule.turn_at (task s i).part.place)) }) named refl)
   spared (Take i r) named free k fits live =
-      inl (slots_stay i k (record { words = (task s i).words; part = move.took (wired w i) (task s i).part (rule.turn_at (task s i).part.place); work = move.with_read (declared p i) (task s i).work r (rule.read_word w s i (rule.turn_at (task s i).part.place)) }) named refl)
+      inl (slots_stay i k (record { words = (task s i).words; part = move.after_take (wired w i) (task s i).part (rule.turn_at (task s i).part.place); work = move.with_read (declared p i) (task s i).work r (rule.read_word w s i (rule.turn_at (task s i).part.place)) }) named refl)
   spared (Shut i) named free k fits live =
-      fills i 9 0 (Shut i) (record { words = move.stamped (task s i).words (move.own_slot (task s i).part) 0; part = move.at_place (task s i).part (place.Put 0); work = move.worked (declared p i) (rule.sensed p w s i) (task s i).work })
+      fills i 9 0 (Shut i) (record { words = move.with_stamp (task s i).words (move.own_slot (task s i).part) 0; part = move.at_place (task s i).part (place.Put 0); work = move.worked (declared p i) (rule.sensed p w s i) (task s i).work })
       (record (slot_at (task s i).words.slots (move.own_slot (task s i).part)) { stamp = 0 }) named free (λ n. refl) (λ n. refl) refl refl k fits live
   spared (Put i port) named free k fits live =
       fills i 10 port (Put i port) (record { words = move.with_word (task s i).words (move.own_slot (task s i).part) port (get_or (task s i).work.row port (pos 0)); part = move.at_place (task s i).part (move.put_place (wired w i).ports (port + 1)); work = (task s i).work })
       (record (slot_at (task s i).words.slots (move.own_slot (task s i).part)) { words = set (slot_at (task s i).words.slots (move.own_slot (task s i).part)).words port (get_or (task s i).work.row port (pos 0)) }) named free (λ n. refl) (λ n. refl) refl refl k fits live
   spared (Done i) named free k fits live =
-      fills i 11 0 (Done i) (record { words = move.stamped (task s i).words (move.own_slot (task s i).part) ((task s i).part.ended + 2); part = move.at_place (task s i).part place.End; work = (task s i).work })
+      fills i 11 0 (Done i) (record { words = move.with_stamp (task s i).words (move.own_slot (task s i).part) ((task s i).part.ended + 2); part = move.at_place (task s i).part place.End; work = (task s i).work })
       (record (slot_at (task s i).words.slots (move.own_slot (task s i).part)) { stamp = (task s i).part.ended + 2 }) named free (λ n. refl) (λ n. refl) refl refl k fits live
-  spared (End i) named free k fits live = inl (slots_stay i k (record { words = move.with_ended (task s i).words ((task s i).part.ended + 1); part = move.ended (task s i).part; work = move.advanced (task s i).work }) named refl)
+  spared (End i) named free k fits live = inl (slots_stay i k (record { words = move.with_ended (task s i).words ((task s i).part.ended + 1); part = move.after_end (task s i).part; work = move.advanced (task s i).work }) named refl)
 
 -- ---- aims
 

@@ -1,8 +1,8 @@
 -- Each allowed step keeps what the code needs of the state.
-use Rattle.std.proofs.Common.{◌≡◌, ℕ, zero, suc, ℤ, ◌+◌, ◌-◌, ◌<◌, ◌≤◌, List, ◌∷◌, ◌++◌, length, get_or, take, drop, Option, Some, None, Result, refl, sym, ◌∙◌, ap, subst, arith, inl, inr, length-append, length-drop}
+use Rattle.std.proofs.Common.{◌≡◌, ℕ, zero, suc, ℤ, ◌+◌, ◌-◌, ◌<◌, ◌≤◌, List, ◌∷◌, ◌++◌, length, take, drop, Option, Some, None, Result, refl, sym, ◌∙◌, ap, subst, arith, inl, inr, length-append, length-drop}
 use Rattle.std.specs.Prelude.{slice_get}
 use Rattle.std.proofs.lemmas.Bool.{cases_Bool, eqb-true}
-use Rattle.std.proofs.lemmas.List.{get_or-take, length-map, length-set, length-take-le}
+use Rattle.std.proofs.lemmas.List.{length-map, length-set, length-take-le}
 use Rattle.dbp_plan.specs.declared.diagram.Task.{Task}
 use Rattle.dbp_plan.specs.declared.plan.Plan.{Plan}
 use Rattle.dbp_plan.specs.declared.limits.TheConstants.{MAX_OCCURRENCES}
@@ -17,7 +17,6 @@ use Rattle.dbp_rules.specs.Shapes.{EntryShape, IsShape, IsTaskWired, OrderFits, 
 use Rattle.dbp_rules.specs.Work.{WorkWords}
 use Rattle.dbp_rules.specs.declared.parts.Place.{Place}
 use Rattle.dbp_rules.specs.declared.parts.Place.TheVariants as place
-use Rattle.dbp_rules.specs.declared.parts.TaskEntry.{TaskEntry}
 use Rattle.dbp_rules.specs.declared.state.State.{State}
 use Rattle.dbp_rules.specs.declared.step.Broken.TheVariants as broken
 use Rattle.dbp_rules.specs.declared.step.Heard.{Heard}
@@ -47,7 +46,7 @@ module _ (p : Plan) (w : Wiring) (s : State) (shape : IsShape p w s) where
   seen_kept : (i : ℕ) → i < length w.tasks → IsShape p w (rule.next p w s (Seen i))
   seen_kept i below =
       let e : EntryShape (wired w i) (task_entry s i) = shape.each_entry i below in
-      entry_changes p w s i (move.seen (task_entry s i) (task s i).words.ended) shape below refl (record { current = e.current; kept = e.kept; kept_slots = e.kept_slots })
+      entry_changes p w s i (move.after_seen (task_entry s i) (task s i).words.ended) shape below refl (record { current = e.current; kept = e.kept; kept_slots = e.kept_slots })
 
   aim_kept : (i slot : ℕ) → i < length w.tasks → rule.refusal w s (Aim i slot) ≡ None → IsShape p w (rule.next p w s (Aim i slot))
   aim_kept i slot below free =
@@ -58,7 +57,7 @@ module _ (p : Plan) (w : Wiring) (s : State) (shape : IsShape p w s) where
       let ok : TaskShape w (declared p i) i (task_entry s i).aimed (task s i) = shape.each_task i below in
       let t : IsTaskWired p w i (wired w i) = shape.wiring.each_task i below in
       let more : aims w.releases (s.releaser.place + 1) i ≡ aims w.releases s.releaser.place i + 1 = aims_same w.releases s.releaser.place i here in
-      aim_changes p w s i (move.aimed (task_entry s i) slot) (record (task s i) { words = move.aimed_words (task s i).words (move.aimed (task_entry s i) slot) }) shape below
+      aim_changes p w s i (move.after_aim (task_entry s i) slot) (record (task s i) { words = move.words_after_aim (task s i).words (move.after_aim (task_entry s i) slot) }) shape below
       (omega (arith, shape.aimed i below, more))
       (λ j other. aims_other w.releases s.releaser.place i j here other)
       (record {
@@ -88,7 +87,7 @@ module _ (p : Plan) (w : Wiring) (s : State) (shape : IsShape p w s) where
       let slot : move.claimed_slot (link w k).delay (task_entry s (link w k).writer).current (task_entry s (link w k).writer).kept < (wired w (link w k).writer).slots =
       claimed_fits (wired w (link w k).writer).slots (wired w (link w k).writer).kept (link w k).delay (task_entry s (link w k).writer) e.current e.kept_slots (shape.wiring.delay k below) in
       let number : (task_entry s (link w k).writer).aimed - (link w k).delay ≤ MAX_OCCURRENCES = omega (arith, aimed_few (link w k).writer writer) in
-      let c = move.claimed (link w k).delay (task_entry s (link w k).writer) (task_entry s (link w k).reader) in
+      let c = move.claim_entry (link w k).delay (task_entry s (link w k).writer) (task_entry s (link w k).reader) in
       further_on p w (rule.with_claim s k c) (claim_changes p w s k c shape below (record { claim = (slot, number); order = (slot, number) })) (λ j. aims_claim w.releases s.releaser.place k j here)
 
   open_kept : (i : ℕ) → i < length w.tasks → rule.refusal w s (OpenGate i) ≡ None → IsShape p w (rule.next p w s (OpenGate i))
@@ -96,7 +95,7 @@ module _ (p : Plan) (w : Wiring) (s : State) (shape : IsShape p w s) where
       let next = next_none broken.Place (rule.release_kind (slice_get w.releases s.releaser.place)) 4 i free in
       let here : slice_get w.releases s.releaser.place ≡ Some (release.OpenGate i) = at_open (slice_get w.releases s.releaser.place) i next.0 next.1 in
       let ok : TaskShape w (declared p i) i (task_entry s i).aimed (task s i) = shape.each_task i below in
-      let t = record (task s i) { words = move.opened (task s i).words (task_entry s i).aimed } in
+      let t = record (task s i) { words = move.words_after_open (task s i).words (task_entry s i).aimed } in
       further_on p w (rule.with_task s i t) (task_changes p w s i t shape below (record {
         gate = omega (arith, ok.gate, ok.aimed);
         aimed = omega arith;
@@ -133,7 +132,7 @@ module _ (p : Plan) (w : Wiring) (s : State) (shape : IsShape p w s) where
   hear_on i n below at =
       let ok : TaskShape w (declared p i) i (task_entry s i).aimed (task s i) = shape.each_task i below in
       let few : n ≤ length (wired w i).links = omega (arith, inside_at (wired w i) (task s i).part.place (place.Hear n) at ok.place) in
-      rw at (task_changes p w s i (record (task s i) { part = move.heard (wired w i) (task s i).part n (rule.order_word w s i n) }) shape below (hear_kept w (declared p i) i (task_entry s i).aimed (task s i) ok n (rule.order_word w s i n) at (word_ordered i n below few)))
+      rw at (task_changes p w s i (record (task s i) { part = move.after_hear (wired w i) (task s i).part n (rule.order_word w s i n) }) shape below (hear_kept w (declared p i) i (task_entry s i).aimed (task s i) ok n (rule.order_word w s i n) at (word_ordered i n below few)))
 
   look_on : (i r n : ℕ) → i < length w.tasks → (task s i).part.place ≡ place.Look n → IsShape p w (rule.next p w s (Look i r))
   look_on i r n below at =
@@ -149,7 +148,7 @@ module _ (p : Plan) (w : Wiring) (s : State) (shape : IsShape p w s) where
   take_on i r n below at =
       let ok : TaskShape w (declared p i) i (task_entry s i).aimed (task s i) = shape.each_task i below in
       let work : WorkWords = move.with_read (declared p i) (task s i).work r (rule.read_word w s i n) in
-      rw at (task_changes p w s i (record { words = (task s i).words; part = move.took (wired w i) (task s i).part n; work = work }) shape below
+      rw at (task_changes p w s i (record { words = (task s i).words; part = move.after_take (wired w i) (task s i).part n; work = work }) shape below
       (goes_on w (declared p i) i (task_entry s i).aimed (task s i) ok (move.read_place (length (wired w i).reads) (n + 1)) (task s i).words work (ap running at) (ap (heard_by (1 + length (wired w i).links)) at)
       (goes_to_read (wired w i) (n + 1)) refl refl ok.slots (length-set (task s i).work.now (length (declared p i).states + length (declared p i).senses + r) (rule.read_word w s i n) ∙ ok.now) ok.later ok.row))
 
@@ -171,8 +170,8 @@ module _ (p : Plan) (w : Wiring) (s : State) (shape : IsShape p w s) where
       length-take-le (let_base d) (move.with_senses d senses (task s i).work).now
       (omega (arith, ok.now, count, length-append (take (length d.states) (task s i).work.now) (senses ++ drop (length d.states + length senses) (task s i).work.now), length-append senses (drop (length d.states + length senses) (task s i).work.now), length-take-le (length d.states) (task s i).work.now (omega (arith, ok.now)), length-drop (length d.states + length senses) (task s i).work.now)) in
       let fits : WorkFits d (move.worked d senses (task s i).work) = computed_fits d (length p.diagram.inputs) (length p.diagram.events) (length p.diagram.links) (take (let_base d) (move.with_senses d senses (task s i).work).now) t.closed room in
-      task_changes p w s i (record { words = move.stamped (task s i).words (move.own_slot (task s i).part) 0; part = move.at_place (task s i).part (place.Put 0); work = move.worked d senses (task s i).work }) shape below
-      (goes_on w d i (task_entry s i).aimed (task s i) ok (place.Put 0) (move.stamped (task s i).words (move.own_slot (task s i).part) 0) (move.worked d senses (task s i).work) (ap running at) all
+      task_changes p w s i (record { words = move.with_stamp (task s i).words (move.own_slot (task s i).part) 0; part = move.at_place (task s i).part (place.Put 0); work = move.worked d senses (task s i).work }) shape below
+      (goes_on w d i (task_entry s i).aimed (task s i) ok (place.Put 0) (move.with_stamp (task s i).words (move.own_slot (task s i).part) 0) (move.worked d senses (task s i).work) (ap running at) all
       (record { inside = t.some_port; busy = refl; heard = refl }) refl refl (stamped_fit (wired w i) (task s i).words (move.own_slot (task s i).part) 0 ok.slots (own_fits i below all)) fits.now fits.later fits.row)
 
   put_on : (i port n : ℕ) → i < length w.tasks → (task s i).part.place ≡ place.Put n → IsShape p w (rule.next p w s (Put i port))
@@ -189,8 +188,8 @@ module _ (p : Plan) (w : Wiring) (s : State) (shape : IsShape p w s) where
       let ok : TaskShape w (declared p i) i (task_entry s i).aimed (task s i) = shape.each_task i below in
       let all : heard_by (1 + length (wired w i).links) (task s i).part.place ≡ 1 + length (wired w i).links = ap (heard_by (1 + length (wired w i).links)) at in
       let stamp : ℕ = (task s i).part.ended + 2 in
-      task_changes p w s i (record { words = move.stamped (task s i).words (move.own_slot (task s i).part) stamp; part = move.at_place (task s i).part place.End; work = (task s i).work }) shape below
-      (goes_on w (declared p i) i (task_entry s i).aimed (task s i) ok place.End (move.stamped (task s i).words (move.own_slot (task s i).part) stamp) (task s i).work (ap running at) all
+      task_changes p w s i (record { words = move.with_stamp (task s i).words (move.own_slot (task s i).part) stamp; part = move.at_place (task s i).part place.End; work = (task s i).work }) shape below
+      (goes_on w (declared p i) i (task_entry s i).aimed (task s i) ok place.End (move.with_stamp (task s i).words (move.own_slot (task s i).part) stamp) (task s i).work (ap running at) all
       (record { inside = omega arith; busy = refl; heard = refl }) refl refl (stamped_fit (wired w i) (task s i).words (move.own_slot (task s i).part) stamp ok.slots (own_fits i below all)) ok.now ok.later ok.row)
 
   end_on : (i : ℕ) → i < length w.tasks → (task s i).part.place ≡ place.End → IsShape p w (rule.next p w s (End i))

@@ -32,7 +32,7 @@ use Rattle.dbp_rules.proofs.WordNumbers.{order_below, value_below}
 task_there : (s : State) (i : ℕ) (t : TaskState) → i < length s.tasks → task (rule.with_task s i t) i ≡ t
 task_there s i t inside = get_or-set_same s.tasks i t no_task inside
 
-stamp_there : (t : TaskWords) (n x : ℕ) → n < length t.slots → (slot_at (move.stamped t n x).slots n).stamp ≡ x
+stamp_there : (t : TaskWords) (n x : ℕ) → n < length t.slots → (slot_at (move.with_stamp t n x).slots n).stamp ≡ x
 stamp_there t n x inside = ap (λ (y : Slot). y.stamp) (get_or-set_same t.slots n (record (slot_at t.slots n) { stamp = x }) no_slot inside)
 
 word_there : (t : TaskWords) (n port : ℕ) (x : ℤ) → n < length t.slots → port < length (slot_at t.slots n).words → get_or (slot_at (move.with_word t n port x).slots n).words port (pos 0) ≡ x
@@ -101,22 +101,22 @@ module _ (p : Plan) (w : Wiring) (s : State) (shape : IsShape p w s) where
   number_in new v q x same = subst (λ (y : TableWord). value_in new y ≡ x) (same_Some v q same)
 
   aim_number : (i slot : ℕ) → i < length p.diagram.tasks → value_in (rule.next p w s (Aim i slot)) (aim i) ≡ stored_number w s (Aim i slot)
-  aim_number i slot named = ap (λ (t : TaskState). order_value t.words.aim) (get_or-set_same s.tasks i (record (task s i) { words = move.aimed_words (task s i).words (move.aimed (task_entry s i) slot) }) no_task (inside i named))
+  aim_number i slot named = ap (λ (t : TaskState). order_value t.words.aim) (get_or-set_same s.tasks i (record (task s i) { words = move.words_after_aim (task s i).words (move.after_aim (task_entry s i) slot) }) no_task (inside i named))
 
   claim_number : (k : ℕ) → k < length p.diagram.links → value_in (rule.next p w s (Claim k)) (claim k) ≡ stored_number w s (Claim k)
   claim_number k named =
       let below : k < length s.orders = omega (arith, named, shape.orders, ap length shape.wiring.links) in
-      let c : LinkEntry = move.claimed (link w k).delay (task_entry s (link w k).writer) (task_entry s (link w k).reader) in
-      ap order_value (get_or-set_same s.orders k (move.ordered c) no_order below)
+      let c : LinkEntry = move.claim_entry (link w k).delay (task_entry s (link w k).writer) (task_entry s (link w k).reader) in
+      ap order_value (get_or-set_same s.orders k (move.claim_order c) no_order below)
 
   open_number : (i : ℕ) → i < length p.diagram.tasks → value_in (rule.next p w s (OpenGate i)) (gate i) ≡ stored_number w s (OpenGate i)
-  open_number i named = ap (λ (t : TaskState). t.words.gate) (get_or-set_same s.tasks i (record (task s i) { words = move.opened (task s i).words (task_entry s i).aimed }) no_task (inside i named))
+  open_number i named = ap (λ (t : TaskState). t.words.gate) (get_or-set_same s.tasks i (record (task s i) { words = move.words_after_open (task s i).words (task_entry s i).aimed }) no_task (inside i named))
 
   shut_number : (i : ℕ) → i < length p.diagram.tasks → rule.refusal w s (Shut i) ≡ None → value_in (rule.next p w s (Shut i)) (stamp i (move.own_slot (task s i).part)) ≡ stored_number w s (Shut i)
   shut_number i named free =
       let n : ℕ = move.own_slot (task s i).part in
       ap (λ (t : TaskState). (slot_at t.words.slots n).stamp)
-      (task_there s i (record { words = move.stamped (task s i).words (move.own_slot (task s i).part) 0; part = move.at_place (task s i).part (place.Put 0); work = move.worked (declared p i) (rule.sensed p w s i) (task s i).work }) (inside i named))
+      (task_there s i (record { words = move.with_stamp (task s i).words (move.own_slot (task s i).part) 0; part = move.at_place (task s i).part (place.Put 0); work = move.worked (declared p i) (rule.sensed p w s i) (task s i).work }) (inside i named))
       ∙ stamp_there (task s i).words n 0 (slot_inside i named (shut_fits i (there i named) free))
 
   put_number : (i port : ℕ) → i < length p.diagram.tasks → rule.refusal w s (Put i port) ≡ None → value_in (rule.next p w s (Put i port)) (word i (move.own_slot (task s i).part) port) ≡ stored_number w s (Put i port)
@@ -133,12 +133,12 @@ module _ (p : Plan) (w : Wiring) (s : State) (shape : IsShape p w s) where
   done_number i named free =
       let n : ℕ = move.own_slot (task s i).part in
       ap (λ (t : TaskState). (slot_at t.words.slots n).stamp)
-      (task_there s i (record { words = move.stamped (task s i).words (move.own_slot (task s i).part) ((task s i).part.ended + 2); part = move.at_place (task s i).part place.End; work = (task s i).work }) (inside i named))
+      (task_there s i (record { words = move.with_stamp (task s i).words (move.own_slot (task s i).part) ((task s i).part.ended + 2); part = move.at_place (task s i).part place.End; work = (task s i).work }) (inside i named))
       ∙ stamp_there (task s i).words n ((task s i).part.ended + 2) (slot_inside i named (done_fits i (there i named) free))
 
   end_number : (i : ℕ) → i < length p.diagram.tasks → value_in (rule.next p w s (End i)) (ended i) ≡ stored_number w s (End i)
   end_number i named =
-      ap (λ (t : TaskState). t.words.ended) (task_there s i (record { words = move.with_ended (task s i).words ((task s i).part.ended + 1); part = move.ended (task s i).part; work = move.advanced (task s i).work }) (inside i named))
+      ap (λ (t : TaskState). t.words.ended) (task_there s i (record { words = move.with_ended (task s i).words ((task s i).part.ended + 1); part = move.after_end (task s i).part; work = move.advanced (task s i).work }) (inside i named))
 
   pub number_stored : (e : Step) (q : TableWord) → rule.IsNamed p.diagram e → rule.refusal w s e ≡ None → stored_by s e ≡ Some q → value_in (rule.next p w s e) q ≡ stored_number w s e
   number_stored (Seen i) q named free is = absurd (cc (is))

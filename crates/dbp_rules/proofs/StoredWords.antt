@@ -76,7 +76,7 @@ words_stay s i part work q inside = value_task s i (record { words = (task s i).
 
 -- ---- what each step that stores leaves of the task's words
 
-but_aim : (t : TaskWords) (e : TaskEntry) (i : ℕ) (q : TableWord) → Some (aim i) ≢ Some q → i ≡ owner q → own_value (move.aimed_words t e) q ≡ own_value t q
+but_aim : (t : TaskWords) (e : TaskEntry) (i : ℕ) (q : TableWord) → Some (aim i) ≢ Some q → i ≡ owner q → own_value (move.words_after_aim t e) q ≡ own_value t q
 but_aim t e i (gate j) other is = refl
 but_aim t e i (ended j) other is = refl
 but_aim t e i (aim j) other is = absurd (other (ap (λ (n : ℕ). Some (aim n)) is))
@@ -84,7 +84,7 @@ but_aim t e i (claim k) other is = refl
 but_aim t e i (stamp j n) other is = refl
 but_aim t e i (word j n p) other is = refl
 
-but_gate : (t : TaskWords) (m i : ℕ) (q : TableWord) → Some (gate i) ≢ Some q → i ≡ owner q → own_value (move.opened t m) q ≡ own_value t q
+but_gate : (t : TaskWords) (m i : ℕ) (q : TableWord) → Some (gate i) ≢ Some q → i ≡ owner q → own_value (move.words_after_open t m) q ≡ own_value t q
 but_gate t m i (gate j) other is = absurd (other (ap (λ (n : ℕ). Some (gate n)) is))
 but_gate t m i (ended j) other is = refl
 but_gate t m i (aim j) other is = refl
@@ -112,7 +112,7 @@ of_each_slot f ss n m x inside same = elim (cases_eq m n) [
   | inr other ↦ ap f (slot_other ss n m x other)
 ]
 
-but_stamp : (t : TaskWords) (n v i : ℕ) (q : TableWord) → n < length t.slots → Some (stamp i n) ≢ Some q → i ≡ owner q → own_value (move.stamped t n v) q ≡ own_value t q
+but_stamp : (t : TaskWords) (n v i : ℕ) (q : TableWord) → n < length t.slots → Some (stamp i n) ≢ Some q → i ≡ owner q → own_value (move.with_stamp t n v) q ≡ own_value t q
 but_stamp t n v i (gate j) inside other is = refl
 but_stamp t n v i (ended j) inside other is = refl
 but_stamp t n v i (aim j) inside other is = refl
@@ -169,27 +169,27 @@ module _ (p : Plan) (w : Wiring) (s : State) (shape : IsShape p w s) where
   pub words_kept : (e : Step) → rule.IsNamed p.diagram e → rule.refusal w s e ≡ None → KeepsOtherWords (stored_by s e) s (rule.next p w s e)
   words_kept (Seen i) named free q other = value_same (rule.next p w s (Seen i)) s q refl refl
   words_kept (Aim i slot) named free q other =
-      value_same (rule.next p w s (Aim i slot)) (rule.with_task s i (record (task s i) { words = move.aimed_words (task s i).words (move.aimed (task_entry s i) slot) })) q refl refl
-      ∙ value_task s i (record (task s i) { words = move.aimed_words (task s i).words (move.aimed (task_entry s i) slot) }) q (there i named) (but_aim (task s i).words (move.aimed (task_entry s i) slot) i q other)
+      value_same (rule.next p w s (Aim i slot)) (rule.with_task s i (record (task s i) { words = move.words_after_aim (task s i).words (move.after_aim (task_entry s i) slot) })) q refl refl
+      ∙ value_task s i (record (task s i) { words = move.words_after_aim (task s i).words (move.after_aim (task_entry s i) slot) }) q (there i named) (but_aim (task s i).words (move.after_aim (task_entry s i) slot) i q other)
   words_kept (Claim k) named free (gate j) other = refl
   words_kept (Claim k) named free (ended j) other = refl
   words_kept (Claim k) named free (aim j) other = refl
   words_kept (Claim k) named free (claim j) other =
       let apart : j ≢ k = λ same. other (ap (λ (n : ℕ). Some (claim n)) (sym same)) in
-      ap order_value (get_or-set_other s.orders k j (move.ordered (move.claimed (link w k).delay (task_entry s (link w k).writer) (task_entry s (link w k).reader))) no_order apart)
+      ap order_value (get_or-set_other s.orders k j (move.claim_order (move.claim_entry (link w k).delay (task_entry s (link w k).writer) (task_entry s (link w k).reader))) no_order apart)
   words_kept (Claim k) named free (stamp j n) other = refl
   words_kept (Claim k) named free (word j n port) other = refl
   words_kept (OpenGate i) named free q other =
-      value_same (rule.next p w s (OpenGate i)) (rule.with_task s i (record (task s i) { words = move.opened (task s i).words (task_entry s i).aimed })) q refl refl
-      ∙ value_task s i (record (task s i) { words = move.opened (task s i).words (task_entry s i).aimed }) q (there i named) (but_gate (task s i).words (task_entry s i).aimed i q other)
-  words_kept (Start i) named free q other = words_stay s i (move.started (task s i).part (rule.is_open s i)) (task s i).work q (there i named)
-  words_kept (Hear i) named free q other = words_stay s i (move.heard (wired w i) (task s i).part (rule.hears_at (task s i).part.place) (rule.order_word w s i (rule.hears_at (task s i).part.place))) (task s i).work q (there i named)
-  words_kept (Look i r) named free q other = words_stay s i (move.looked (task s i).part (rule.turn_at (task s i).part.place) (rule.is_ready w s i (rule.turn_at (task s i).part.place))) (task s i).work q (there i named)
+      value_same (rule.next p w s (OpenGate i)) (rule.with_task s i (record (task s i) { words = move.words_after_open (task s i).words (task_entry s i).aimed })) q refl refl
+      ∙ value_task s i (record (task s i) { words = move.words_after_open (task s i).words (task_entry s i).aimed }) q (there i named) (but_gate (task s i).words (task_entry s i).aimed i q other)
+  words_kept (Start i) named free q other = words_stay s i (move.after_start (task s i).part (rule.is_open s i)) (task s i).work q (there i named)
+  words_kept (Hear i) named free q other = words_stay s i (move.after_hear (wired w i) (task s i).part (rule.hears_at (task s i).part.place) (rule.order_word w s i (rule.hears_at (task s i).part.place))) (task s i).work q (there i named)
+  words_kept (Look i r) named free q other = words_stay s i (move.after_look (task s i).part (rule.turn_at (task s i).part.place) (rule.is_ready w s i (rule.turn_at (task s i).part.place))) (task s i).work q (there i named)
   words_kept (Take i r) named free q other =
-      words_stay s i (move.took (wired w i) (task s i).part (rule.turn_at (task s i).part.place)) (move.with_read (declared p i) (task s i).work r (rule.read_word w s i (rule.turn_at (task s i).part.place))) q (there i named)
+      words_stay s i (move.after_take (wired w i) (task s i).part (rule.turn_at (task s i).part.place)) (move.with_read (declared p i) (task s i).work r (rule.read_word w s i (rule.turn_at (task s i).part.place))) q (there i named)
   words_kept (Shut i) named free q other =
       let inside : move.own_slot (task s i).part < length (task s i).words.slots = own_inside i 9 0 (rule.unblocked w.count w s i) named free (λ n. refl) in
-      value_task s i (record { words = move.stamped (task s i).words (move.own_slot (task s i).part) 0; part = move.at_place (task s i).part (place.Put 0); work = move.worked (declared p i) (rule.sensed p w s i) (task s i).work }) q (there i named)
+      value_task s i (record { words = move.with_stamp (task s i).words (move.own_slot (task s i).part) 0; part = move.at_place (task s i).part (place.Put 0); work = move.worked (declared p i) (rule.sensed p w s i) (task s i).work }) q (there i named)
       (but_stamp (task s i).words (move.own_slot (task s i).part) 0 i q inside other)
   words_kept (Put i port) named free q other =
       let inside : move.own_slot (task s i).part < length (task s i).words.slots = own_inside i 10 port (rule.unblocked w.count w s i) named free (λ n. refl) in
@@ -197,17 +197,17 @@ module _ (p : Plan) (w : Wiring) (s : State) (shape : IsShape p w s) where
       (but_word (task s i).words (move.own_slot (task s i).part) port i (get_or (task s i).work.row port (pos 0)) q inside other)
   words_kept (Done i) named free q other =
       let inside : move.own_slot (task s i).part < length (task s i).words.slots = own_inside i 11 0 (rule.unblocked w.count w s i) named free (λ n. refl) in
-      value_task s i (record { words = move.stamped (task s i).words (move.own_slot (task s i).part) ((task s i).part.ended + 2); part = move.at_place (task s i).part place.End; work = (task s i).work }) q (there i named)
+      value_task s i (record { words = move.with_stamp (task s i).words (move.own_slot (task s i).part) ((task s i).part.ended + 2); part = move.at_place (task s i).part place.End; work = (task s i).work }) q (there i named)
       (but_stamp (task s i).words (move.own_slot (task s i).part) ((task s i).part.ended + 2) i q inside other)
   words_kept (End i) named free q other =
-      value_task s i (record { words = move.with_ended (task s i).words ((task s i).part.ended + 1); part = move.ended (task s i).part; work = move.advanced (task s i).work }) q (there i named)
+      value_task s i (record { words = move.with_ended (task s i).words ((task s i).part.ended + 1); part = move.after_end (task s i).part; work = move.advanced (task s i).work }) q (there i named)
       (but_ended (task s i).words ((task s i).part.ended + 1) i q other)
 
   pub parts_kept : (e : Step) → rule.IsNamed p.diagram e → KeepsOtherParts (made_by e) s (rule.next p w s e)
   parts_kept (Seen i) named = record { releaser = λ some. absurd (some refl); tasks = λ j other. (refl, refl) }
-  parts_kept (Aim i slot) named = record { releaser = λ some. absurd (some refl); tasks = λ j other. parts_stay s i j (move.aimed_words (task s i).words (move.aimed (task_entry s i) slot)) (there i named) }
+  parts_kept (Aim i slot) named = record { releaser = λ some. absurd (some refl); tasks = λ j other. parts_stay s i j (move.words_after_aim (task s i).words (move.after_aim (task_entry s i) slot)) (there i named) }
   parts_kept (Claim k) named = record { releaser = λ some. absurd (some refl); tasks = λ j other. (refl, refl) }
-  parts_kept (OpenGate i) named = record { releaser = λ some. absurd (some refl); tasks = λ j other. parts_stay s i j (move.opened (task s i).words (task_entry s i).aimed) (there i named) }
+  parts_kept (OpenGate i) named = record { releaser = λ some. absurd (some refl); tasks = λ j other. parts_stay s i j (move.words_after_open (task s i).words (task_entry s i).aimed) (there i named) }
   parts_kept (Start i) named = record { releaser = λ _. refl; tasks = λ j other. others_stay s i j _ other }
   parts_kept (Hear i) named = record { releaser = λ _. refl; tasks = λ j other. others_stay s i j _ other }
   parts_kept (Look i r) named = record { releaser = λ _. refl; tasks = λ j other. others_stay s i j _ other }

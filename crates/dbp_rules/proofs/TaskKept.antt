@@ -46,7 +46,7 @@ goes_to_put t n = elim (cases_lt n t.ports) [
 ]
 
 -- words whose slots fit as before
-pub stamped_fit : (t : TaskWiring) (w : TaskWords) (n stamp : ℕ) → SlotsFit t w.slots → n < t.slots → SlotsFit t (move.stamped w n stamp).slots
+pub stamped_fit : (t : TaskWiring) (w : TaskWords) (n stamp : ℕ) → SlotsFit t w.slots → n < t.slots → SlotsFit t (move.with_stamp w n stamp).slots
 stamped_fit t w n stamp fit below =
     let inside : n < length w.slots = rw fit.0 below in (
       length-set w.slots n (record (slot_at w.slots n) { stamp = stamp }) ∙ fit.0,
@@ -109,7 +109,7 @@ module _ (w : Wiring) (d : Task) (i last : ℕ) (s : TaskState) (ok : TaskShape 
     row = ok.row;
   }
 
-  pub hear_kept : (n : ℕ) (o : Order) → s.part.place ≡ place.Hear n → OrderFits (wired w (slot_owner w i n)) o → TaskShape w d i last (record s { part = move.heard (wired w i) s.part n o })
+  pub hear_kept : (n : ℕ) (o : Order) → s.part.place ≡ place.Hear n → OrderFits (wired w (slot_owner w i n)) o → TaskShape w d i last (record s { part = move.after_hear (wired w i) s.part n o })
   hear_kept n o at fits =
       let inside : PlaceIn (wired w i) (place.Hear n) = subst (λ (q : Place). PlaceIn (wired w i) q) at ok.place in
       let few : n ≤ length (wired w i).links = omega (arith, inside) in
@@ -129,7 +129,7 @@ module _ (w : Wiring) (d : Task) (i last : ℕ) (s : TaskState) (ok : TaskShape 
         row = ok.row;
       }
 
-  pub end_kept : s.part.place ≡ place.End → TaskShape w d i last (record { words = move.with_ended s.words (s.part.ended + 1); part = move.ended s.part; work = move.advanced s.work })
+  pub end_kept : s.part.place ≡ place.End → TaskShape w d i last (record { words = move.with_ended s.words (s.part.ended + 1); part = move.after_end s.part; work = move.advanced s.work })
   end_kept at =
       let busy : running s.part.place ≡ 1 = ap running at in
       let shorter : length s.work.later ≤ length s.work.now = omega (arith, ok.now, ok.later) in

@@ -88,7 +88,7 @@ start_fits p w fit =
 task_fits : (s : State) (i : ℕ) (t : TaskState) → SlotWordsFit s → AllFit t.words.slots → SlotWordsFit (rule.with_task s i t)
 task_fits s i t fit own = set_each (λ (x : TaskState). AllFit x.words.slots) s.tasks i t no_task own fit
 
-stamped_fits : (t : TaskWords) (n stamp : ℕ) → AllFit t.slots → AllFit (move.stamped t n stamp).slots
+stamped_fits : (t : TaskWords) (n stamp : ℕ) → AllFit t.slots → AllFit (move.with_stamp t n stamp).slots
 stamped_fits t n stamp fit = set_each (λ (x : Slot). WordsFit x.words) t.slots n (record (slot_at t.slots n) { stamp = stamp }) no_slot (fit n) fit
 
 word_fits : (t : TaskWords) (n port : ℕ) (word : ℤ) → Fits word → AllFit t.slots → AllFit (move.with_word t n port word).slots

@@ -5,7 +5,7 @@ use Rattle.std.specs.Option.{option_map_or}
 use Rattle.dbp_plan.specs.declared.plan.Plan.{Plan}
 use Rattle.dbp_plan.specs.Lookups.{declared}
 use Rattle.dbp_slots.specs.TableWords.{Sizes, TableWord, gate, ended, aim, claim, stamp, word}
-use Rattle.dbp_rules.specs.Moves.{ordered}
+use Rattle.dbp_rules.specs.Moves.{claim_order}
 use Rattle.dbp_rules.specs.PartyRules.{Loaded, a_number, a_value, an_order, hears_at, is_stamp_of, loaded_number, loaded_order, next_claim, no_word, is_opened_by, read_order_in, turn_at}
 use Rattle.dbp_rules.specs.Places.{entry_in, read_at, task, wired}
 use Rattle.dbp_rules.specs.Shapes.{link_in}
@@ -100,7 +100,7 @@ heard_of w t _ l = heard.Stored
 -- by the releaser, from its part
 abbrev pub number_of_releaser : Wiring → ReleaserPart → Step → ℕ
 number_of_releaser w r (Aim i slot) = order_value (record { slot = slot; number = (entry_in r i).aimed + 1 })
-number_of_releaser w r (Claim k) = order_value (ordered (next_claim w r k))
+number_of_releaser w r (Claim k) = order_value (claim_order (next_claim w r k))
 number_of_releaser w r (OpenGate i) = (entry_in r i).aimed
 number_of_releaser w r _ = 0
 

@@ -18,12 +18,12 @@ use Rattle.dbp_rules.specs.Places.{no_order, slot_at}
 -- ---- of the releaser
 
 -- it has loaded how many instances have ended
-abbrev pub seen : TaskEntry → ℕ → TaskEntry
-seen t ended = record t { known = ended }
+abbrev pub after_seen : TaskEntry → ℕ → TaskEntry
+after_seen t ended = record t { known = ended }
 
 -- one instance more is aimed, at the slot: the current slot becomes the first kept one, and the last kept one is dropped
-abbrev pub aimed : TaskEntry → ℕ → TaskEntry
-aimed t slot = record { known = t.known; aimed = t.aimed + 1; current = slot; kept = take (length t.kept) (t.current ∷ t.kept) }
+abbrev pub after_aim : TaskEntry → ℕ → TaskEntry
+after_aim t slot = record { known = t.known; aimed = t.aimed + 1; current = slot; kept = take (length t.kept) (t.current ∷ t.kept) }
 
 -- the slot that a claim takes over a link of this delay
 abbrev pub claimed_slot : ℕ → ℕ → List ℕ → ℕ
@@ -31,19 +31,19 @@ claimed_slot zero current kept = current
 claimed_slot (suc d) current kept = slice_index_or kept d 0
 
 -- the reader's last aimed instance is to read the row of the writer's last aimed one, less the delay
-abbrev pub claimed : ℕ → TaskEntry → TaskEntry → LinkEntry
-claimed delay writer reader = record { slot = claimed_slot delay writer.current writer.kept; number = writer.aimed - delay; instance = reader.aimed }
+abbrev pub claim_entry : ℕ → TaskEntry → TaskEntry → LinkEntry
+claim_entry delay writer reader = record { slot = claimed_slot delay writer.current writer.kept; number = writer.aimed - delay; instance = reader.aimed }
 
 -- the word in which the releaser orders it
-abbrev pub ordered : LinkEntry → Order
-ordered c = record { slot = c.slot; number = c.number }
+abbrev pub claim_order : LinkEntry → Order
+claim_order c = record { slot = c.slot; number = c.number }
 
 -- the words of a task that was aimed, and of one whose gate was opened for this instance
-abbrev pub aimed_words : TaskWords → TaskEntry → TaskWords
-aimed_words w t = record w { aim = record { slot = t.current; number = t.aimed } }
+abbrev pub words_after_aim : TaskWords → TaskEntry → TaskWords
+words_after_aim w t = record w { aim = record { slot = t.current; number = t.aimed } }
 
-abbrev pub opened : TaskWords → ℕ → TaskWords
-opened w aimed = record w { gate = aimed }
+abbrev pub words_after_open : TaskWords → ℕ → TaskWords
+words_after_open w aimed = record w { gate = aimed }
 
 -- ---- of a task: where it goes
 
@@ -65,24 +65,24 @@ abbrev pub at_place : TaskPart → Place → TaskPart
 at_place t p = record t { place = p }
 
 -- the gate was open for the next instance, or wasn't
-abbrev pub started : TaskPart → Bool → TaskPart
-started t open_ = if open_ then at_place t (place.Hear 0) else t
+abbrev pub after_start : TaskPart → Bool → TaskPart
+after_start t open_ = if open_ then at_place t (place.Hear 0) else t
 
 -- it has heard the order with this number
-abbrev pub heard : TaskWiring → TaskPart → ℕ → Order → TaskPart
-heard w t n o = record { ended = t.ended; place = hear_place w (n + 1); heard = record { items = t.heard.items ++ o ∷ [] } }
+abbrev pub after_hear : TaskWiring → TaskPart → ℕ → Order → TaskPart
+after_hear w t n o = record { ended = t.ended; place = hear_place w (n + 1); heard = record { items = t.heard.items ++ o ∷ [] } }
 
 -- the slot held what it is to hold, or didn't yet
-abbrev pub looked : TaskPart → ℕ → Bool → TaskPart
-looked t n ready = if ready then at_place t (place.Take n) else t
+abbrev pub after_look : TaskPart → ℕ → Bool → TaskPart
+after_look t n ready = if ready then at_place t (place.Take n) else t
 
 -- it has taken the word of this turn
-abbrev pub took : TaskWiring → TaskPart → ℕ → TaskPart
-took w t n = at_place t (read_place (length w.reads) (n + 1))
+abbrev pub after_take : TaskWiring → TaskPart → ℕ → TaskPart
+after_take w t n = at_place t (read_place (length w.reads) (n + 1))
 
 -- its instance has ended, and what it heard is dropped
-abbrev pub ended : TaskPart → TaskPart
-ended t = record { ended = t.ended + 1; place = place.Idle; heard = record { items = [] } }
+abbrev pub after_end : TaskPart → TaskPart
+after_end t = record { ended = t.ended + 1; place = place.Idle; heard = record { items = [] } }
 
 -- the order that it heard at this place
 abbrev pub heard_order : TaskPart → ℕ → Order
@@ -94,8 +94,8 @@ own_slot t = (heard_order t 0).slot
 
 -- ---- of a task: its words
 
-abbrev pub stamped : TaskWords → ℕ → ℕ → TaskWords
-stamped w n stamp = record w { slots = slice_set w.slots n (record (slot_at w.slots n) { stamp = stamp }) }
+abbrev pub with_stamp : TaskWords → ℕ → ℕ → TaskWords
+with_stamp w n stamp = record w { slots = slice_set w.slots n (record (slot_at w.slots n) { stamp = stamp }) }
 
 abbrev pub with_word : TaskWords → ℕ → ℕ → ℤ → TaskWords
 with_word w n p word = record w { slots = slice_set w.slots n (record (slot_at w.slots n) { words = slice_set (slot_at w.slots n).words p word }) }

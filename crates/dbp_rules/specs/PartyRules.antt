@@ -73,11 +73,11 @@ task_next w t kind subject = is_next broken.TaskPlace (place_kind w t.place) kin
 -- ---- claimed and kept slots
 
 -- the slots that are kept after an aim of the task: what was current, and the kept ones but the last
-abbrev pub staying : TaskEntry → List ℕ
-staying t = take (length t.kept) (t.current ∷ t.kept)
+abbrev pub kept_after_aim : TaskEntry → List ℕ
+kept_after_aim t = take (length t.kept) (t.current ∷ t.kept)
 
 abbrev pub stays_kept : TaskEntry → ℕ → Bool
-stays_kept t slot = list_any (λ k. k == slot) (staying t)
+stays_kept t slot = list_any (λ k. k == slot) (kept_after_aim t)
 
 -- a counted link from the task claims the slot for an instance that isn't known to have ended
 abbrev pub claims_slot_in : Wiring → ReleaserPart → ℕ → ℕ → ℕ → Bool
@@ -172,22 +172,22 @@ one_further r = record r { place = r.place + 1 }
 
 -- what the releaser claims over the link
 abbrev pub next_claim : Wiring → ReleaserPart → ℕ → LinkEntry
-next_claim w r k = move.claimed (link w k).delay (entry_in r (link w k).writer) (entry_in r (link w k).reader)
+next_claim w r k = move.claim_entry (link w k).delay (entry_in r (link w k).writer) (entry_in r (link w k).reader)
 
 abbrev pub releaser_after : Wiring → ReleaserPart → Step → Loaded → ReleaserPart
-releaser_after w r (Seen i) l = with_entry_in r i (move.seen (entry_in r i) (loaded_number l))
-releaser_after w r (Aim i slot) l = one_further (with_entry_in r i (move.aimed (entry_in r i) slot))
+releaser_after w r (Seen i) l = with_entry_in r i (move.after_seen (entry_in r i) (loaded_number l))
+releaser_after w r (Aim i slot) l = one_further (with_entry_in r i (move.after_aim (entry_in r i) slot))
 releaser_after w r (Claim k) l = one_further (with_claim_in r k (next_claim w r k))
 releaser_after w r (OpenGate i) l = one_further r
 releaser_after w r _ l = r
 
 abbrev pub task_after : TaskWiring → TaskPart → Step → Loaded → TaskPart
-task_after w t (Start i) l = move.started t (is_opened_by t (loaded_number l))
-task_after w t (Hear i) l = move.heard w t (hears_at t.place) (loaded_order l)
-task_after w t (Look i r) l = move.looked t (turn_at t.place) (is_stamp_of (read_order_in w t (turn_at t.place)) (loaded_number l))
-task_after w t (Take i r) l = move.took w t (turn_at t.place)
+task_after w t (Start i) l = move.after_start t (is_opened_by t (loaded_number l))
+task_after w t (Hear i) l = move.after_hear w t (hears_at t.place) (loaded_order l)
+task_after w t (Look i r) l = move.after_look t (turn_at t.place) (is_stamp_of (read_order_in w t (turn_at t.place)) (loaded_number l))
+task_after w t (Take i r) l = move.after_take w t (turn_at t.place)
 task_after w t (Shut i) l = move.at_place t (place.Put 0)
 task_after w t (Put i p) l = move.at_place t (move.put_place w.ports (p + 1))
 task_after w t (Done i) l = move.at_place t place.End
-task_after w t (End i) l = move.ended t
+task_after w t (End i) l = move.after_end t
 task_after w t _ l = t

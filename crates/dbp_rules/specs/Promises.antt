@@ -8,9 +8,9 @@ use Rattle.dbp_plan.specs.Lookups.{declared}
 use Rattle.dbp_slots.specs.FreeSlot.{IsLeastFree}
 use Rattle.sync_meaning.specs.Meaning.{IsRead}
 use Rattle.dbp_rules.specs.Moves.{own_slot}
-use Rattle.dbp_rules.specs.PartyRules.{claimed_in, has_claim_in}
-use Rattle.dbp_rules.specs.Places.{entry_in, link, link_entry, slot_at, task, task_entry, wired}
-use Rattle.dbp_rules.specs.Rules.{hears, next, refusal, staying}
+use Rattle.dbp_rules.specs.PartyRules.{claimed_in, has_claim_in, releaser_refusal, kept_after_aim}
+use Rattle.dbp_rules.specs.Places.{entry_in, link, link_entry, slot_at, task, wired}
+use Rattle.dbp_rules.specs.Rules.{hears, next}
 use Rattle.dbp_rules.specs.SoundParts.{last_filled}
 use Rattle.dbp_rules.specs.TenParts.{IsStanding, slot_of_claim}
 use Rattle.dbp_rules.specs.declared.parts.ReleaserPart.{ReleaserPart}
@@ -75,13 +75,16 @@ claimed_of w s i = claimed_in w s.releaser i
 
 -- the claimed slots and those that stay kept are fewer than the task's slots
 abbrev pub HasFreeSlotIn : Wiring → ReleaserPart → ℕ → Type 0
-HasFreeSlotIn w r i = length (claimed_in w r i) + length (staying (entry_in r i)) < (wired w i).slots
+HasFreeSlotIn w r i = length (claimed_in w r i) + length (kept_after_aim (entry_in r i)) < (wired w i).slots
 
 abbrev pub HasFreeSlot : Wiring → State → ℕ → Type 0
 HasFreeSlot w s i = HasFreeSlotIn w s.releaser i
 
 -- the least slot that is in neither may be aimed at, and is the least that may
-pub record IsLeastAim (w : Wiring) (s : State) (i slot : ℕ) : Type 0 where
-  pub free : IsLeastFree (claimed_of w s i) (staying (task_entry s i)) (wired w i).slots slot
-  pub allowed : refusal w s (Aim i slot) ≡ None
-  pub least : (n : ℕ) → refusal w s (Aim i n) ≡ None → slot ≤ n
+pub record IsLeastAimIn (w : Wiring) (r : ReleaserPart) (i slot : ℕ) : Type 0 where
+  pub free : IsLeastFree (claimed_in w r i) (kept_after_aim (entry_in r i)) (wired w i).slots slot
+  pub allowed : releaser_refusal w r (Aim i slot) ≡ None
+  pub least : (n : ℕ) → releaser_refusal w r (Aim i n) ≡ None → slot ≤ n
+
+abbrev pub IsLeastAim : Wiring → State → ℕ → ℕ → Type 0
+IsLeastAim w s i slot = IsLeastAimIn w s.releaser i slot

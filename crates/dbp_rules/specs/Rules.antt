@@ -7,8 +7,8 @@ use Rattle.dbp_plan.specs.Samples.{input_value}
 use Rattle.dbp_plan.specs.Lookups.{declared}
 use Rattle.dbp_rules.specs.Moves as move
 use Rattle.dbp_rules.specs.PartyRules.{Loaded, a_number, a_value, an_order, next_claim, no_word, is_opened_by, is_stamp_of, read_order_in, releaser_after, releaser_next, releaser_refusal, task_after, task_next, task_refusal, with_entry_in, with_claim_in, one_further}
-pub use Rattle.dbp_rules.specs.PartyRules.{claims_slot_in, hears_at, is_next, least, none_of, or_else, place_kind, release_kind, staying, stays_kept, turn_at, unless}
-use Rattle.dbp_rules.specs.Places.{task, task_entry, order, slot_at, wired, link, read_at, time}
+pub use Rattle.dbp_rules.specs.PartyRules.{claims_slot_in, hears_at, is_next, least, none_of, or_else, place_kind, release_kind, kept_after_aim, stays_kept, turn_at, unless}
+use Rattle.dbp_rules.specs.Places.{task, task_entry, order, slot_at, wired, read_at, time}
 use Rattle.dbp_rules.specs.declared.parts.LinkEntry.{LinkEntry}
 use Rattle.dbp_rules.specs.declared.parts.Order.{Order}
 use Rattle.dbp_rules.specs.declared.parts.ReleaserPart.{ReleaserPart}
@@ -43,7 +43,7 @@ abbrev pub further : State → State
 further s = with_releaser s (one_further s.releaser)
 
 abbrev pub with_claim : State → ℕ → LinkEntry → State
-with_claim s k c = record { releaser = with_claim_in s.releaser k c; tasks = s.tasks; orders = slice_set s.orders k (move.ordered c) }
+with_claim s k c = record { releaser = with_claim_in s.releaser k c; tasks = s.tasks; orders = slice_set s.orders k (move.claim_order c) }
 
 -- ---- conditions
 
@@ -165,9 +165,9 @@ next_part w s i e = task_after (wired w i) (task s i).part e (loaded_value w s e
 -- the state after an allowed step
 abbrev pub next : Plan → Wiring → State → Step → State
 next p w s (Seen i) = with_releaser s (next_releaser w s (Seen i))
-next p w s (Aim i slot) = with_task (with_releaser s (next_releaser w s (Aim i slot))) i (record (task s i) { words = move.aimed_words (task s i).words (move.aimed (task_entry s i) slot) })
-next p w s (Claim k) = record { releaser = next_releaser w s (Claim k); tasks = s.tasks; orders = slice_set s.orders k (move.ordered (next_claim w s.releaser k)) }
-next p w s (OpenGate i) = with_task (with_releaser s (next_releaser w s (OpenGate i))) i (record (task s i) { words = move.opened (task s i).words (task_entry s i).aimed })
+next p w s (Aim i slot) = with_task (with_releaser s (next_releaser w s (Aim i slot))) i (record (task s i) { words = move.words_after_aim (task s i).words (move.after_aim (task_entry s i) slot) })
+next p w s (Claim k) = record { releaser = next_releaser w s (Claim k); tasks = s.tasks; orders = slice_set s.orders k (move.claim_order (next_claim w s.releaser k)) }
+next p w s (OpenGate i) = with_task (with_releaser s (next_releaser w s (OpenGate i))) i (record (task s i) { words = move.words_after_open (task s i).words (task_entry s i).aimed })
 next p w s (Start i) = with_part s i (next_part w s i (Start i))
 next p w s (Hear i) = with_part s i (next_part w s i (Hear i))
 next p w s (Look i r) = with_part s i (next_part w s i (Look i r))
@@ -177,7 +177,7 @@ next p w s (Take i r) = with_task s i (record {
   work = move.with_read (declared p i) (task s i).work r (read_word w s i (turn_at (task s i).part.place));
 })
 next p w s (Shut i) = with_task s i (record {
-  words = move.stamped (task s i).words (move.own_slot (task s i).part) 0;
+  words = move.with_stamp (task s i).words (move.own_slot (task s i).part) 0;
   part = next_part w s i (Shut i);
   work = move.worked (declared p i) (sensed p w s i) (task s i).work;
 })
@@ -187,7 +187,7 @@ next p w s (Put i port) = with_task s i (record {
   work = (task s i).work;
 })
 next p w s (Done i) = with_task s i (record {
-  words = move.stamped (task s i).words (move.own_slot (task s i).part) ((task s i).part.ended + 2);
+  words = move.with_stamp (task s i).words (move.own_slot (task s i).part) ((task s i).part.ended + 2);
   part = next_part w s i (Done i);
   work = (task s i).work;
 })

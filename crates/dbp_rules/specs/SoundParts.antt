@@ -6,7 +6,7 @@ use Rattle.dbp_plan.specs.Occurrences.{time_of}
 use Rattle.dbp_plan.specs.Lookups.{declared, no_read}
 use Rattle.release_list.specs.Schedule.{claims, seen_by}
 use Rattle.sync_meaning.specs.SomeMeaningRows.{states_at, word_at}
-use Rattle.dbp_rules.specs.Moves.{heard_order, ordered}
+use Rattle.dbp_rules.specs.Moves.{heard_order, claim_order}
 use Rattle.dbp_rules.specs.Places.{is_counted, link, read_at, slot_at, wired}
 use Rattle.dbp_rules.specs.Shapes.{link_in}
 use Rattle.dbp_rules.specs.declared.parts.LinkEntry.{LinkEntry}
@@ -89,7 +89,7 @@ meant p rows i n r = word_at p.diagram p.samples p.batches rows (time_of p.batch
 pub record ClaimSound (p : Plan) (w : Wiring) (place k : ℕ) (c : LinkEntry) (o : Order) : Type 0 where
   pub instance : c.instance ≡ claims w.releases place k
   pub number : c.number ≡ seen_by w.links p.batches k c.instance - (link w k).delay
-  pub order : o ≡ ordered c
+  pub order : o ≡ claim_order c
 
 -- a task, with what the releaser knows of it; where row n of task i is `rows i n`
 pub record TaskSound (p : Plan) (w : Wiring) (rows : ℕ → ℕ → List ℤ) (i : ℕ) (e : TaskEntry) (t : TaskState) : Type 0 where
@@ -132,6 +132,6 @@ pub record LinkSound (p : Plan) (w : Wiring) (k : ℕ) (c : LinkEntry) (v : Task
   -- as long as the writer hasn't shut the slot: the reader was then released before the writer's last aimed instance
   pub current : Stands w k c e reader → c.slot ≡ v.current → (c.number ≡ v.aimed) ⊎ ((is_counted w k ≡ false) × (last_shut writer < v.aimed) × (seen_by w.links p.batches k c.instance < v.aimed))
   -- what the reader has heard over the link is the claim
-  pub heard : (j : ℕ) → j + 1 < length reader.part.heard.items → link_in (wired w (link w k).reader) j ≡ k → heard_order reader.part (j + 1) ≡ ordered c
+  pub heard : (j : ℕ) → j + 1 < length reader.part.heard.items → link_in (wired w (link w k).reader) j ≡ k → heard_order reader.part (j + 1) ≡ claim_order c
   -- where the reader is to take a word over the link, the claimed row is there
   pub ready : (n : ℕ) → reader.part.place ≡ Take n → (read_of p w (link w k).reader n).link ≡ k → (slot_at writer.words.slots c.slot).stamp ≡ c.number + 1

@@ -7,7 +7,7 @@ use Rattle.dbp_plan.specs.Occurrences.{time_of}
 use Rattle.dbp_plan.specs.Lookups.{declared}
 use Rattle.release_list.specs.Schedule.{aims, claims, opens, seen_by}
 use Rattle.sync_meaning.specs.SomeMeaningRows.{states_at}
-use Rattle.dbp_rules.specs.Moves.{heard_order, ordered}
+use Rattle.dbp_rules.specs.Moves.{heard_order, claim_order}
 use Rattle.dbp_rules.specs.Places.{is_counted, link, link_entry, order, slot_at, task, task_entry, wired}
 use Rattle.dbp_rules.specs.Rules.{order_word}
 use Rattle.dbp_rules.specs.Shapes.{PlaceIn, SlotsFit, heard_by, running}
@@ -74,7 +74,7 @@ pub record NumbersOfThePlace (p : Plan) (w : Wiring) (s : State) : Type 0 where
   pub claimed : (k : ℕ) → k < length w.links → (link_entry s k).instance ≡ claims w.releases s.releaser.place k
   pub number : (k : ℕ) → k < length w.links → (link_entry s k).number ≡ seen_by w.links p.batches k (link_entry s k).instance - (link w k).delay
   pub aim : (i : ℕ) → i < length w.tasks → (task s i).words.aim ≡ record { slot = (task_entry s i).current; number = (task_entry s i).aimed }
-  pub order : (k : ℕ) → k < length w.links → order s k ≡ ordered (link_entry s k)
+  pub order : (k : ℕ) → k < length w.links → order s k ≡ claim_order (link_entry s k)
 
 -- 3. A task's numbers are a chain: known to have ended, ended, opened, aimed, and at most one more aimed than is known to
 -- have ended. A running instance is the opened one, and has heard the order words as they are now.

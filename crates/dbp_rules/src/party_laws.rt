@@ -1,13 +1,17 @@
 // What the releaser's part and a task's part say of a step without the rest of the state, and what each keeps by itself.
 
-ghost use Rattle.std.specs.Prelude.{◌≡◌, ◌<◌, ℕ, ℤ, List as Items, Some, None, length};
+ghost use Rattle.std.specs.Prelude.{◌≡◌, ◌<◌, ℕ, ℤ, List as Items, Some, None, length, slice_get};
 ghost use Rattle.dbp_plan.specs.declared.plan.Plan.{Plan};
-ghost use Rattle.dbp_rules.specs.PartyRules.{Loaded, releaser_after, releaser_refusal, task_after, task_refusal};
+ghost use Rattle.dbp_slots.specs.FreeSlot.{IsLeastFree};
+ghost use Rattle.release_list.specs.declared.release.Release.TheVariants.{Aim as AimOf};
+ghost use Rattle.dbp_rules.specs.PartyRules.{Loaded, claimed_in, releaser_after, releaser_refusal, kept_after_aim, task_after, task_refusal};
 ghost use Rattle.dbp_rules.specs.PartyShapes.{IsNamedIn, ReleaserLoads, ReleaserShape, TaskLoads, TaskPartShape};
-ghost use Rattle.dbp_rules.specs.Places.{task, wired};
+ghost use Rattle.dbp_rules.specs.Places.{entry_in, task, wired};
+ghost use Rattle.dbp_rules.specs.Promises.{HasFreeSlotIn, IsLeastAimIn};
 ghost use Rattle.dbp_rules.specs.Rules.{IsNamed, loaded_value, next, refusal};
 ghost use Rattle.dbp_rules.specs.SharedWords.{made_by};
 ghost use Rattle.dbp_rules.specs.Sound.{Sound};
+ghost use Rattle.dbp_rules.specs.Start.{start_of};
 ghost use Rattle.dbp_rules.specs.Wired.{wiring_of};
 ghost use Rattle.dbp_rules.specs.declared.parts.ReleaserPart.{ReleaserPart};
 ghost use Rattle.dbp_rules.specs.declared.parts.TaskPart.{TaskPart};
@@ -39,6 +43,12 @@ pub fn a_party_keeps_its_part()
         → task_refusal (wired (wiring_of p count) i) t e ≡ None → TaskLoads (wiring_of p count) i t e l → TaskPartShape (wiring_of p count) i (task_after (wired (wiring_of p count) i) t e l) }
 {}
 
+/// Before the first step each part keeps this.
+pub fn the_first_parts_are_in_shape()
+    ensures releaser { (p : Plan) (count : Count) → ReleaserShape p (wiring_of p count) (start_of p (wiring_of p count)).releaser }
+    ensures task { (p : Plan) (count : Count) (i : ℕ) → i < length p.diagram.tasks → TaskPartShape (wiring_of p count) i (task (start_of p (wiring_of p count)) i).part }
+{}
+
 /// In a sound state each part keeps this, and an allowed step loads what its party may find.
 pub fn sound_parts_are_in_shape()
     ensures releaser { (p : Plan) (count : Count) (rows : ℕ → ℕ → Items ℤ) (s : State) → Sound p (wiring_of p count) rows s → ReleaserShape p (wiring_of p count) s.releaser }
@@ -46,4 +56,15 @@ pub fn sound_parts_are_in_shape()
     ensures releaser_loads { (p : Plan) (count : Count) (rows : ℕ → ℕ → Items ℤ) (s : State) (e : Step) → Sound p (wiring_of p count) rows s → IsNamed p.diagram e → ReleaserLoads s.releaser e (loaded_value (wiring_of p count) s e) }
     ensures task_loads { (p : Plan) (count : Count) (rows : ℕ → ℕ → Items ℤ) (s : State) (e : Step) (i : ℕ) → Sound p (wiring_of p count) rows s → i < length p.diagram.tasks → made_by e ≡ Some i
         → refusal (wiring_of p count) s e ≡ None → TaskLoads (wiring_of p count) i (task s i).part e (loaded_value (wiring_of p count) s e) }
+{}
+
+/// A least slot for each aim, from the releaser's part alone: the claimed slots and those that stay kept are fewer than a
+/// task's slots, so where a task's aim comes next, and its last instance is known to have ended, the least slot that is in
+/// neither may be aimed at.
+pub fn a_releaser_has_a_free_slot()
+    ensures few { (p : Plan) (count : Count) (r : ReleaserPart) (i : ℕ) → i < length p.diagram.tasks → length (entry_in r i).kept ≡ (wired (wiring_of p count) i).kept → HasFreeSlotIn (wiring_of p count) r i }
+    ensures least { (p : Plan) (count : Count) (r : ReleaserPart) (i : ℕ) → length (entry_in r i).kept ≡ (wired (wiring_of p count) i).kept
+        → slice_get (wiring_of p count).releases r.place ≡ Some (AimOf i) → (entry_in r i).aimed ≡ (entry_in r i).known → (slot : ℕ) × IsLeastAimIn (wiring_of p count) r i slot }
+    ensures exact { (p : Plan) (count : Count) (r : ReleaserPart) (i slot : ℕ) → slice_get (wiring_of p count).releases r.place ≡ Some (AimOf i) → (entry_in r i).aimed ≡ (entry_in r i).known
+        → IsLeastFree (claimed_in (wiring_of p count) r i) (kept_after_aim (entry_in r i)) (wired (wiring_of p count) i).slots slot → IsLeastAimIn (wiring_of p count) r i slot }
 {}

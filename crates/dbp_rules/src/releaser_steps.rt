@@ -119,7 +119,7 @@ fn keep(kept: &mut List<u32>, slot: u32)
 
 fn aim_entry(entry: &mut TaskEntry, slot: u32)
     requires { entry.old.aimed + 1 < 2 ^ 32 }
-    ensures { entry.new ≡ move.aimed entry.old slot }
+    ensures { entry.new ≡ move.after_aim entry.old slot }
 {
     entry.aimed += 1;
     keep(&mut entry.kept, entry.current);
@@ -186,7 +186,7 @@ impl ReleaserPart {
     /// It has loaded how many instances of the task have ended.
     pub fn see(&mut self, task: u32, ended: u32)
         requires { task < length self.old.tasks }
-        ensures { self.new ≡ rule.with_entry_in self.old task (move.seen (entry_in self.old task) ended) }
+        ensures { self.new ≡ rule.with_entry_in self.old task (move.after_seen (entry_in self.old task) ended) }
     {
         self.tasks.items_mut()[task as usize].known = ended;
     }
@@ -197,7 +197,7 @@ impl ReleaserPart {
         requires aimed { (entry_in self.old task).aimed + 1 < 2 ^ 32 }
         requires place { self.old.place + 1 < 2 ^ 32 }
         ensures order { result ≡ record { slot = slot; number = (entry_in self.old task).aimed + 1 } }
-        ensures next { self.new ≡ rule.one_further (rule.with_entry_in self.old task (move.aimed (entry_in self.old task) slot)) }
+        ensures next { self.new ≡ rule.one_further (rule.with_entry_in self.old task (move.after_aim (entry_in self.old task) slot)) }
     {
         let entry = &mut self.tasks.items_mut()[task as usize];
         aim_entry(entry, slot);
@@ -214,7 +214,7 @@ impl ReleaserPart {
         requires reader { (link_of wiring.now link).reader < length self.old.tasks }
         requires kept { (link_of wiring.now link).delay < length (entry_in self.old (link_of wiring.now link).writer).kept + 1 }
         requires place { self.old.place + 1 < 2 ^ 32 }
-        ensures order { result ≡ move.ordered (rule.next_claim wiring.now self.old link) }
+        ensures order { result ≡ move.claim_order (rule.next_claim wiring.now self.old link) }
         ensures next { self.new ≡ rule.one_further (rule.with_claim_in self.old link (rule.next_claim wiring.now self.old link)) }
     {
         let Link { writer, reader, delay } = wiring.links.items()[link as usize];

@@ -11,7 +11,7 @@ ghost use Rattle.sync_meaning.specs.Meaning.{IsMeaning};
 ghost use Rattle.sync_meaning.specs.SomeMeaningTables.{rows_in};
 ghost use Rattle.dbp_rules.specs.Places.{link, task_entry, wired};
 ghost use Rattle.dbp_rules.specs.Promises.{HasFreeSlot, IsClaimFilled, IsLeastAim, IsUnclaimed, SparesClaims, TakesTheMeaning, claimed_of};
-ghost use Rattle.dbp_rules.specs.Rules.{IsNamed, hears, next, refusal, staying};
+ghost use Rattle.dbp_rules.specs.Rules.{IsNamed, hears, next, refusal, kept_after_aim};
 ghost use Rattle.dbp_rules.specs.SharedWords.{KeepsOtherParts, KeepsOtherWords, made_by, stored_by};
 ghost use Rattle.dbp_rules.specs.Sound.{Sound};
 ghost use Rattle.dbp_rules.specs.Start.{start_of};
@@ -68,7 +68,7 @@ pub fn a_slot_is_free_for_each_aim()
     ensures least { (p : Plan) (count : Count) (rows : ℕ → ℕ → Items ℤ) (s : State) (i : ℕ) → Sound p (wiring_of p count) rows s
         → slice_get (wiring_of p count).releases s.releaser.place ≡ Some (AimOf i) → (task_entry s i).aimed ≡ (task_entry s i).known → (slot : ℕ) × IsLeastAim (wiring_of p count) s i slot }
     ensures exact { (p : Plan) (count : Count) (s : State) (i slot : ℕ) → slice_get (wiring_of p count).releases s.releaser.place ≡ Some (AimOf i) → (task_entry s i).aimed ≡ (task_entry s i).known
-        → IsLeastFree (claimed_of (wiring_of p count) s i) (staying (task_entry s i)) (wired (wiring_of p count) i).slots slot → IsLeastAim (wiring_of p count) s i slot }
+        → IsLeastFree (claimed_of (wiring_of p count) s i) (kept_after_aim (task_entry s i)) (wired (wiring_of p count) i).slots slot → IsLeastAim (wiring_of p count) s i slot }
 {}
 
 /// An allowed take hears the word that the meaning gives the read in the running instance.

@@ -107,7 +107,7 @@ impl TaskPart {
     pub fn start(&mut self, gate: u32) -> bool
         requires { self.old.ended + 1 < 2 ^ 32 }
         ensures open { result ≡ rule.is_opened_by self.old gate }
-        ensures next { self.new ≡ move.started self.old (rule.is_opened_by self.old gate) }
+        ensures next { self.new ≡ move.after_start self.old (rule.is_opened_by self.old gate) }
     {
         let is_open = self.is_opened_by(gate);
         if is_open {
@@ -121,7 +121,7 @@ impl TaskPart {
         requires room { length self.old.heard.items < MAX_ORDERS }
         requires links { 1 + length wiring.now.links < 2 ^ 32 }
         requires number { rule.hears_at self.old.place + 1 < 2 ^ 32 }
-        ensures { self.new ≡ move.heard wiring.now self.old (rule.hears_at self.old.place) order }
+        ensures { self.new ≡ move.after_hear wiring.now self.old (rule.hears_at self.old.place) order }
     {
         let place = hear_place(wiring, self.place.hear() + 1);
         self.heard.push(order);
@@ -135,7 +135,7 @@ impl TaskPart {
         requires heard { (read_at wiring.now (rule.turn_at self.old.place)).order < length self.old.heard.items }
         requires number { (rule.read_order_in wiring.now self.old (rule.turn_at self.old.place)).number + 1 < 2 ^ 32 }
         ensures ready { result ≡ rule.is_stamp_of (rule.read_order_in wiring.now self.old (rule.turn_at self.old.place)) stamp }
-        ensures next { self.new ≡ move.looked self.old (rule.turn_at self.old.place) (rule.is_stamp_of (rule.read_order_in wiring.now self.old (rule.turn_at self.old.place)) stamp) }
+        ensures next { self.new ≡ move.after_look self.old (rule.turn_at self.old.place) (rule.is_stamp_of (rule.read_order_in wiring.now self.old (rule.turn_at self.old.place)) stamp) }
     {
         let is_ready = stamp == self.read_order(wiring).number + 1;
         if is_ready {
@@ -147,7 +147,7 @@ impl TaskPart {
     /// It has taken the word of the read whose turn it is.
     pub fn take(&mut self, wiring: &TaskWiring)
         requires { rule.turn_at self.old.place + 1 < 2 ^ 32 }
-        ensures { self.new ≡ move.took wiring.now self.old (rule.turn_at self.old.place) }
+        ensures { self.new ≡ move.after_take wiring.now self.old (rule.turn_at self.old.place) }
     {
         self.place = read_place(wiring.reads.len(), self.place.turn() + 1);
     }
@@ -177,7 +177,7 @@ impl TaskPart {
     /// Its instance has ended, and what it heard is dropped.
     pub fn end(&mut self)
         requires { self.old.ended + 1 < 2 ^ 32 }
-        ensures { self.new ≡ move.ended self.old }
+        ensures { self.new ≡ move.after_end self.old }
     {
         self.ended += 1;
         self.place = Place::Idle;

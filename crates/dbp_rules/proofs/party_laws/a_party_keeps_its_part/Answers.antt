@@ -1,7 +1,6 @@
-use Rattle.std.proofs.Common.{◌≡◌, ◌<◌, ℕ, length, arith, ap, subst, sym}
+use Rattle.std.proofs.Common.{◌<◌, ℕ, length, arith, subst, sym}
 use Rattle.dbp_rules.specs.Rules.{IsNamedWithin}
-use Rattle.dbp_rules.specs.Shapes.{IsTaskWired, IsWired}
-use Rattle.dbp_rules.specs.Places.{wired}
+use Rattle.dbp_rules.specs.Shapes.{IsWired}
 use Rattle.dbp_rules.specs.Wired.{wiring_of}
 use Rattle.dbp_rules.proofs.PartKept.{releaser_part_kept, task_part_kept}
 use Rattle.dbp_rules.proofs.Wirings.{wiring-whole}
