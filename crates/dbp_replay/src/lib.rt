@@ -14,5 +14,5 @@ mod script;
 pub use fail::{ReplayFail, ScriptCode, ScriptFail};
 pub use laws::{allowed_steps_are_printable, one_replay, one_script, printed_script_again};
 pub use printed::print_script;
-pub use replaying::replay;
+pub use replaying::{replay, replay_owned};
 pub use script::read_script;

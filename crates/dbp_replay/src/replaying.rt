@@ -12,8 +12,7 @@ use dbp_core::{Core, Count, Heard, Step};
 use dbp_plan::{Diagram, List, NoMemory, Plan};
 use std::alloc::Global;
 
-/// The text of the steps, taken in order from the start of the plan on, each with what it hears. Refused is the first
-/// step that isn't allowed behind those before it. Each step names only what the diagram has.
+/// As `replay_owned`, on a copy of the plan.
 pub fn replay(
     alloc: Global,
     plan: &Plan,
@@ -26,7 +25,24 @@ pub fn replay(
     // The first step that the core refuses, unless memory ran out.
     ensures illegal { IfErr result (λ fail. IsReplayRefusal plan.now count steps.now fail) }
 {
-    let mut core = Core::new(alloc, plan.copy()?, count)?;
+    replay_owned(alloc, plan.copy()?, count, steps)
+}
+
+/// The text of the steps, taken in order from the start of the plan on, each with what it hears. Refused is the first
+/// step that isn't allowed after those before it. Each step names only what the diagram has.
+pub fn replay_owned(
+    alloc: Global,
+    plan: Plan,
+    count: Count,
+    steps: &List<Step>,
+) -> Result<Vec<u8>, ReplayFail>
+    requires { All (IsThere plan.diagram) steps.now }
+    // Each step is allowed, and the text says what the core's steps hear.
+    ensures text { IfOk result (λ text. IsReplay plan count steps.now text.items) }
+    // The first step that the core refuses, unless memory ran out.
+    ensures illegal { IfErr result (λ fail. IsReplayRefusal plan count steps.now fail) }
+{
+    let mut core = Core::new(alloc, plan, count)?;
     let mut text = Vec::new(alloc);
     push_lines(&mut text, &mut core, steps.items())?;
     Ok(text)

@@ -14,7 +14,7 @@ use crate::slot_lines::slot_lines;
 use crate::stop::Stop;
 use dbp_core::Count;
 use dbp_plan::NoMemory;
-use dbp_replay::{read_script, replay};
+use dbp_replay::{read_script, replay_owned};
 use dia_read::{print_doc, read_doc};
 use std::alloc::Global;
 use sync_meaning::mean;
@@ -89,7 +89,7 @@ fn replay_of(alloc: Global, ranked: bool, input: &[u8]) -> Result<Vec<u8>, Stop>
 {
     let (doc, plan) = accepted(alloc, input)?;
     let steps = read_script(alloc, &plan.diagram, &doc)?;
-    let text = replay(alloc, &plan, count_of(ranked), &steps)?;
+    let text = replay_owned(alloc, plan, count_of(ranked), &steps)?;
     Ok(text)
 }
 

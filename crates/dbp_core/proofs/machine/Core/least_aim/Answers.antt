@@ -11,4 +11,4 @@ least_free-requires-clause-room c =
     ∥∥₁_elim c.args.self.now.sound (hlevel props) (λ sound. has_room c.args.self.now.plan c.args.self.now.wiring c.args.self.now.state c.args.task c.args.self.now.wired sound named)
 
 pub returns : goal.returns
-returns c = exact_aim c.args.self.now.wiring c.args.self.now.state c.args.task c.least_free.result c.requires.next c.requires.ended c.least_free.ensures
+returns c = exact_aim c.args.self.now.wiring c.args.self.now.state.releaser c.args.task c.least_free.result c.requires.next c.requires.ended c.least_free.ensures
