@@ -153,12 +153,12 @@ module _ (p : Plan) (w : Wiring) (whole : IsWired p w) (r : ReleaserPart) (ok : 
         known = after_set (λ j u. j < length w.tasks → u.known ≤ u.aimed) r.tasks i u no_task_entry inside (λ fits. omega (arith, ok.known i fits)) (λ j other fits. ok.known j fits);
         ahead = after_set (λ j u. j < length w.tasks → u.aimed ≤ u.known + 1) r.tasks i u no_task_entry inside (λ fits. omega (arith, a.known)) (λ j other fits. ok.ahead j fits);
         each_entry = after_set (λ j u. j < length w.tasks → EntryShape (wired w j) u) r.tasks i u no_task_entry inside
-        (λ fits. record {
-          current = a.below;
-          kept = length-take-le (length (entry_in r i).kept) ((entry_in r i).current ∷ (entry_in r i).kept) (omega arith) ∙ e.kept;
-          kept_slots = λ j few. kept_on (wired w i).slots (wired w i).kept (entry_in r i).current j (entry_in r i).kept e.kept e.current e.kept_slots few;
-        })
-        (λ j other fits. ok.each_entry j fits);
+            (λ fits. record {
+              current = a.below;
+              kept = length-take-le (length (entry_in r i).kept) ((entry_in r i).current ∷ (entry_in r i).kept) (omega arith) ∙ e.kept;
+              kept_slots = λ j few. kept_on (wired w i).slots (wired w i).kept (entry_in r i).current j (entry_in r i).kept e.kept e.current e.kept_slots few;
+            })
+            (λ j other fits. ok.each_entry j fits);
         claimed = λ k fits. ok.claimed k fits ∙ sym (aim_claims w.releases r.place i k here);
         number = ok.number;
         slot = ok.slot;
@@ -183,11 +183,11 @@ module _ (p : Plan) (w : Wiring) (whole : IsWired p w) (r : ReleaserPart) (ok : 
         ahead = ok.ahead;
         each_entry = ok.each_entry;
         claimed = after_set (λ j u. j < length w.links → u.instance ≡ claims w.releases (r.place + 1) j) r.links k c no_link_entry inside
-        (λ fits. ok.aimed (link w k).reader reader ∙ sym at.claimed ∙ sym (claims_same w.releases r.place k here)) (λ j other fits. ok.claimed j fits ∙ sym (claims_other w.releases r.place k j here other));
+            (λ fits. ok.aimed (link w k).reader reader ∙ sym at.claimed ∙ sym (claims_same w.releases r.place k here)) (λ j other fits. ok.claimed j fits ∙ sym (claims_other w.releases r.place k j here other));
         number = after_set (λ j u. j < length w.links → u.number ≡ seen_by w.links p.batches j u.instance - (link w j).delay) r.links k c no_link_entry inside
-        (λ fits. ap (λ (n : ℕ). n - (link w k).delay) seen) (λ j other fits. ok.number j fits);
+            (λ fits. ap (λ (n : ℕ). n - (link w k).delay) seen) (λ j other fits. ok.number j fits);
         slot = after_set (λ j u. j < length w.links → u.slot < (wired w (link w j).writer).slots) r.links k c no_link_entry inside
-        (λ fits. claimed_fits (wired w (link w k).writer).slots (wired w (link w k).writer).kept (link w k).delay (entry_in r (link w k).writer) from.current from.kept_slots (whole.delay k below)) (λ j other fits. ok.slot j fits);
+            (λ fits. claimed_fits (wired w (link w k).writer).slots (wired w (link w k).writer).kept (link w k).delay (entry_in r (link w k).writer) from.current from.kept_slots (whole.delay k below)) (λ j other fits. ok.slot j fits);
       }
 
   opened_part : (i : ℕ) → slice_get w.releases r.place ≡ Some (release.OpenGate i) → ReleaserShape p w (rule.one_further r)

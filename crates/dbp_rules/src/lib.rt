@@ -27,8 +27,8 @@ pub use laws::{
 };
 pub use parts::{LinkEntry, MAX_ORDERS, Order, Place, ReleaserPart, TaskEntry, TaskPart};
 pub use party_laws::{
-    a_party_keeps_its_part, a_releaser_has_a_free_slot, a_step_is_refused_by_its_party, a_step_moves_its_party,
-    sound_parts_are_in_shape, the_first_parts_are_in_shape,
+    a_party_keeps_its_part, a_releaser_has_a_free_slot, a_step_is_refused_by_its_party,
+    a_step_moves_its_party, sound_parts_are_in_shape, the_first_parts_are_in_shape,
 };
 pub use soundness::{
     a_slot_is_free_for_each_aim, a_sound_delayed_look_is_ready,

@@ -217,7 +217,11 @@ impl ReleaserPart {
         ensures order { result ≡ move.claim_order (rule.next_claim wiring.now self.old link) }
         ensures next { self.new ≡ rule.one_further (rule.with_claim_in self.old link (rule.next_claim wiring.now self.old link)) }
     {
-        let Link { writer, reader, delay } = wiring.links.items()[link as usize];
+        let Link {
+            writer,
+            reader,
+            delay,
+        } = wiring.links.items()[link as usize];
         let from = self.entry(writer);
         let claim = LinkEntry {
             slot: claimed_slot(from, delay),
