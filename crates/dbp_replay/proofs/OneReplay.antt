@@ -1,14 +1,13 @@
 -- Steps are replayed with one text at most, and none where one of them is refused.
 use Rattle.std.proofs.Common.{◌≡◌, ℕ, zero, suc, ◌<◌, ◌≤◌, List, [], ◌∷◌, take, slice_get, Some, None, refl, sym, ap, ◌∙◌, subst, arith, inl, inr}
 use Rattle.std.proofs.lemmas.Bool.{cases_order}
-use Rattle.std.proofs.lemmas.Option.{same_Some, slice_get_within}
+use Rattle.std.proofs.lemmas.Option.{same_Some}
 use Rattle.dbp_rules.specs.declared.step.Count.{Count}
 use Rattle.dbp_rules.specs.declared.step.Illegal.{Illegal}
 use Rattle.dbp_rules.specs.declared.step.Step.{Step}
 use Rattle.dbp_rules.specs.declared.state.State.{State}
-use Rattle.dbp_rules.specs.declared.wiring.Wiring.{Wiring}
 use Rattle.dbp_rules.specs.Lawful.{Leads}
-use Rattle.dbp_rules.specs.Rules.{next, refusal}
+use Rattle.dbp_rules.specs.Rules.{refusal}
 use Rattle.dbp_rules.specs.Wired.{wiring_of}
 use Rattle.dbp_rules.proofs.LeadsLaws.{IsAllowedAfter, leads_at, leads_once}
 use Rattle.dbp_plan.specs.declared.plan.Plan.{Plan}
