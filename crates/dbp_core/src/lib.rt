@@ -13,8 +13,8 @@ mod steps;
 
 pub use dbp_rules::{
     Broken, Count, Heard, Illegal, LinkEntry, MAX_ORDERS, Order, Place, ReadWiring, ReleaserPart,
-    Slot, State, Step, StepKind, TaskEntry, TaskPart, TaskState, TaskWiring, TaskWords, Wiring, Work,
-    a_delayed_look_is_ready, a_ranked_look_is_ready, a_slot_is_free_for_each_aim,
+    Slot, State, Step, StepKind, TaskEntry, TaskPart, TaskState, TaskWiring, TaskWords, Wiring,
+    Work, a_delayed_look_is_ready, a_ranked_look_is_ready, a_slot_is_free_for_each_aim,
     a_sound_delayed_look_is_ready, a_sound_look_for_a_filled_row_is_ready,
     a_sound_ranked_look_is_ready, a_sound_take_hears_the_meaning, a_step_changes_no_claimed_row,
     a_step_keeps_a_state_sound, a_step_spares_claimed_rows, a_step_stores_one_word,
