@@ -7,6 +7,8 @@ mod checking;
 #[cfg(test)]
 mod inputs;
 #[cfg(test)]
+mod parties;
+#[cfg(test)]
 mod plans;
 #[cfg(test)]
 mod program;
