@@ -154,6 +154,39 @@ static DELAYED: &[(Step, Heard)] = &[
     (Step::Seen { task: 2 }, Heard::Ended(1)),
 ];
 
+// The first instances of h and a are served, and the second of h is released; a is to be aimed again. Its slot 1 is the
+// current one and claimed by b. Its slot 0 is kept so far, and claimed by h.
+static SECOND: &[(Step, Heard)] = &[
+    (Step::Aim { task: 0, slot: 1 }, Heard::Stored),
+    (Step::Aim { task: 1, slot: 0 }, Heard::Stored),
+    (Step::Aim { task: 2, slot: 0 }, Heard::Stored),
+    (Step::Claim { link: 0 }, Heard::Stored),
+    (Step::Claim { link: 1 }, Heard::Stored),
+    (Step::OpenGate { task: 0 }, Heard::Stored),
+    (Step::OpenGate { task: 1 }, Heard::Stored),
+    (Step::OpenGate { task: 2 }, Heard::Stored),
+    (Step::Start { task: 2 }, Heard::Started),
+    (Step::Hear { task: 2 }, Heard::Order { slot: 0, number: 1 }),
+    (Step::Hear { task: 2 }, Heard::Order { slot: 0, number: 0 }),
+    (Step::Look { task: 2, read: 0 }, Heard::Ready),
+    (Step::Take { task: 2, read: 0 }, Heard::Word(0)),
+    (Step::Shut { task: 2 }, Heard::Stored),
+    (Step::Put { task: 2, port: 0 }, Heard::Stored),
+    (Step::Done { task: 2 }, Heard::Stored),
+    (Step::End { task: 2 }, Heard::Stored),
+    (Step::Start { task: 0 }, Heard::Started),
+    (Step::Hear { task: 0 }, Heard::Order { slot: 1, number: 1 }),
+    (Step::Shut { task: 0 }, Heard::Stored),
+    (Step::Put { task: 0, port: 0 }, Heard::Stored),
+    (Step::Done { task: 0 }, Heard::Stored),
+    (Step::End { task: 0 }, Heard::Stored),
+    (Step::Seen { task: 0 }, Heard::Ended(1)),
+    (Step::Seen { task: 2 }, Heard::Ended(1)),
+    (Step::Aim { task: 2, slot: 0 }, Heard::Stored),
+    (Step::Claim { link: 1 }, Heard::Stored),
+    (Step::OpenGate { task: 2 }, Heard::Stored),
+];
+
 // Two tasks of one deadline, of which the second reads the first.
 const ONE_DEADLINE: &str = "dbp 1
 policy edf
@@ -403,5 +436,61 @@ fn steps_are_refused_with_their_values(rt: HostRuntime) -> Result<(), Fail> {
     for refusal in &REFUSED {
         refuse(&rt, rt.alloc(), refusal)?;
     }
+    Ok(())
+}
+
+// The least slot that the task may be aimed at after the steps. If its aim comes next, one at a slot that no task has is
+// refused for that slot, and changes nothing.
+fn least_aim_after(
+    rt: &impl Abort,
+    mut core: Core,
+    steps: &[(Step, Heard)],
+    task: u32,
+) -> Result<u32, Fail> {
+    make(rt, &mut core, steps)?;
+    if task >= core.plan().diagram.tasks.len() {
+        return Err(Fail::from("no task"));
+    }
+    let far = Step::Aim {
+        task,
+        slot: u32::MAX,
+    };
+    match core.step(far) {
+        Err(Illegal {
+            broken: Broken::SlotRange,
+            ..
+        }) => Ok(core.least_aim(task)),
+        _ => Err(Fail::from("no aim comes next")),
+    }
+}
+
+#[test]
+fn the_least_aim_is_neither_claimed_nor_kept(rt: HostRuntime) -> Result<(), Fail> {
+    let alloc = rt.alloc();
+    // b claims slot 0, and a keeps none
+    let Some((_, waiting)) = WAITING.split_last() else {
+        return Err(Fail::from("no steps"));
+    };
+    let claimed = core_of(alloc, TWO_RATES, Count::All)?;
+    assert_eq!(rt; least_aim_after(&rt, claimed, waiting, 0)?, 1);
+    // slot 0 stays kept, and none is claimed
+    let kept = core_of(alloc, THREE_RATES, Count::All)?;
+    assert_eq!(rt; least_aim_after(&rt, kept, &[], 0)?, 1);
+    // slot 1 stays kept; the claim of h on slot 0 counts in a run alone
+    let both = core_of(alloc, THREE_RATES, Count::All)?;
+    assert_eq!(rt; least_aim_after(&rt, both, SECOND, 0)?, 2);
+    let ranked = core_of(alloc, THREE_RATES, Count::Ranked)?;
+    assert_eq!(rt; least_aim_after(&rt, ranked, SECOND, 0)?, 0);
+    Ok(())
+}
+
+#[test]
+fn a_core_lends_its_wiring(rt: HostRuntime) -> Result<(), Fail> {
+    let core = core_of(rt.alloc(), THREE_RATES, Count::All)?;
+    let [a, b, h] = core.wiring().tasks.items() else {
+        return Err(Fail::from("not three tasks"));
+    };
+    assert_eq!(rt; (a.slots, b.slots, h.slots), (4, 1, 1));
+    assert_eq!(rt; (a.rank, b.rank, h.rank), (1, 2, 0));
     Ok(())
 }
