@@ -456,10 +456,12 @@ fn least_aim_after(
         slot: u32::MAX,
     };
     match core.step(far) {
-        Err(Illegal {
-            broken: Broken::SlotRange,
-            ..
-        }) => Ok(core.least_aim(task)),
+        Err(
+            Illegal {
+                broken: Broken::SlotRange,
+                ..
+            },
+        ) => Ok(core.least_aim(task)),
         _ => Err(Fail::from("no aim comes next")),
     }
 }
