@@ -1,5 +1,5 @@
 -- The slots that claims keep from a task, found among the links that leave it, and the least slot that is free.
-use Rattle.std.proofs.Common.{◌≡◌, ℕ, zero, suc, ◌+◌, ◌-◌, ◌<◌, ◌≤◌, Bool, true, false, All, List, [], ◌∷◌, ◌++◌, length, map, take, get_or, filter, refl, sym, ◌∙◌, ap, subst, arith, inl, inr}
+use Rattle.std.proofs.Common.{◌≡◌, ℕ, zero, suc, ◌+◌, ◌-◌, ◌<◌, ◌≤◌, Bool, true, false, List, [], ◌∷◌, ◌++◌, length, map, take, get_or, filter, refl, sym, ◌∙◌, ap, subst, arith, inl, inr}
 use Rattle.std.specs.Prelude.{◌==◌}
 use Rattle.std.specs.List.{range_with_len}
 use Rattle.std.proofs.lemmas.Bool.{and_parts, cases_Bool}
@@ -13,7 +13,8 @@ use Rattle.dbp_plan.specs.declared.limits.TheConstants.{MAX_READ_LINES}
 use Rattle.dbp_plan.specs.Lookups.{link_at}
 use Rattle.dbp_plan.specs.declared.plan.Plan.{Plan}
 use Rattle.dbp_rules.specs.Places.{link, link_entry, task_entry, wired}
-use Rattle.dbp_rules.specs.Promises.{HasFreeSlot, claimed_of, has_claim}
+use Rattle.dbp_rules.specs.PartyRules.{has_claim_in}
+use Rattle.dbp_rules.specs.Promises.{HasFreeSlot, claimed_of}
 use Rattle.dbp_rules.specs.Rules.{kept_after_aim}
 use Rattle.dbp_rules.specs.Shapes.{IsShape}
 use Rattle.dbp_rules.specs.declared.parts.TaskEntry.{TaskEntry}
@@ -24,7 +25,6 @@ use Rattle.dbp_rules.specs.declared.wiring.LinkEnd.TheVariants.{Writer}
 use Rattle.dbp_rules.specs.declared.wiring.TaskWiring.{TaskWiring}
 use Rattle.dbp_rules.specs.declared.wiring.Wiring.{Wiring}
 use Rattle.dbp_rules.proofs.FreeAims.{has_free_slot}
-use Rattle.dbp_rules.proofs.IntoTask.{links_below}
 
 -- ---- claims
 
@@ -44,16 +44,16 @@ filter_among wide f within (x ∷ xs) = elim (cases_Bool (wide x)) [
 
 -- the slots claimed over these links
 abbrev pub claimed_over : Wiring → State → ℕ → List ℕ → List ℕ
-claimed_over w s i ks = map (λ k. (link_entry s k).slot) (filter (has_claim w s i) ks)
+claimed_over w s i ks = map (λ k. (link_entry s k).slot) (filter (has_claim_in w s.releaser i) ks)
 
 -- the links that leave the task have all of them
 pub all_claimed : (w : Wiring) (s : State) (i : ℕ) (ks : List ℕ) → ks ≡ links_at Writer w.links i → claimed_over w s i ks ≡ claimed_of w s i
 all_claimed w s i ks is =
     ap (claimed_over w s i) is
-    ∙ ap (map (λ k. (link_entry s k).slot)) (filter_among (λ k. (link w k).writer == i) (has_claim w s i) (λ k claims. (and_parts ((link w k).writer == i) _ claims).0) (range_with_len 0 (length w.links)))
+    ∙ ap (map (λ k. (link_entry s k).slot)) (filter_among (λ k. (link w k).writer == i) (has_claim_in w s.releaser i) (λ k claims. (and_parts ((link w k).writer == i) _ claims).0) (range_with_len 0 (length w.links)))
 
 -- the slots of one link more
-pub claimed_more : (w : Wiring) (s : State) (i n : ℕ) (ks : List ℕ) → n < length ks → has_claim w s i (get_or ks n 0) ≡ true
+pub claimed_more : (w : Wiring) (s : State) (i n : ℕ) (ks : List ℕ) → n < length ks → has_claim_in w s.releaser i (get_or ks n 0) ≡ true
     → claimed_over w s i (take (n + 1) ks) ≡ claimed_over w s i (take n ks) ++ (link_entry s (get_or ks n 0)).slot ∷ []
 claimed_more w s i n [] below is = absurd (omega arith)
 claimed_more w s i zero (k ∷ ks) below is = rw is refl
@@ -61,12 +61,12 @@ claimed_more w s i (suc n) (k ∷ ks) below is =
     let rest : claimed_over w s i (take (n + 1) ks) ≡ claimed_over w s i (take n ks) ++ (link_entry s (get_or ks n 0)).slot ∷ [] = claimed_more w s i n ks (omega arith) is in
     let one : suc n + 1 ≡ suc (n + 1) = omega arith in
     ap (λ m. claimed_over w s i (take m (k ∷ ks))) one
-    ∙ (elim (cases_Bool (has_claim w s i k)) as (λ _. claimed_over w s i (k ∷ take (n + 1) ks) ≡ claimed_over w s i (k ∷ take n ks) ++ (link_entry s (get_or ks n 0)).slot ∷ []) [
+    ∙ (elim (cases_Bool (has_claim_in w s.releaser i k)) as (λ _. claimed_over w s i (k ∷ take (n + 1) ks) ≡ claimed_over w s i (k ∷ take n ks) ++ (link_entry s (get_or ks n 0)).slot ∷ []) [
       | inl yes_ ↦ rw yes_ (ap (λ ys. (link_entry s k).slot ∷ ys) rest)
       | inr not_ ↦ rw not_ rest
     ])
 
-pub unclaimed_more : (w : Wiring) (s : State) (i n : ℕ) (ks : List ℕ) → n < length ks → has_claim w s i (get_or ks n 0) ≡ false
+pub unclaimed_more : (w : Wiring) (s : State) (i n : ℕ) (ks : List ℕ) → n < length ks → has_claim_in w s.releaser i (get_or ks n 0) ≡ false
     → claimed_over w s i (take (n + 1) ks) ≡ claimed_over w s i (take n ks)
 unclaimed_more w s i n [] below isnt = absurd (omega arith)
 unclaimed_more w s i zero (k ∷ ks) below isnt = rw isnt refl
@@ -74,7 +74,7 @@ unclaimed_more w s i (suc n) (k ∷ ks) below isnt =
     let rest : claimed_over w s i (take (n + 1) ks) ≡ claimed_over w s i (take n ks) = unclaimed_more w s i n ks (omega arith) isnt in
     let one : suc n + 1 ≡ suc (n + 1) = omega arith in
     ap (λ m. claimed_over w s i (take m (k ∷ ks))) one
-    ∙ (elim (cases_Bool (has_claim w s i k)) as (λ _. claimed_over w s i (k ∷ take (n + 1) ks) ≡ claimed_over w s i (k ∷ take n ks)) [
+    ∙ (elim (cases_Bool (has_claim_in w s.releaser i k)) as (λ _. claimed_over w s i (k ∷ take (n + 1) ks) ≡ claimed_over w s i (k ∷ take n ks)) [
       | inl yes_ ↦ rw yes_ (ap (λ ys. (link_entry s k).slot ∷ ys) rest)
       | inr not_ ↦ rw not_ rest
     ])
@@ -82,7 +82,7 @@ unclaimed_more w s i (suc n) (k ∷ ks) below isnt =
 -- there are no more of them than links
 pub claimed_few : (w : Wiring) (s : State) (i : ℕ) (ks : List ℕ) → length (claimed_over w s i ks) ≤ length ks
 claimed_few w s i [] = omega arith
-claimed_few w s i (k ∷ ks) = elim (cases_Bool (has_claim w s i k)) [
+claimed_few w s i (k ∷ ks) = elim (cases_Bool (has_claim_in w s.releaser i k)) [
   | inl yes_ ↦ rw yes_ (omega (arith, claimed_few w s i ks))
   | inr not_ ↦ rw not_ (omega (arith, claimed_few w s i ks))
 ]
@@ -92,9 +92,6 @@ claimed_few w s i (k ∷ ks) = elim (cases_Bool (has_claim w s i k)) [
 -- as its wiring lists them
 pub leaving_is : (p : Plan) (w : Wiring) (s : State) (i : ℕ) (t : TaskWiring) (ks : List ℕ) → IsShape p w s → i < length w.tasks → ks ≡ t.leaving → t ≡ wired w i → ks ≡ links_at Writer w.links i
 leaving_is p w s i t ks shape below own is = own ∙ ap (λ x. x.leaving) is ∙ (shape.wiring.each_task i below).leaving
-
-pub leaving_below : (w : Wiring) (i n : ℕ) (ks : List ℕ) → ks ≡ links_at Writer w.links i → n < length ks → get_or ks n 0 < length w.links
-leaving_below w i n ks is inside = subst (λ xs. All (λ k. k < length w.links) xs) (sym is) (links_below Writer w.links i) n 0 inside
 
 pub leaving_few : (p : Plan) (w : Wiring) (s : State) (i : ℕ) (ks : List ℕ) → IsShape p w s → ks ≡ links_at Writer w.links i → length ks ≤ MAX_READ_LINES
 leaving_few p w s i ks shape is =

@@ -6,8 +6,7 @@ use Rattle.std.proofs.lemmas.Bool.{cases_Bool, cases_eq, eq-eqb, ltb-true, ne_eq
 use Rattle.std.proofs.lemmas.Nat.Bits.{bit_at-trailing_zeros, bit_at-zero}
 use Rattle.std.proofs.lemmas.Option.{same_Some, slice_get-get_or}
 use Rattle.dbp_plan.specs.declared.plan.Plan.{Plan}
-use Rattle.dbp_plan.proofs.RankLaws.{rank-below}
-use Rattle.sync_meaning.proofs.Ranks.{length-ranks}
+use Rattle.dbp_plan.proofs.RankLaws.{rank-below, length-ranks}
 use Rattle.dbp_rules.specs.Places.{no_task, no_task_entry, task, task_entry, wired}
 use Rattle.dbp_rules.specs.Rules as rule
 use Rattle.dbp_rules.specs.Shapes.{IsShape, IsWired}

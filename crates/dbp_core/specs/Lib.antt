@@ -1,2 +1,4 @@
+-- Definitions that public clauses cite.
 pub mod Cores
+-- What private functions, the inside of types and proofs cite.
 pub mod Unfinished

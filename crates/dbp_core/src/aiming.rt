@@ -2,9 +2,10 @@
 
 ghost use Rattle.std.specs.Prelude.{◌≡◌, ◌<◌, ◌≤◌, length};
 ghost use Rattle.dbp_plan.specs.declared.limits.TheConstants.{MAX_READ_LINES};
+ghost use Rattle.dbp_rules.specs.PartyRules.{has_claim_in};
 ghost use Rattle.dbp_rules.specs.PartyShapes.{LinksFit};
 ghost use Rattle.dbp_rules.specs.Places.{task_entry, wired};
-ghost use Rattle.dbp_rules.specs.Promises.{HasFreeSlot, claimed_of, has_claim};
+ghost use Rattle.dbp_rules.specs.Promises.{HasFreeSlot, claimed_of};
 ghost use Rattle.dbp_rules.specs.Rules.{kept_after_aim};
 ghost use Rattle.dbp_rules.specs.Shapes.{IsShape};
 ghost use Rattle.dbp_slots.specs.FreeSlot.{IsLeastFree};
@@ -21,12 +22,12 @@ const MAX_TAKEN: usize = MAX_READ_LINES as usize + 1;
 const _: () = prove!(MAX_TAKEN == 129);
 
 // Whether the link is a counted one from the task, with a claim whose instance isn't known to have ended.
-fn has_claim(wiring: &Wiring, state: &State, i: u32, k: u32) -> bool
+fn has_claim_in(wiring: &Wiring, state: &State, i: u32, k: u32) -> bool
     requires link { k < length wiring.now.links }
     requires claim { k < length state.now.releaser.links }
     requires links { LinksFit wiring.now }
     requires entries { length state.now.releaser.tasks ≡ length wiring.now.tasks }
-    ensures { result ≡ has_claim wiring.now state.now i k }
+    ensures { result ≡ has_claim_in wiring.now state.now.releaser i k }
 {
     let link = wiring.links.items()[k as usize];
     link.writer == i
@@ -43,7 +44,7 @@ fn claimed_slots(plan: &Plan, wiring: &Wiring, state: &State, i: u32) -> ArrayVe
 {
     let mut claimed = ArrayVec::new();
     for k in wired_at(wiring, i).leaving.items() {
-        if has_claim(wiring, state, i, *k) {
+        if has_claim_in(wiring, state, i, *k) {
             claimed.push(state.releaser.claim_over(*k).slot);
         }
     }

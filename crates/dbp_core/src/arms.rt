@@ -8,7 +8,7 @@ ghost use Rattle.dbp_rules.specs.Rules.{IsNamed, IsStep};
 ghost use Rattle.dbp_rules.specs.Shapes.{IsShape, PlaceIn};
 ghost use Rattle.dbp_core.specs.Unfinished.{HasUnfinished};
 
-use crate::conditions::blocked;
+use crate::conditions::blocker_refusal;
 use crate::look_up::{declared_at, task_at, wired_at};
 use crate::rank_mask::RankMask;
 use crate::releaser::{aim, claim, open, see};
@@ -17,7 +17,7 @@ use dbp_plan::Plan;
 use dbp_rules::{Heard, Illegal, Place, State, Step, Wiring};
 
 // Why the task may not make the step, if that is so: its own part, or else a task that is ranked above it.
-fn forbidden(
+fn ranked_refusal(
     wiring: &Wiring,
     state: &State,
     unfinished: RankMask,
@@ -29,12 +29,12 @@ fn forbidden(
     requires entries { length state.now.releaser.tasks ≡ length wiring.now.tasks }
     requires place { PlaceIn (wired wiring.now i) (task state.now i).part.place }
     requires ranks { HasUnfinished wiring.now state.now unfinished }
-    ensures { result ≡ rule.forbidden wiring.now state.now i step }
+    ensures { result ≡ rule.ranked_refusal wiring.now state.now i step }
 {
     if let Some(why) = not_next(wiring, state, i, step) {
         return Some(why);
     }
-    blocked(wiring, state, unfinished, i)
+    blocker_refusal(wiring, state, unfinished, i)
 }
 
 // Why the step isn't the task's next one, if that is so.
@@ -107,7 +107,7 @@ fn step_start(
     if !is_open(state, i) {
         return Ok(Heard::Closed);
     }
-    if let Some(why) = blocked(wiring, state, unfinished, i) {
+    if let Some(why) = blocker_refusal(wiring, state, unfinished, i) {
         return Err(why);
     }
     start(state, i);
@@ -126,7 +126,7 @@ fn step_hear(
     requires ranks { HasUnfinished wiring.now state.old unfinished }
     ensures { IsStep plan.now wiring.now state.old (Step.Hear i) result state.new }
 {
-    if let Some(why) = forbidden(wiring, state, unfinished, i, Step::Hear { task: i }) {
+    if let Some(why) = ranked_refusal(wiring, state, unfinished, i, Step::Hear { task: i }) {
         return Err(why);
     }
     let Place::Hear(n) = task_at(state, i).part.place else {
@@ -152,7 +152,7 @@ fn step_look(
     requires ranks { HasUnfinished wiring.now state.old unfinished }
     ensures { IsStep plan.now wiring.now state.old (Step.Look i read) result state.new }
 {
-    if let Some(why) = forbidden(wiring, state, unfinished, i, Step::Look { task: i, read }) {
+    if let Some(why) = ranked_refusal(wiring, state, unfinished, i, Step::Look { task: i, read }) {
         return Err(why);
     }
     let Place::Look(n) = task_at(state, i).part.place else {
@@ -178,7 +178,7 @@ fn step_take(
     requires ranks { HasUnfinished wiring.now state.old unfinished }
     ensures { IsStep plan.now wiring.now state.old (Step.Take i read) result state.new }
 {
-    if let Some(why) = forbidden(wiring, state, unfinished, i, Step::Take { task: i, read }) {
+    if let Some(why) = ranked_refusal(wiring, state, unfinished, i, Step::Take { task: i, read }) {
         return Err(why);
     }
     let Place::Take(n) = task_at(state, i).part.place else {
@@ -203,7 +203,7 @@ fn step_shut(
     requires ranks { HasUnfinished wiring.now state.old unfinished }
     ensures { IsStep plan.now wiring.now state.old (Step.Shut i) result state.new }
 {
-    if let Some(why) = forbidden(wiring, state, unfinished, i, Step::Shut { task: i }) {
+    if let Some(why) = ranked_refusal(wiring, state, unfinished, i, Step::Shut { task: i }) {
         return Err(why);
     }
     shut(plan, wiring, state, i);
@@ -223,7 +223,7 @@ fn step_put(
     requires ranks { HasUnfinished wiring.now state.old unfinished }
     ensures { IsStep plan.now wiring.now state.old (Step.Put i port) result state.new }
 {
-    if let Some(why) = forbidden(wiring, state, unfinished, i, Step::Put { task: i, port }) {
+    if let Some(why) = ranked_refusal(wiring, state, unfinished, i, Step::Put { task: i, port }) {
         return Err(why);
     }
     put(wiring, state, i, port);
@@ -242,7 +242,7 @@ fn step_done(
     requires ranks { HasUnfinished wiring.now state.old unfinished }
     ensures { IsStep plan.now wiring.now state.old (Step.Done i) result state.new }
 {
-    if let Some(why) = forbidden(wiring, state, unfinished, i, Step::Done { task: i }) {
+    if let Some(why) = ranked_refusal(wiring, state, unfinished, i, Step::Done { task: i }) {
         return Err(why);
     }
     finish(state, i);
@@ -261,7 +261,7 @@ fn step_end(
     requires ranks { HasUnfinished wiring.now state.old unfinished }
     ensures { IsStep plan.now wiring.now state.old (Step.End i) result state.new }
 {
-    if let Some(why) = forbidden(wiring, state, unfinished, i, Step::End { task: i }) {
+    if let Some(why) = ranked_refusal(wiring, state, unfinished, i, Step::End { task: i }) {
         return Err(why);
     }
     end(state, i);

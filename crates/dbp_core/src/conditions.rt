@@ -62,7 +62,7 @@ fn highest_blocking(wiring: &Wiring, state: &State, i: u32) -> Option<u32>
 }
 
 // Why a higher rank keeps the task from its step. The tasks are looked over only if a higher rank is unfinished.
-pub(crate) fn blocked(
+pub(crate) fn blocker_refusal(
     wiring: &Wiring,
     state: &State,
     unfinished: RankMask,
@@ -72,7 +72,7 @@ pub(crate) fn blocked(
     requires tasks { length state.now.tasks ≡ length wiring.now.tasks }
     requires entries { length state.now.releaser.tasks ≡ length wiring.now.tasks }
     requires ranks { HasUnfinished wiring.now state.now unfinished }
-    ensures { result ≡ rule.unblocked wiring.now.count wiring.now state.now i }
+    ensures { result ≡ rule.blocker_refusal wiring.now.count wiring.now state.now i }
 {
     match wiring.count {
         Count::All => None,

@@ -178,7 +178,7 @@ pub(crate) fn end(state: &mut State, i: u32)
     ensures { state.new ≡ with_task state.old i (record {
       words = move.with_ended (task state.old i).words ((task state.old i).part.ended + 1);
       part = move.after_end (task state.old i).part;
-      work = move.advanced (task state.old i).work;
+      work = move.after_advance (task state.old i).work;
     }) }
 {
     let task = &mut state.tasks.items_mut()[i as usize];
@@ -201,7 +201,7 @@ pub(crate) fn shut(plan: &Plan, wiring: &Wiring, state: &mut State, i: u32)
     ensures { state.new ≡ with_task state.old i (record {
       words = move.with_stamp (task state.old i).words (move.own_slot (task state.old i).part) 0;
       part = move.at_place (task state.old i).part (place.Put 0);
-      work = move.worked (declared plan.now i) (rule.sensed plan.now wiring.now state.old i) (task state.old i).work;
+      work = move.after_compute (declared plan.now i) (rule.sense_values plan.now wiring.now state.old i) (task state.old i).work;
     }) }
 {
     let time = own_time(wiring, state, i);
@@ -220,7 +220,7 @@ fn work_on(plan: &Plan, wiring: &Wiring, task: &Task, work: &mut Work, time: u64
     requires samples { HasSamples plan.now wiring.now.samples }
     requires now { length work.old.now ≡ place_count task.now }
     requires later { length work.old.later ≡ length task.now.states }
-    ensures { work.new ≡ move.worked task.now (map (λ x. input_value plan.now.diagram.inputs plan.now.samples x.input time) task.now.senses) work.old }
+    ensures { work.new ≡ move.after_compute task.now (map (λ x. input_value plan.now.diagram.inputs plan.now.samples x.input time) task.now.senses) work.old }
 {
     work.sense(plan, wiring, task, time);
     work.compute(task);

@@ -7,12 +7,12 @@ use Rattle.std.proofs.lemmas.Bool.{both_ways, or_parts}
 use Rattle.std.proofs.lemmas.List.Elements.{All-cons, All-nil}
 use Rattle.std.proofs.lemmas.List.Folds.{list_any-append}
 use Rattle.std.proofs.lemmas.List.Kept.{AllPairs-cons}
-use Rattle.std.proofs.lemmas.Option.{slice_get-get_or, slice_get_within}
+use Rattle.std.proofs.lemmas.Option.{slice_get-get_or}
 use Rattle.std.proofs.lemmas.Slice.Eq.{bytes_eq-Decides}
 use Rattle.dbp_plan.specs.declared.diagram.Diagram.{Diagram}
 use Rattle.dbp_plan.specs.declared.diagram.Task.{Task}
 use Rattle.dbp_plan.specs.Limits.{max_delay-is}
-use Rattle.dbp_plan.specs.Places.{all_place, at_place}
+use Rattle.dbp_plan.specs.Places.{all_place, take_place}
 use Rattle.dbp_plan.specs.NameLists.{is_among}
 use Rattle.dia_tokens.specs.Printable.{IsPrintableName}
 use Rattle.dia_lines.specs.declared.item.Part.{Part}
@@ -31,8 +31,8 @@ use Rattle.dia_check.proofs.Faultless.{IsFaultless, faultless}
 use Rattle.dia_check.proofs.LinkLists.{all-made, any-at}
 use Rattle.dia_check.proofs.NameTests.{among_both}
 use Rattle.dia_check.proofs.PlaceLaws.{all-places}
+use Rattle.dia_check.proofs.DiagramTasks.{raw-at}
 use Rattle.dbp_replay.specs.Names.{AreNamed, HasNames}
-use Rattle.dbp_replay.proofs.OneScript.{take-place}
 
 -- a first test that finds no fault fails
 fails : {F : Type 0} (b : Bool) (fault : F) (other : Option F) → (if b then Some fault else other) ≡ None → b ≡ false
@@ -102,9 +102,6 @@ made-out names p = nothing refl
 -- ---- the diagram
 
 module _ (body : Body) (d : Diagram) (printable : IsPrintable body) (fine : IsFaultless body) (is : IsDiagramOf body d) where
-  raw-at : (i : ℕ) (t : Task) → slice_get d.tasks i ≡ Some t → (raw : RawTask) × (slice_get body.tasks i ≡ Some raw)
-  raw-at i t at = at_place body.tasks i (omega (arith, slice_get_within d.tasks i t at, is.count))
-
   raw-printable : (i : ℕ) (raw : RawTask) → slice_get body.tasks i ≡ Some raw → IsPrintableTask raw
   raw-printable i raw at = all_place IsPrintableTask body.tasks i raw printable.tasks at
 
@@ -118,34 +115,34 @@ module _ (body : Body) (d : Diagram) (printable : IsPrintable body) (fine : IsFa
       let none : is_among (map decl_name body.decls ++ task_names before) u.name ≡ false = fails _ _ _ (fine.tasks j u at_u) in
       let free : list_any (is_task u.name) before ≡ false = (or_parts (list_any (is_decl u.name) body.decls) (list_any (is_task u.name) before) (sym (among_both u.name body.decls before) ∙ none)).1 in
       both_ways (list_any (is_task u.name) before) free
-      (any-at (is_task u.name) before i t (take-place body.tasks i j t less at_t) ((bytes_eq-Decides t.name u.name).1 same))
+      (any-at (is_task u.name) before i t (take_place body.tasks j i less ∙ at_t) ((bytes_eq-Decides t.name u.name).1 same))
 
   tasks-named : AreNamed (λ t. t.name) d.tasks
   tasks-named = record {
     each = all-places (λ t. IsPrintableName t.name) d.tasks (λ i t at.
-        let raw = raw-at i t at in
+        let raw = raw-at body d is i t at in
         subst IsPrintableName (sym (task-name i t raw.0 at raw.1)) (raw-printable i raw.0 raw.1).line.named);
     apart = λ i j default less below.
         let t = get_or d.tasks i default in
         let u = get_or d.tasks j default in
         let at_t : slice_get d.tasks i ≡ Some t = slice_get-get_or d.tasks i default (omega (arith, less, below)) in
         let at_u : slice_get d.tasks j ≡ Some u = slice_get-get_or d.tasks j default below in
-        let first = raw-at i t at_t in
-        let second = raw-at j u at_u in
+        let first = raw-at body d is i t at_t in
+        let second = raw-at body d is j u at_u in
         λ same. names-apart i j first.0 second.0 first.1 second.1 less (sym (task-name i t first.0 at_t first.1) ∙ same ∙ task-name j u second.0 at_u second.1);
   }
 
   reads-named : All (λ t. AreNamed (λ r. r.name) t.reads) d.tasks
   reads-named =
       all-places (λ t. AreNamed (λ r. r.name) t.reads) d.tasks (λ i t at.
-      let raw = raw-at i t at in
+      let raw = raw-at body d is i t at in
       subst (AreNamed (λ r. r.name)) (ap (λ u. u.reads) (sym (is.tasks i raw.0 t raw.1 at).is))
       (items-named (read_of body.tasks i) (λ r. r.name) (made-read body.tasks i) body i raw.0 fine raw.1 (raw-printable i raw.0 raw.1)))
 
   outs-named : All (λ t. AreNamed (λ o. o.name) t.outs) d.tasks
   outs-named =
       all-places (λ t. AreNamed (λ o. o.name) t.outs) d.tasks (λ i t at.
-      let raw = raw-at i t at in
+      let raw = raw-at body d is i t at in
       let names = env_names raw.0.parts in
       subst (AreNamed (λ o. o.name)) (ap (λ u. u.outs) (sym (is.tasks i raw.0 t raw.1 at).is))
       (items-named (out_of names) (λ o. o.name) (made-out names) body i raw.0 fine raw.1 (raw-printable i raw.0 raw.1)))

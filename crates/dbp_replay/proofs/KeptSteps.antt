@@ -1,10 +1,7 @@
 -- The kept lines of a script section, and the steps that the first of them name.
-use Rattle.std.proofs.Common.{◌≡◌, ℕ, ◌+◌, ◌<◌, ◌==◌, true, cond, All, List, [], ◌∷◌, ◌++◌, length, take, slice_get, Some, Ok, Err, refl, sym, ap, ◌∙◌, subst, arith, append_assoc}
+use Rattle.std.proofs.Common.{◌≡◌, ℕ, ◌+◌, ◌<◌, ◌==◌, cond, All, List, [], ◌∷◌, ◌++◌, length, take, slice_get, Some, Ok, Err, refl, sym, ap, ◌∙◌, subst, arith, append_assoc}
 use Rattle.std.specs.Prelude.{IfSome, Option}
 use Rattle.std.proofs.lemmas.List.{append-nil, length-append, take-append-le, take_all}
-use Rattle.std.specs.List.{list_all}
-use Rattle.std.proofs.lemmas.Bool.{and_from, and_parts}
-use Rattle.std.proofs.lemmas.Bool.Decides.{nat_tests}
 use Rattle.std.proofs.lemmas.List.Sums.{sum_by-append}
 use Rattle.std.proofs.lemmas.List.Elements.{All-append, All-head, All-nil, All-cons, All-tail}
 use Rattle.dbp_rules.specs.declared.step.Step.{Step}
@@ -15,13 +12,14 @@ use Rattle.dia_tokens.specs.Line.{Spells}
 use Rattle.dia_tokens.proofs.SpellingLaws.{no-feed}
 use Rattle.dia_lines.specs.Lines.{step, SaysInScript, a_step}
 use Rattle.dia_tokens.specs.Kinds.{is_allowed}
-use Rattle.dia_lines.specs.Text.{is_inside, lines_of}
+use Rattle.dia_lines.specs.Text.{lines_of}
 use Rattle.dia_lines.proofs.TextLaws.{lines_of-nil, lines_of-line}
 use Rattle.dia_read.specs.declared.document.Doc.{Doc}
 use Rattle.dia_read.specs.Documents.{none}
 use Rattle.dia_read.specs.Printable.{HasItemLines, KeepsItself, ended_lines, line_count}
 use Rattle.dia_read.proofs.Fitting.{fit-more}
 use Rattle.dia_read.proofs.Paired.{feeds}
+use Rattle.dia_read.proofs.Following.{all-inside, allowed-inside}
 use Rattle.dbp_replay.specs.declared.fail.ScriptCode.{ScriptCode}
 use Rattle.dbp_replay.specs.Places.{IsThere}
 use Rattle.dbp_replay.specs.Scripts.{IsFirstFault, IsScript, Name, Says}
@@ -38,19 +36,12 @@ kept-tokens line kept (a_step l k ts s some other spelling) = (ts, s)
 kept-feeds : (line kept : List ℕ) → SaysInScript line (step kept) → feeds kept ≡ 0
 kept-feeds line kept (a_step l k ts s some other spelling) = no-feed l k ts s spelling
 
-allowed-inside : (b : ℕ) → is_allowed b ≡ true → is_inside b ≡ true
-allowed-inside b e = grind (arith, nat_tests)
-
-pub all-inside : (text : List ℕ) → list_all is_allowed text ≡ true → list_all is_inside text ≡ true
-all-inside [] h = refl
-all-inside (b ∷ bs) h = let both = and_parts (is_allowed b) (list_all is_allowed bs) h in and_from _ _ (allowed-inside b both.0) (all-inside bs both.1)
-
 -- the text has the lines that it is made of
 lines-back : (lines : List (List ℕ)) → All IsKept lines → lines_of (ended_lines lines) ≡ lines
 lines-back [] kept = lines_of-nil
 lines-back (line ∷ lines) kept =
     let first = kept-tokens line line (All-head IsKept line lines kept) in
-    lines_of-line line (ended_lines lines) (all-inside line first.1.allowed) ∙ ap (λ (ls : List (List ℕ)). line ∷ ls) (lines-back lines (All-tail IsKept line lines kept))
+    lines_of-line line (ended_lines lines) (all-inside is_allowed allowed-inside line first.1.allowed) ∙ ap (λ (ls : List (List ℕ)). line ∷ ls) (lines-back lines (All-tail IsKept line lines kept))
 
 is_feed : ℕ → ℕ
 is_feed b = cond (b == 10) 1 0

@@ -11,7 +11,7 @@ use Rattle.dbp_rules.specs.Rules.{refusal}
 use Rattle.dbp_rules.specs.Wired.{wiring_of}
 use Rattle.dbp_rules.proofs.LeadsLaws.{IsAllowedAfter, leads_at, leads_once}
 use Rattle.dbp_plan.specs.declared.plan.Plan.{Plan}
-use Rattle.dbp_replay.proofs.OneScript.{take-place}
+use Rattle.dbp_plan.specs.Places.{take_place}
 use Rattle.dbp_replay.specs.Replays.{IsIllegal, IsReplay, first}
 
 take-shorter : {X : Type 0} (xs : List X) (k n : ℕ) → k ≤ n → take k (take n xs) ≡ take k xs
@@ -33,7 +33,7 @@ none-refused p count es t u k e why leads at front refused =
 
 earlier : (p : Plan) (count : Count) (steps : List Step) (k l : ℕ) (why other : Illegal) (i : IsIllegal p count steps k why) (j : IsIllegal p count steps l other) → i.place < j.place → ⊥
 earlier p count steps k l why other i j less =
-    none-refused p count (take j.place steps) j.state i.state i.place i.step why j.leads (take-place steps i.place j.place i.step less i.stands)
+    none-refused p count (take j.place steps) j.state i.state i.place i.step why j.leads (take_place steps j.place i.place less ∙ i.stands)
     (subst (λ (es : List Step). Leads p (wiring_of p count) (first p count) es i.state) (sym (take-shorter steps i.place j.place (omega (arith, less)))) i.leads) i.refused
 
 pub text-once : (p : Plan) (count : Count) (steps : List Step) (a b : List ℕ) → IsReplay p count steps a → IsReplay p count steps b → a ≡ b

@@ -1,8 +1,9 @@
 -- A document has one script at most, and none where it has a fault.
-use Rattle.std.proofs.Common.{◌≡◌, ℕ, zero, suc, ◌<◌, List, [], ◌∷◌, length, take, slice_get, Some, Ok, Err, refl, sym, ap, ◌∙◌, subst, arith, inl, inr}
+use Rattle.std.proofs.Common.{◌≡◌, ℕ, zero, suc, ◌<◌, List, [], length, take, slice_get, Some, Ok, Err, refl, sym, ap, ◌∙◌, subst, arith, inl, inr}
 use Rattle.std.specs.Prelude.{Result}
 use Rattle.std.proofs.lemmas.Bool.{cases_order}
 use Rattle.std.proofs.lemmas.Option.{same_Some, slice_get_within}
+use Rattle.dbp_plan.specs.Places.{take_place}
 use Rattle.dbp_rules.specs.declared.step.Step.{Step}
 use Rattle.dbp_plan.specs.declared.diagram.Diagram.{Diagram}
 use Rattle.dia_tokens.proofs.OneLine.{one-list}
@@ -29,12 +30,6 @@ named-at d lines steps none i line at = let below : i < length {A = List ℕ} []
 named-at d lines steps (another l e ls es is n) zero line at = (e, subst (λ (x : List ℕ). Says d x (Ok e)) (same_Some l line at) is)
 named-at d lines steps (another l e ls es is n) (suc i) line at = named-at d ls es n i line at
 
-pub take-place : {X : Type 0} (xs : List X) (i j : ℕ) (x : X) → i < j → slice_get xs i ≡ Some x → slice_get (take j xs) i ≡ Some x
-take-place xs i zero x less at = absurd (omega (arith, less))
-take-place [] i (suc j) x less at = let below : i < 0 = slice_get_within [] i x at in absurd (omega (arith, below))
-take-place (y ∷ ys) zero (suc j) x less at = at
-take-place (y ∷ ys) (suc i) (suc j) x less at = take-place ys i j x (omega (arith, less)) at
-
 no-fault-at : (d : Diagram) (lines : List (List ℕ)) (steps : List Step) (i : ℕ) (line : List ℕ) (code : ScriptCode) → Name d lines steps → slice_get lines i ≡ Some line → Says d line (Err code) → ⊥
 no-fault-at d lines steps i line code named at fault =
     let step = named-at d lines steps named i line at in
@@ -42,7 +37,7 @@ no-fault-at d lines steps i line code named at fault =
     absurd (cc (both))
 
 earlier-named : (d : Diagram) (lines : List (List ℕ)) (numbers : List ℕ) (k l : ℕ) (c e : ScriptCode) (f : IsFirstFault d lines numbers k c) (g : IsFirstFault d lines numbers l e) → f.index < g.index → ⊥
-earlier-named d lines numbers k l c e f g less = no-fault-at d (take g.index lines) g.before f.index f.line c g.named (take-place lines f.index g.index f.line less f.stands) f.fault
+earlier-named d lines numbers k l c e f g less = no-fault-at d (take g.index lines) g.before f.index f.line c g.named (take_place lines g.index f.index less ∙ f.stands) f.fault
 
 one-first : (d : Diagram) (lines : List (List ℕ)) (numbers : List ℕ) (k l : ℕ) (c e : ScriptCode) → IsFirstFault d lines numbers k c → IsFirstFault d lines numbers l e → (k ≡ l) × (c ≡ e)
 one-first d lines numbers k l c e f g =

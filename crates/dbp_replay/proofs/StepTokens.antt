@@ -23,8 +23,8 @@ use Rattle.dbp_replay.specs.declared.kind.Takes.TheVariants.{Nothing, Slot, Writ
 use Rattle.dbp_replay.specs.Names.{HasNames, HasSlotNumber}
 use Rattle.dbp_replay.specs.Places.{IsThere, link_in, port_name, read_name, task_in, task_of}
 use Rattle.dbp_replay.specs.Scripts.{Says}
-use Rattle.dbp_replay.specs.StepForms.{form_of, named_step, number_of, numbered, of_kind, of_task, operand_of, step_with, with_operand}
-use Rattle.dbp_replay.specs.Texts.{delay_words, operand_words, spaced, step_text}
+use Rattle.dbp_replay.specs.StepForms.{form_of, named_step, number_of, step_numbered, of_kind, of_task, operand_of, step_with, with_operand}
+use Rattle.dbp_replay.specs.Texts.{delay_words, operand_words, spaced_words, step_text}
 use Rattle.dbp_rules.specs.StepKinds.{kind_of}
 use Rattle.dbp_replay.proofs.FirstPlaces.{link-place, port-place, port-printable, read-place, read-printable, task-place, task-printable}
 use Rattle.dbp_replay.proofs.StepWords.{first-printable, first-text, first-unsigned, first_token, kind-again}
@@ -34,7 +34,7 @@ use Rattle.dbp_replay.proofs.StepWords.{first-printable, first-text, first-unsig
 -- these words are the operand that their kind takes
 record IsOperand (takes : Takes) (words : List (List ℕ)) (o : Operand) : Type 0 where
   tokens : List Token
-  text : spaced words ≡ text_behind Loose tokens
+  text : spaced_words words ≡ text_behind Loose tokens
   printable : All IsPrintableToken tokens
   unsigned : KeepsSigns false tokens
   read : operand_of takes tokens ≡ Some o
@@ -140,5 +140,5 @@ says-step d e names there small =
       tokens = tokens;
       spelled = subst (λ line. Spells line tokens) (sym text) (line-spells tokens printable (λ _. first-unsigned kind, (λ _. tt, o.words.unsigned)));
       says = ap (λ k. named_step d (of_kind k n o.words.tokens)) (kind-again kind) ∙ ap (λ p. named_step d (with_operand kind n p)) o.words.read
-          ∙ ap (of_task d (record { kind = kind; task = n; operand = o.given })) (task-place d names i there.task) ∙ ap (numbered kind i) o.found ∙ ap (λ f. Ok f) o.again;
+          ∙ ap (of_task d (record { kind = kind; task = n; operand = o.given })) (task-place d names i there.task) ∙ ap (step_numbered kind i) o.found ∙ ap (λ f. Ok f) o.again;
     }

@@ -15,7 +15,7 @@ use Rattle.dia_tokens.specs.TokenText.{line_text, text_behind}
 use Rattle.dia_tokens.specs.Words.{word_of}
 use Rattle.dbp_rules.specs.declared.kind.StepKind.{StepKind}
 use Rattle.dbp_rules.specs.declared.kind.StepKind.TheVariants.{Done}
-use Rattle.dbp_replay.specs.StepForms.{form_of, kind_with, spelled}
+use Rattle.dbp_replay.specs.StepForms.{form_of, kind_with, name_text}
 
 -- the token of a kind's word: only `done` is a reserved word
 abbrev pub first_token : StepKind → Token
@@ -35,7 +35,7 @@ unfolding word_of
 first-printable Done = tt
 first-printable k = tested-name (form_of k).0 refl refl (omega arith) refl
 
-pub kind-again : (k : StepKind) → kind_with (spelled (first_token k)) ≡ Some k
+pub kind-again : (k : StepKind) → kind_with (name_text (first_token k)) ≡ Some k
 kind-again Done = refl
 kind-again k = refl
 

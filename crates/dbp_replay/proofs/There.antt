@@ -22,7 +22,7 @@ use Rattle.dbp_rules.specs.declared.kind.StepKind.TheVariants.{Seen, Aim, Claim,
 use Rattle.dbp_replay.specs.declared.kind.Takes.{Takes}
 use Rattle.dbp_replay.specs.declared.kind.Takes.TheVariants.{Nothing, Slot, Writer, Read, Port}
 use Rattle.dbp_replay.specs.Places.{IsThere, link_in, task_in}
-use Rattle.dbp_replay.specs.StepForms.{form_of, is_link, kind_with, link_between, named_step, number_of, numbered, of_kind, of_task, operand_of, spelled, step_of, step_with, task_named, with_operand, within}
+use Rattle.dbp_replay.specs.StepForms.{form_of, is_link, kind_with, link_between, named_step, number_of, step_numbered, of_kind, of_task, operand_of, name_text, step_of, step_with, task_named, with_operand, within}
 
 within-is : (len place n : ℕ) → within len place ≡ Some n → (place ≡ n) × (place < len)
 within-is len place n e =
@@ -97,7 +97,7 @@ there d _ i n o below fits e = absurd (fits)
 
 -- ---- the step of tokens
 
-there-numbered : (d : Diagram) (kind : StepKind) (i : ℕ) (o : Operand) (e : Step) (n : Option ℕ) → number_of d i o ≡ n → i < length d.tasks → Fits (form_of kind).1 o → numbered kind i n ≡ Ok e → IsThere d e
+there-numbered : (d : Diagram) (kind : StepKind) (i : ℕ) (o : Operand) (e : Step) (n : Option ℕ) → number_of d i o ≡ n → i < length d.tasks → Fits (form_of kind).1 o → step_numbered kind i n ≡ Ok e → IsThere d e
 there-numbered d kind i o e None is below fits ok = absurd (cc (ok))
 there-numbered d kind i o e (Some n) is below fits ok =
     let same : step_with kind i n ≡ e = cc (ok) in
@@ -117,5 +117,5 @@ there-kind d task rest e (Some kind) ok = there-operand d kind task e (operand_o
 
 -- what the tokens name is there
 pub step-there : (d : Diagram) (ts : List Token) (e : Step) → step_of d ts ≡ Ok e → IsThere d e
-step-there d (first ∷ token.Name task ∷ rest) e ok = there-kind d task rest e (kind_with (spelled first)) ok
+step-there d (first ∷ token.Name task ∷ rest) e ok = there-kind d task rest e (kind_with (name_text first)) ok
 step-there d _ e ok = absurd (cc (ok))

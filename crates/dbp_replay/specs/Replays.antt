@@ -19,15 +19,15 @@ abbrev pub first : Plan → Count → State
 first p count = start_of p (wiring_of p count)
 
 -- the lines of steps that are taken from this state on, each with what it hears
-abbrev pub told : Plan → Wiring → State → List Step → List ℕ
-told p w s [] = []
-told p w s (e ∷ es) = heard_line p.diagram e (hears w s e) ++ told p w (next p w s e) es
+abbrev pub heard_lines : Plan → Wiring → State → List Step → List ℕ
+heard_lines p w s [] = []
+heard_lines p w s (e ∷ es) = heard_line p.diagram e (hears w s e) ++ heard_lines p w (next p w s e) es
 
 -- all steps are allowed, and the text tells what each hears
 pub record IsReplay (p : Plan) (count : Count) (steps : List Step) (text : List ℕ) : Type 0 where
   pub state : State
   pub leads : Leads p (wiring_of p count) (first p count) steps state
-  pub told : text ≡ told p (wiring_of p count) (first p count) steps
+  pub told : text ≡ heard_lines p (wiring_of p count) (first p count) steps
 
 -- the steps before the one with this number, counted from 1, are allowed, and behind them it isn't
 pub record IsIllegal (p : Plan) (count : Count) (steps : List Step) (number : ℕ) (why : Illegal) : Type 0 where

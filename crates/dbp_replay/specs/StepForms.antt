@@ -50,10 +50,10 @@ kind_with text = kind_among all_kinds text
 -- ---- the form of tokens
 
 -- the text of a name or a reserved word
-abbrev pub spelled : Token → List ℕ
-spelled (token.Name n) = n
-spelled (token.Word w) = word_text w
-spelled _ = []
+abbrev pub name_text : Token → List ℕ
+name_text (token.Name n) = n
+name_text (token.Word w) = word_text w
+name_text _ = []
 
 -- a slot's number is from 0 to 4294967295
 abbrev pub slot_of : ℤ → Option Operand
@@ -81,7 +81,7 @@ of_kind (Some kind) task rest = with_operand kind task (operand_of (form_of kind
 
 -- the form of a line: a word, the name of a task, and what the word's kind takes
 abbrev pub form_in : List Token → Option Form
-form_in (first ∷ token.Name task ∷ rest) = of_kind (kind_with (spelled first)) task rest
+form_in (first ∷ token.Name task ∷ rest) = of_kind (kind_with (name_text first)) task rest
 form_in _ = None
 
 -- ---- the step of a form in a diagram
@@ -132,13 +132,13 @@ step_with Put i n = step.Put i n
 step_with Done i n = step.Done i
 step_with End i n = step.End i
 
-abbrev pub numbered : StepKind → ℕ → Option ℕ → Result Step ScriptCode
-numbered kind i None = Err StepName
-numbered kind i (Some n) = Ok (step_with kind i n)
+abbrev pub step_numbered : StepKind → ℕ → Option ℕ → Result Step ScriptCode
+step_numbered kind i None = Err StepName
+step_numbered kind i (Some n) = Ok (step_with kind i n)
 
 abbrev pub of_task : Diagram → Form → Option ℕ → Result Step ScriptCode
 of_task d f None = Err StepName
-of_task d f (Some i) = numbered f.kind i (number_of d i f.operand)
+of_task d f (Some i) = step_numbered f.kind i (number_of d i f.operand)
 
 abbrev pub named_step : Diagram → Option Form → Result Step ScriptCode
 named_step d None = Err BadStep

@@ -12,9 +12,9 @@ use Rattle.dbp_replay.specs.Places.{link_in, port_name, read_name, task_in, task
 use Rattle.dbp_replay.specs.StepForms.{form_of}
 
 -- each word behind a space
-abbrev pub spaced : List (List ℕ) → List ℕ
-spaced [] = []
-spaced (w ∷ ws) = 32 ∷ w ++ spaced ws
+abbrev pub spaced_words : List (List ℕ) → List ℕ
+spaced_words [] = []
+spaced_words (w ∷ ws) = 32 ∷ w ++ spaced_words ws
 
 -- the word before a writer: a delay is at most 1 for now
 abbrev pub delay_words : ℕ → List (List ℕ)
@@ -31,7 +31,7 @@ operand_words d _ = []
 
 -- the words of a step, joined by one space
 abbrev pub step_text : Diagram → Step → List ℕ
-step_text d e = (form_of (kind_of e)).0 ++ spaced ((task_in d (task_of d e)).name ∷ operand_words d e)
+step_text d e = (form_of (kind_of e)).0 ++ spaced_words ((task_in d (task_of d e)).name ∷ operand_words d e)
 
 -- a line for each step, ended by a line feed
 abbrev pub script_text : Diagram → List Step → List ℕ
@@ -50,4 +50,4 @@ heard_words (heard.Word value) = codes "->" ∷ signed_decimal value ∷ []
 
 -- a step and what it heard, ended by a line feed
 abbrev pub heard_line : Diagram → Step → Heard → List ℕ
-heard_line d e h = step_text d e ++ spaced (heard_words h) ++ 10 ∷ []
+heard_line d e h = step_text d e ++ spaced_words (heard_words h) ++ 10 ∷ []

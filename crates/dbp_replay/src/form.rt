@@ -1,7 +1,7 @@
 // The form of a line's tokens.
 
 ghost use Rattle.std.specs.Prelude.{◌≡◌};
-ghost use Rattle.dbp_replay.specs.StepForms.{form_in, operand_of, slot_of, spelled};
+ghost use Rattle.dbp_replay.specs.StepForms.{form_in, operand_of, slot_of, name_text};
 
 use crate::kind::{Takes, kind_with, takes_of};
 use dbp_core::StepKind;
@@ -27,8 +27,8 @@ pub(crate) struct Form {
 }
 
 /// The text of a name or a reserved word.
-fn spelled(token: &Token) -> &[u8]
-    ensures { result.now ≡ spelled token.now }
+fn name_text(token: &Token) -> &[u8]
+    ensures { result.now ≡ name_text token.now }
 {
     match token {
         Token::Name(name) => name.bytes(),
@@ -74,7 +74,7 @@ pub(crate) fn form_in(tokens: &[Token]) -> Option<Form>
     let [first, Token::Name(task), rest @ ..] = tokens else {
         return None;
     };
-    let kind = kind_with(spelled(first))?;
+    let kind = kind_with(name_text(first))?;
     let operand = operand_of(takes_of(kind), rest)?;
     Some(Form {
         kind,

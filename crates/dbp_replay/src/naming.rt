@@ -4,7 +4,7 @@ ghost use Rattle.std.specs.Prelude.{◌≡◌, ◌<◌, ◌≤◌, ◌^◌, ◌=
 ghost use Rattle.std.specs.List.{position_or_len};
 ghost use Rattle.std.specs.Str.{bytes_eq};
 ghost use Rattle.dbp_replay.specs.Places.{task_in};
-ghost use Rattle.dbp_replay.specs.StepForms.{is_link, link_between, named_step, number_of, numbered, of_task, port_named, read_named, step_of, step_with, task_named, within};
+ghost use Rattle.dbp_replay.specs.StepForms.{is_link, link_between, named_step, number_of, step_numbered, of_task, port_named, read_named, step_of, step_with, task_named, within};
 
 use crate::fail::ScriptCode;
 use crate::form::{Form, Operand, form_in};
@@ -28,12 +28,12 @@ fn named_step(diagram: &Diagram, form: Form) -> Result<Step, ScriptCode>
 {
     match task_named(diagram, &form.task) {
         None => Err(ScriptCode::StepName),
-        Some(i) => numbered(form.kind, i, number_of(diagram, i, form.operand)),
+        Some(i) => step_numbered(form.kind, i, number_of(diagram, i, form.operand)),
     }
 }
 
-fn numbered(kind: StepKind, i: u32, number: Option<u32>) -> Result<Step, ScriptCode>
-    ensures { result ≡ numbered kind i number }
+fn step_numbered(kind: StepKind, i: u32, number: Option<u32>) -> Result<Step, ScriptCode>
+    ensures { result ≡ step_numbered kind i number }
 {
     match number {
         None => Err(ScriptCode::StepName),

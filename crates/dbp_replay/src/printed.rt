@@ -2,7 +2,7 @@
 
 ghost use Rattle.std.specs.Prelude.{◌≡◌, ◌∷◌, ◌++◌, All, IfOk, OnOk};
 ghost use Rattle.dbp_replay.specs.Places.{IsThere};
-ghost use Rattle.dbp_replay.specs.Texts.{delay_words, heard_words, operand_words, script_text, spaced, step_text};
+ghost use Rattle.dbp_replay.specs.Texts.{delay_words, heard_words, operand_words, script_text, spaced_words, step_text};
 
 use crate::kind::word_of;
 use crate::look_up::{link_at, port_name, read_name, task_name, task_of};
@@ -42,7 +42,7 @@ pub(crate) fn push_step(text: &mut Vec<u8>, diagram: &Diagram, step: Step) -> Re
 // Adds the words behind the task.
 fn push_operand(text: &mut Vec<u8>, diagram: &Diagram, step: Step) -> Result<(), NoMemory>
     requires { IsThere diagram.now step }
-    ensures { OnOk result (text.new.items ≡ text.old.items ++ spaced (operand_words diagram.now step)) }
+    ensures { OnOk result (text.new.items ≡ text.old.items ++ spaced_words (operand_words diagram.now step)) }
 {
     match step {
         Step::Aim { slot, .. } => push_number(text, slot),
@@ -60,7 +60,7 @@ fn push_operand(text: &mut Vec<u8>, diagram: &Diagram, step: Step) -> Result<(),
 
 // Adds `pre` where the delay isn't 0.
 fn push_delay(text: &mut Vec<u8>, delay: u32) -> Result<(), NoMemory>
-    ensures { OnOk result (text.new.items ≡ text.old.items ++ spaced (delay_words delay)) }
+    ensures { OnOk result (text.new.items ≡ text.old.items ++ spaced_words (delay_words delay)) }
 {
     if delay == 0 {
         return Ok(());
@@ -70,7 +70,7 @@ fn push_delay(text: &mut Vec<u8>, delay: u32) -> Result<(), NoMemory>
 
 /// Adds what a step heard behind ` ->`, and nothing where it stored a word.
 pub(crate) fn push_heard(text: &mut Vec<u8>, heard: Heard) -> Result<(), NoMemory>
-    ensures { OnOk result (text.new.items ≡ text.old.items ++ spaced (heard_words heard)) }
+    ensures { OnOk result (text.new.items ≡ text.old.items ++ spaced_words (heard_words heard)) }
 {
     match heard {
         Heard::Stored => Ok(()),

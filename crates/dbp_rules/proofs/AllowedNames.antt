@@ -19,20 +19,16 @@ use Rattle.dbp_rules.specs.declared.wiring.TaskWiring.{TaskWiring}
 use Rattle.dbp_rules.specs.declared.wiring.Wiring.{Wiring}
 use Rattle.dbp_rules.proofs.Aims.{aim_allowed}
 use Rattle.dbp_rules.proofs.Allowed.{at_next, next_none, or_else_none, place_of}
+use Rattle.dbp_rules.proofs.ShapeFacts.{place_in}
+use Rattle.dbp_rules.proofs.StepPlaces.{at_kind}
+use Rattle.dbp_rules.proofs.TableSizes.{slot_count_few}
 use Rattle.dbp_rules.proofs.WiringParts.{wired_is}
 
 -- ---- reads and ports
 
 module _ (p : Plan) (w : Wiring) (s : State) (shape : IsShape p w s) where
-  -- a task whose next step is of this kind, with this operand, is at the place of the kind
-  at_kind : (i kind operand : ℕ) → rule.steps_next w s i kind operand ≡ None → (task s i).part.place ≡ place_of kind (place_number (task s i).part.place)
-  at_kind i kind operand next = at_next broken.TaskPlace (wired w i) (task s i).part.place kind operand next
-
   operand_is : (i kind operand : ℕ) (q : Place) → rule.steps_next w s i kind operand ≡ None → (task s i).part.place ≡ q → (rule.place_kind (wired w i) q).1 ≡ operand
   operand_is i kind operand q next at = ap (λ (x : Place). (rule.place_kind (wired w i) x).1) (sym at) ∙ (next_none broken.TaskPlace (rule.place_kind (wired w i) (task s i).part.place) kind operand next).1
-
-  place_in : (i : ℕ) (q : Place) → i < length w.tasks → (task s i).part.place ≡ q → PlaceIn (wired w i) q
-  place_in i q below at = subst (λ (x : Place). PlaceIn (wired w i) x) at (shape.each_task i below).place
 
   turn_read : (i r n : ℕ) → i < length w.tasks → n < length (wired w i).reads → (read_at (wired w i) n).read ≡ r → r < length (declared p i).reads
   turn_read i r n below few is = omega (arith, is, ((shape.wiring.each_task i below).each_read n few).read)
@@ -42,33 +38,28 @@ module _ (p : Plan) (w : Wiring) (s : State) (shape : IsShape p w s) where
       let below : i < length w.tasks = omega (arith, named, shape.wiring.tasks) in
       let next : rule.steps_next w s i 7 r ≡ None = (or_else_none (rule.steps_next w s i 7 r) _ free).0 in
       let n : ℕ = place_number (task s i).part.place in
-      let at : (task s i).part.place ≡ place.Look n = at_kind i 7 r next in
-      turn_read i r n below (place_in i (place.Look n) below at) (operand_is i 7 r (place.Look n) next at)
+      let at : (task s i).part.place ≡ place.Look n = at_kind w s i 7 r next in
+      turn_read i r n below (place_in p w s shape i (place.Look n) below at) (operand_is i 7 r (place.Look n) next at)
 
   pub take_read : (i r : ℕ) → i < length p.diagram.tasks → rule.refusal w s (Take i r) ≡ None → r < length (declared p i).reads
   take_read i r named free =
       let below : i < length w.tasks = omega (arith, named, shape.wiring.tasks) in
       let next : rule.steps_next w s i 8 r ≡ None = (or_else_none (rule.steps_next w s i 8 r) _ free).0 in
       let n : ℕ = place_number (task s i).part.place in
-      let at : (task s i).part.place ≡ place.Take n = at_kind i 8 r next in
-      turn_read i r n below (place_in i (place.Take n) below at) (operand_is i 8 r (place.Take n) next at)
+      let at : (task s i).part.place ≡ place.Take n = at_kind w s i 8 r next in
+      turn_read i r n below (place_in p w s shape i (place.Take n) below at) (operand_is i 8 r (place.Take n) next at)
 
   pub put_port : (i port : ℕ) → i < length p.diagram.tasks → rule.refusal w s (Put i port) ≡ None → port < length (declared p i).outs
   put_port i port named free =
       let below : i < length w.tasks = omega (arith, named, shape.wiring.tasks) in
       let next : rule.steps_next w s i 10 port ≡ None = (or_else_none (rule.steps_next w s i 10 port) _ free).0 in
       let n : ℕ = place_number (task s i).part.place in
-      let at : (task s i).part.place ≡ place.Put n = at_kind i 10 port next in
-      let few : n < (wired w i).ports = place_in i (place.Put n) below at in
+      let at : (task s i).part.place ≡ place.Put n = at_kind w s i 10 port next in
+      let few : n < (wired w i).ports = place_in p w s shape i (place.Put n) below at in
       let is : n ≡ port = operand_is i 10 port (place.Put n) next at in
       omega (arith, few, is, (shape.wiring.each_task i below).ports)
 
 -- ---- slots
-
--- a task's slots are few
-slot_count_few : (p : Plan) (count : Count) (i : ℕ) → slot_count count p i ≤ 265
-slot_count_few p Ranked i = omega (arith, links_few p.diagram (is_to_lower p.diagram.ranks i) p.rules.ranked.closed, delay_short p.diagram i p.rules.ranked.closed)
-slot_count_few p All i = omega (arith, links_few p.diagram (is_to_lower p.diagram.ranks i) p.rules.ranked.closed, links_few p.diagram (is_to_higher p.diagram.ranks i) p.rules.ranked.closed, delay_short p.diagram i p.rules.ranked.closed)
 
 pub aim_slot : (p : Plan) (count : Count) (s : State) (i slot : ℕ) → i < length p.diagram.tasks → rule.refusal (wiring_of p count) s (Aim i slot) ≡ None → slot < 265
 aim_slot p count s i slot named free =

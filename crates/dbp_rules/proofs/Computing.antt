@@ -5,25 +5,18 @@ use Rattle.dbp_plan.specs.declared.diagram.Task.{Task}
 use Rattle.dbp_plan.specs.Closed.{IsClosedSomewhere, let_base, place_count}
 use Rattle.sync_meaning.specs.Meaning.{AreStatesAfter, HasLets, outs_in}
 use Rattle.sync_meaning.specs.SomeMeaningEnvs.{IsEnvFrom, env_from, env_from-is, one_env, states_after, states_after-are, one_states_after}
+use Rattle.dbp_plan.specs.Places.{take_place}
 use Rattle.dbp_rules.specs.Work.{WorkWords}
-use Rattle.dbp_rules.specs.Moves.{computed}
-
--- an item in front of the cut is that of the whole list
-pub front_item : {X : Type 0} (xs : List X) (n j : ℕ) → j < n → slice_get (take n xs) j ≡ slice_get xs j
-front_item [] zero j below = absurd (omega arith)
-front_item [] (suc n) j below = refl
-front_item (x ∷ xs) zero j below = absurd (omega arith)
-front_item (x ∷ xs) (suc n) zero below = refl
-front_item (x ∷ xs) (suc n) (suc j) below = front_item xs n j (omega arith)
+use Rattle.dbp_rules.specs.Moves.{work_words_of}
 
 -- what an instance has computed are these functions of what it was given
 pub computed_is : (task : Task) (old : List ℤ) (w : WorkWords) → IsClosedSomewhere task → length old ≡ place_count task
     → length w.now ≡ length old → ((j : ℕ) → j < let_base task → slice_get w.now j ≡ slice_get old j) → HasLets task w.now
-    → AreStatesAfter task w.now (take (length task.states) w.now) w.later → w.row ≡ outs_in task w.now → w ≡ computed task (take (let_base task) old)
+    → AreStatesAfter task w.now (take (length task.states) w.now) w.later → w.row ≡ outs_in task w.now → w ≡ work_words_of task (take (let_base task) old)
 computed_is task old w (inputs, events, links, closed) size same given lets after outs =
     let front : List ℤ = take (let_base task) old in
     let fits : length front ≡ let_base task = length-take-le (let_base task) old (omega arith) in
-    let mine : IsEnvFrom task front w.now = record { size = same ∙ size; given_words = λ j below. given j below ∙ sym (front_item old (let_base task) j below); lets = lets } in
+    let mine : IsEnvFrom task front w.now = record { size = same ∙ size; given_words = λ j below. given j below ∙ sym (take_place old (let_base task) j below); lets = lets } in
     let env : w.now ≡ env_from task front = one_env task front w.now (env_from task front) closed.order mine (env_from-is task front closed.order fits) in
     let states : length (take (length task.states) w.now) ≡ length task.states = length-take-le (length task.states) w.now (omega arith) in
     let later : w.later ≡ states_after task w.now (take (length task.states) w.now) =

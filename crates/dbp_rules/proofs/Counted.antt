@@ -4,28 +4,19 @@ use Rattle.std.specs.Prelude.{count_by, slice_get}
 use Rattle.std.proofs.lemmas.Bool.{cases_Bool, eq-eqb, ne_eqb}
 use Rattle.std.proofs.lemmas.List.Sums.{count_by_more_no, count_by_more_yes}
 use Rattle.std.proofs.lemmas.Option.{get_or_from_slice_get, slice_get_within}
+use Rattle.dbp_plan.proofs.Counts.{count-more}
 use Rattle.release_list.specs.Schedule.{aims, is_aim}
 use Rattle.release_list.specs.declared.release.Release.{Release}
 use Rattle.release_list.specs.declared.release.Release.TheVariants.{Aim, Claim, OpenGate}
 
--- a count of what stands before a place, one place further
-pub count_more : {X : Type 0} (test : X → Bool) (xs : List X) (n : ℕ) (x : X) → slice_get xs n ≡ Some x → count_by test (take (n + 1) xs) ≡ count_by test (take n xs) + cond (test x) 1 0
-count_more test xs n x here =
-    let below : n < length xs = slice_get_within xs n x here in
-    let at : get_or xs n x ≡ x = get_or_from_slice_get xs n x x here in
-    elim (cases_Bool (test x)) [
-      | inl yes_ ↦ rw yes_ (count_by_more_yes test xs n x below (ap test at ∙ yes_))
-      | inr not_ ↦ rw not_ (count_by_more_no test xs n x below (ap test at ∙ not_) ∙ omega arith)
-    ]
-
 pub aims_same : (rs : List Release) (n i : ℕ) → slice_get rs n ≡ Some (Aim i) → aims rs (n + 1) i ≡ aims rs n i + 1
-aims_same rs n i here = count_more (is_aim i) rs n (Aim i) here ∙ rw (eq-eqb i i refl) refl
+aims_same rs n i here = count-more (is_aim i) rs n (Aim i) here ∙ rw (eq-eqb i i refl) refl
 
 pub aims_other : (rs : List Release) (n i j : ℕ) → slice_get rs n ≡ Some (Aim i) → j ≢ i → aims rs (n + 1) j ≡ aims rs n j
-aims_other rs n i j here other = count_more (is_aim j) rs n (Aim i) here ∙ rw (ne_eqb j i other) (omega arith)
+aims_other rs n i j here other = count-more (is_aim j) rs n (Aim i) here ∙ rw (ne_eqb j i other) (omega arith)
 
 pub aims_claim : (rs : List Release) (n k j : ℕ) → slice_get rs n ≡ Some (Claim k) → aims rs (n + 1) j ≡ aims rs n j
-aims_claim rs n k j here = count_more (is_aim j) rs n (Claim k) here ∙ omega arith
+aims_claim rs n k j here = count-more (is_aim j) rs n (Claim k) here ∙ omega arith
 
 pub aims_open : (rs : List Release) (n i j : ℕ) → slice_get rs n ≡ Some (OpenGate i) → aims rs (n + 1) j ≡ aims rs n j
-aims_open rs n i j here = count_more (is_aim j) rs n (OpenGate i) here ∙ omega arith
+aims_open rs n i j here = count-more (is_aim j) rs n (OpenGate i) here ∙ omega arith

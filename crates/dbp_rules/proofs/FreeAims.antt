@@ -6,6 +6,7 @@ use Rattle.std.proofs.lemmas.Bool.{and_parts, cases_Bool, cases_lt, eq-eqb, eqb-
 use Rattle.std.proofs.lemmas.List.{length-map, length-take-le}
 use Rattle.std.proofs.lemmas.List.Folds.{list_any_at}
 use Rattle.std.proofs.lemmas.List.Sums.{length-filter}
+use Rattle.std.proofs.Math.Bool.{or-true}
 use Rattle.dbp_plan.specs.declared.plan.Plan.{Plan}
 use Rattle.dbp_plan.specs.Lookups.{link_at, no_link}
 use Rattle.dbp_slots.proofs.FreeSlots.{one_free}
@@ -163,17 +164,13 @@ value_found passes value n a (suc len) is = elim (cases_Bool (passes a)) [
       value_later passes value n a len (value_found passes value n (a + 1) len rest)
 ]
 
-or_true : (b : Bool) → (b || true) ≡ true
-or_true true = refl
-or_true false = refl
-
 value_there : (passes : ℕ → Bool) (value : ℕ → ℕ) (n a len k : ℕ) → a ≤ k → k < a + len → passes k ≡ true → value k ≡ n → list_any (λ x. x == n) (map value (filter passes (range_with_len a len))) ≡ true
 value_there passes value n a zero k from below is at = absurd (omega arith)
 value_there passes value n a (suc len) k from below is at = elim (cases_lt a k) [
   | inl later ↦
       let rest : list_any (λ x. x == n) (map value (filter passes (range_with_len (a + 1) len))) ≡ true = value_there passes value n (a + 1) len k (omega arith) (omega arith) is at in
       elim (cases_Bool (passes a)) [
-        | inl yes_ ↦ rw (yes_, rest) (or_true (value a == n))
+        | inl yes_ ↦ rw (yes_, rest) (or-true (value a == n))
         | inr not_ ↦ rw (not_, rest) refl
       ]
   | inr here ↦

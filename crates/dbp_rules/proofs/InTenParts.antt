@@ -8,11 +8,11 @@ use Rattle.dbp_plan.specs.Occurrences.{times_of, time_of}
 use Rattle.dbp_plan.specs.Lookups.{link_at}
 use Rattle.release_list.specs.Schedule.{aims, seen_by}
 use Rattle.dbp_rules.specs.Moves.{heard_order}
-use Rattle.dbp_rules.specs.Places.{link, link_entry, order, task, task_entry, wired}
+use Rattle.dbp_rules.specs.Places.{link, link_entry, order, task, task_entry, wired, is_counted}
 use Rattle.dbp_rules.specs.Rules.{order_word}
-use Rattle.dbp_rules.specs.Shapes.{IsShape, OrderFits, PlaceIn, TaskShape, heard_by, link_in, running, slot_owner}
+use Rattle.dbp_rules.specs.Shapes.{IsShape, OrderFits, PlaceIn, TaskShape, heard_by, link_in, running_count, slot_owner}
 use Rattle.dbp_rules.specs.Sound.{Sound}
-use Rattle.dbp_rules.specs.SoundParts.{LinkSound, TaskSound, last_shut, passed, read_of}
+use Rattle.dbp_rules.specs.SoundParts.{LinkSound, TaskSound, last_shut, last_passed, read_of}
 use Rattle.dbp_rules.specs.TenParts.{HoldsInTenParts, IsOnCurrent, IsReleasedBefore, IsStanding, TaskChain, TaskWork, slot_of_claim}
 use Rattle.dbp_rules.specs.declared.parts.Order.{Order}
 use Rattle.dbp_rules.specs.declared.parts.Place.{Place}
@@ -20,14 +20,13 @@ use Rattle.dbp_rules.specs.declared.parts.Place.TheVariants as place
 use Rattle.dbp_rules.specs.declared.state.State.{State}
 use Rattle.dbp_rules.specs.declared.wiring.TaskWiring.{TaskWiring}
 use Rattle.dbp_rules.specs.declared.wiring.Wiring.{Wiring}
-use Rattle.dbp_rules.specs.Places.{is_counted}
 use Rattle.dbp_rules.proofs.SoundLooks.{come}
 use Rattle.dbp_rules.proofs.SoundOwn.{IsOwn, IsOwnRead, seen_aims}
 use Rattle.dbp_rules.proofs.SoundReading.{old_orders}
 
 -- ---- places
 
-rests_or_runs : (q : Place) → (running q ≡ 0) ⊎ (running q ≡ 1)
+rests_or_runs : (q : Place) → (running_count q ≡ 0) ⊎ (running_count q ≡ 1)
 rests_or_runs place.Idle = inl refl
 rests_or_runs (place.Hear n) = inr refl
 rests_or_runs (place.Look n) = inr refl
@@ -47,7 +46,7 @@ heard_most t (place.Put n) inside = omega arith
 heard_most t place.Done inside = omega arith
 heard_most t place.End inside = omega arith
 
-passed_some : (b : Bool) (known ended instance : ℕ) → passed b known ended < instance → 0 < instance
+passed_some : (b : Bool) (known ended instance : ℕ) → last_passed b known ended < instance → 0 < instance
 passed_some true known ended instance below = omega arith
 passed_some false known ended instance below = omega arith
 
@@ -195,7 +194,7 @@ module _ (p : Plan) (w : Wiring) (rows : ℕ → ℕ → List ℤ) (s : State) (
         let few : n < 1 + length (wired w i).links = omega (arith, inside, t.heard, heard_most (wired w i) (task s i).part.place t.place) in
         subst (λ (o : Order). OrderFits (wired w (slot_owner w i n)) o) (sym ((parts.chain i below).heard n inside)) (word_fits i n below few)
 
-    gate : (i : ℕ) → i < length w.tasks → (task s i).part.ended + running (task s i).part.place ≤ (task s i).words.gate
+    gate : (i : ℕ) → i < length w.tasks → (task s i).part.ended + running_count (task s i).part.place ≤ (task s i).words.gate
     gate i below =
         let c : TaskChain w s i (task_entry s i) (task s i) = parts.chain i below in
         elim (rests_or_runs (task s i).part.place) [

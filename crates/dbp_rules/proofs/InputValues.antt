@@ -16,7 +16,7 @@ use Rattle.std.proofs.lemmas.List.{length-take-le, set-append_right, take-append
 use Rattle.std.proofs.lemmas.List.Kept.{AllPairs-filter}
 use Rattle.std.proofs.lemmas.Option.{slice_get_within}
 use Rattle.dbp_plan.specs.declared.diagram.Task.{Task}
-use Rattle.sync_meaning.proofs.Counts.{take_push}
+use Rattle.dbp_plan.proofs.ListParts.{take_push}
 use Rattle.dbp_rules.specs.Moves.{with_now, with_senses}
 use Rattle.dbp_rules.specs.InputValues.{value_until}
 use Rattle.dbp_rules.specs.Work.{WorkWords}

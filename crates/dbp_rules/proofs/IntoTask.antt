@@ -1,5 +1,5 @@
 -- The links into a task: there are no more of them than of its reads, and each read's link is one of them.
-use Rattle.std.proofs.Common.{◌≡◌, ℕ, suc, ◌+◌, ◌<◌, ◌≤◌, Bool, true, false, All, List, [], ◌∷◌, length, get_or, slice_get, Some, refl, sym, ◌∙◌, ap, arith, inl, inr}
+use Rattle.std.proofs.Common.{◌≡◌, ℕ, suc, ◌+◌, ◌<◌, ◌≤◌, Bool, true, false, All, List, [], ◌∷◌, length, get_or, slice_get, Some, refl, sym, ◌∙◌, ap, subst, arith, inl, inr}
 use Rattle.std.specs.Prelude.{count_by, cond, ◌==◌, ◌||◌}
 use Rattle.std.specs.List.{list_any, position_or_len, range_with_len}
 use Rattle.std.proofs.lemmas.Bool.{cases_lt, cases_eq, eq-eqb, eqb-true, ne_eqb}
@@ -18,9 +18,9 @@ use Rattle.dbp_plan.specs.Lookups.{link_at, no_link}
 use Rattle.release_list.specs.Releases.{links_into}
 use Rattle.dbp_rules.specs.Wired.{links_at, task_at_end}
 use Rattle.dbp_rules.specs.declared.wiring.LinkEnd.{LinkEnd}
-use Rattle.dbp_rules.specs.declared.wiring.LinkEnd.TheVariants.{Reader}
-use Rattle.dbp_plan.proofs.Counts.{count-cons}
-use Rattle.release_list.proofs.Counts.{count-never}
+use Rattle.dbp_rules.specs.declared.wiring.LinkEnd.TheVariants.{Reader, Writer}
+use Rattle.dbp_rules.specs.declared.wiring.Wiring.{Wiring}
+use Rattle.dbp_plan.proofs.Counts.{count-cons, count-never}
 use Rattle.release_list.proofs.IntoLinks.{none_into, once_into}
 
 -- counts
@@ -62,6 +62,9 @@ links_below end links task =
     All-filter (λ k. task_at_end end (link_at links k) == task) (λ k. k < length links) (range_with_len 0 (length links)) (λ k d below.
     let fits : k < length links = omega (arith, length-range_with_len 0 (length links)) in
     rw (get_or-range_with_len 0 (length links) k d fits) (omega arith))
+
+pub leaving_below : (w : Wiring) (i n : ℕ) (ks : List ℕ) → ks ≡ links_at Writer w.links i → n < length ks → get_or ks n 0 < length w.links
+leaving_below w i n ks is inside = subst (λ (xs : List ℕ). All (λ k. k < length w.links) xs) (sym is) (links_below Writer w.links i) n 0 inside
 
 pub into_below : (links : List Link) (task : ℕ) → All (λ k. k < length links) (links_into links task)
 into_below links task = links_below Reader links task

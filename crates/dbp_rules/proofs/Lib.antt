@@ -5,6 +5,7 @@ pub mod LeadsLaws
 pub mod Aims
 pub mod Keeping
 pub mod Searches
+pub mod ShapeFacts
 pub mod Counted
 pub mod Frames
 pub mod TaskKept

@@ -19,23 +19,20 @@ use Rattle.dbp_rules.specs.declared.state.State.{State}
 use Rattle.dbp_rules.specs.declared.step.Step.{Step}
 use Rattle.dbp_rules.specs.declared.step.Step.TheVariants.{Seen, Aim, Claim, OpenGate, Start, Hear, Look, Take, Shut, Put, Done, End}
 use Rattle.dbp_rules.specs.declared.wiring.Wiring.{Wiring}
+use Rattle.dbp_rules.proofs.ShapeFacts.{place_in, word_ordered}
 use Rattle.dbp_rules.proofs.StepPlaces.{at_hear, at_look, at_take}
-use Rattle.dbp_rules.proofs.TableSizes.{is_slot, sizes_of_task, task_count}
+use Rattle.dbp_rules.proofs.TableSizes.{is_slot, is_word, sizes_of_task, task_count}
 use Rattle.dbp_rules.proofs.WordNumbers.{order_back, value_back}
 
 module _ (p : Plan) (w : Wiring) (s : State) (shape : IsShape p w s) where
   there : (i : ℕ) → i < length p.diagram.tasks → i < length w.tasks
   there i named = omega (arith, named, shape.wiring.tasks)
 
-  -- the place of a task, said otherwise, is one of its places
-  place_inside : (i : ℕ) (q : Place) → i < length w.tasks → (task s i).part.place ≡ q → PlaceIn (wired w i) q
-  place_inside i q below at = subst (λ (x : Place). PlaceIn (wired w i) x) at (shape.each_task i below).place
-
   -- ---- the word of an order
 
   -- the number of the order that is next is one of the task's
   hear_few : (i : ℕ) → i < length w.tasks → rule.refusal w s (Hear i) ≡ None → rule.hears_at (task s i).part.place ≤ length (wired w i).links
-  hear_few i below free = omega (arith, place_inside i (place.Hear (rule.hears_at (task s i).part.place)) below (at_hear w s i free))
+  hear_few i below free = omega (arith, place_in p w s shape i (place.Hear (rule.hears_at (task s i).part.place)) below (at_hear w s i free))
 
   order_inside : (i n : ℕ) → i < length w.tasks → n ≤ length (wired w i).links → IsWord (sizes_of_wiring w) (word_of_order w i n)
   order_inside i zero below few = omega (arith, task_count w)
@@ -44,10 +41,6 @@ module _ (p : Plan) (w : Wiring) (s : State) (shape : IsShape p w s) where
   order_there : (i n : ℕ) → value_in s (word_of_order w i n) ≡ order_value (rule.order_word w s i n)
   order_there i zero = refl
   order_there i (suc n) = refl
-
-  order_fits : (i n : ℕ) → i < length w.tasks → n ≤ length (wired w i).links → OrderFits (wired w (slot_owner w i n)) (rule.order_word w s i n)
-  order_fits i zero below few = (shape.each_task i below).aim
-  order_fits i (suc n) below few = (shape.each_link (link_in (wired w i) n) ((shape.wiring.each_task i below).into n (omega arith))).order
 
   owner_below : (i n : ℕ) → i < length w.tasks → n ≤ length (wired w i).links → slot_owner w i n < length w.tasks
   owner_below i zero below few = below
@@ -70,30 +63,27 @@ module _ (p : Plan) (w : Wiring) (s : State) (shape : IsShape p w s) where
   stamp_inside i r below free =
       let n : ℕ = rule.turn_at (task s i).part.place in
       let at : (task s i).part.place ≡ place.Look n = at_look w s i r free in
-      read_inside i n below (place_inside i (place.Look n) below at) (ap (heard_by (1 + length (wired w i).links)) at)
+      read_inside i n below (place_in p w s shape i (place.Look n) below at) (ap (heard_by (1 + length (wired w i).links)) at)
 
   port_inside : (i r : ℕ) → i < length w.tasks → rule.refusal w s (Take i r) ≡ None → IsWord (sizes_of_wiring w) (word_of_read w (task s i).part i (rule.turn_at (task s i).part.place))
   port_inside i r below free =
       let n : ℕ = rule.turn_at (task s i).part.place in
       let at : (task s i).part.place ≡ place.Take n = at_take w s i r free in
-      let few : n < length (wired w i).reads = place_inside i (place.Take n) below at in
+      let few : n < length (wired w i).reads = place_in p w s shape i (place.Take n) below at in
       let read : IsReadWired w (length (declared p i).reads) i (read_at (wired w i) n) = (shape.wiring.each_task i below).each_read n few in
       (read_inside i n below few (ap (heard_by (1 + length (wired w i).links)) at), rw (sizes_of_task w (read_at (wired w i) n).writer) read.port)
 
   -- ---- the laws
 
-  is_word : (v q : TableWord) → Some v ≡ Some q → IsWord (sizes_of_wiring w) v → IsWord (sizes_of_wiring w) q
-  is_word v q same = subst (λ (x : TableWord). IsWord (sizes_of_wiring w) x) (same_Some v q same)
-
   pub loaded_inside : (e : Step) (q : TableWord) → rule.IsNamed p.diagram e → rule.refusal w s e ≡ None → loaded_by w s e ≡ Some q → IsWord (sizes_of_wiring w) q
-  loaded_inside (Seen i) q named free is = is_word (ended i) q is (omega (arith, there i named, task_count w))
+  loaded_inside (Seen i) q named free is = is_word w (ended i) q is (omega (arith, there i named, task_count w))
   loaded_inside (Aim i slot) q named free is = absurd (cc (is))
   loaded_inside (Claim k) q named free is = absurd (cc (is))
   loaded_inside (OpenGate i) q named free is = absurd (cc (is))
-  loaded_inside (Start i) q named free is = is_word (gate i) q is (omega (arith, there i named, task_count w))
-  loaded_inside (Hear i) q named free is = is_word (word_of_order w i (rule.hears_at (task s i).part.place)) q is (order_inside i (rule.hears_at (task s i).part.place) (there i named) (hear_few i (there i named) free))
-  loaded_inside (Look i r) q named free is = is_word (stamp_of_read w (task s i).part i (rule.turn_at (task s i).part.place)) q is (stamp_inside i r (there i named) free)
-  loaded_inside (Take i r) q named free is = is_word (word_of_read w (task s i).part i (rule.turn_at (task s i).part.place)) q is (port_inside i r (there i named) free)
+  loaded_inside (Start i) q named free is = is_word w (gate i) q is (omega (arith, there i named, task_count w))
+  loaded_inside (Hear i) q named free is = is_word w (word_of_order w i (rule.hears_at (task s i).part.place)) q is (order_inside i (rule.hears_at (task s i).part.place) (there i named) (hear_few i (there i named) free))
+  loaded_inside (Look i r) q named free is = is_word w (stamp_of_read w (task s i).part i (rule.turn_at (task s i).part.place)) q is (stamp_inside i r (there i named) free)
+  loaded_inside (Take i r) q named free is = is_word w (word_of_read w (task s i).part i (rule.turn_at (task s i).part.place)) q is (port_inside i r (there i named) free)
   loaded_inside (Shut i) q named free is = absurd (cc (is))
   loaded_inside (Put i port) q named free is = absurd (cc (is))
   loaded_inside (Done i) q named free is = absurd (cc (is))
@@ -105,7 +95,7 @@ module _ (p : Plan) (w : Wiring) (s : State) (shape : IsShape p w s) where
     loads_order i below free =
         let n : ℕ = rule.hears_at (task s i).part.place in
         let less : n ≤ length (wired w i).links = hear_few i below free in
-        let fits : OrderFits (wired w (slot_owner w i n)) (rule.order_word w s i n) = order_fits i n below less in
+        let fits : OrderFits (wired w (slot_owner w i n)) (rule.order_word w s i n) = word_ordered p w s shape i n below less in
         let small : (rule.order_word w s i n).slot < 2 ^ 32 = omega (arith, fits.0, few (slot_owner w i n) (owner_below i n below less)) in
         let back : rule.order_word w s i n ≡ order_of (value_in s (word_of_order w i n)) = sym (order_back (rule.order_word w s i n) small) ∙ ap order_of (sym (order_there i n)) in
         ap (λ (o : Order). an_order o) back

@@ -4,19 +4,11 @@ use Rattle.std.specs.List.{enumerate_from}
 use Rattle.std.proofs.lemmas.List.{length-map, take_more}
 use Rattle.std.proofs.lemmas.List.FromFn.{length-enumerate_from, get_or-enumerate_from}
 use Rattle.std.proofs.lemmas.Option.{get_or_from_slice_get, slice_get-get_or, slice_get-map, slice_get_within}
-
-pub numbered_place : {X : Type 0} (xs : List X) (i : ℕ) (x : X) → slice_get xs i ≡ Some x → slice_get (enumerate_from 0 xs) i ≡ Some (i, x)
-numbered_place {X} xs i x at =
-    let below : i < length xs = slice_get_within xs i x at in
-    let item : get_or (enumerate_from 0 xs) i (0, x) ≡ (0 + i, get_or xs i x) = get_or-enumerate_from 0 xs i (0, x) below in
-    let same : get_or xs i x ≡ x = get_or_from_slice_get xs i x x at in
-    let number : 0 + i ≡ i = omega arith in
-    let inside : i < length (enumerate_from 0 xs) = omega (arith, length-enumerate_from 0 xs) in
-    slice_get-get_or (enumerate_from 0 xs) i (0, x) inside ∙ ap (λ (p : ℕ × X). Some p) (item ∙ ap (λ (n : ℕ). (n, get_or xs i x)) number ∙ ap (λ (y : X). (i, y)) same)
+use Rattle.dbp_plan.proofs.NumberedItems.{numbered-place}
 
 -- what is made of the item at a place
 pub made_place : {X Y : Type 0} (f : ℕ × X → Y) (xs : List X) (i : ℕ) (x : X) → slice_get xs i ≡ Some x → slice_get (map f (enumerate_from 0 xs)) i ≡ Some (f (i, x))
-made_place {X} {Y} f xs i x at = slice_get-map f (enumerate_from 0 xs) i ∙ ap (λ o. option_map f o) (numbered_place xs i x at)
+made_place {X} {Y} f xs i x at = slice_get-map f (enumerate_from 0 xs) i ∙ ap (λ o. option_map f o) (numbered-place xs i x at)
 
 pub made_or : {X Y : Type 0} (f : ℕ × X → Y) (xs : List X) (i : ℕ) (e : X) (d : Y) → i < length xs → get_or (map f (enumerate_from 0 xs)) i d ≡ f (i, get_or xs i e)
 made_or f xs i e d below =

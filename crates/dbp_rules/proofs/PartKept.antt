@@ -12,7 +12,7 @@ use Rattle.dbp_rules.specs.PartyRules as rule
 use Rattle.dbp_rules.specs.PartyRules.{Loaded, loaded_number, loaded_order}
 use Rattle.dbp_rules.specs.PartyShapes.{IsNamedIn, ReleaserLoads, ReleaserShape, TaskLoads, TaskPartShape}
 use Rattle.dbp_rules.specs.Places.{entry_in, link, no_link_entry, no_task_entry, wired}
-use Rattle.dbp_rules.specs.Shapes.{EntryShape, IsWired, OrderFits, PlaceIn, heard_by, place_number, running, slot_owner}
+use Rattle.dbp_rules.specs.Shapes.{EntryShape, IsWired, OrderFits, PlaceIn, heard_by, place_number, running_count, slot_owner}
 use Rattle.dbp_rules.specs.StepKinds.{kind_number, kind_of, subject_of}
 use Rattle.dbp_rules.specs.declared.parts.LinkEntry.{LinkEntry}
 use Rattle.dbp_rules.specs.declared.parts.Order.{Order}
@@ -38,7 +38,7 @@ use Rattle.dbp_rules.proofs.TaskKept.{GoesOn, goes_to_hear, goes_to_put, goes_to
 
 module _ (w : Wiring) (i : ℕ) (t : TaskPart) (ok : TaskPartShape w i t) where
   -- at another place of its instance, after all its hears
-  moved_part : (q : Place) → running t.place ≡ 1 → heard_by (1 + length (wired w i).links) t.place ≡ 1 + length (wired w i).links → GoesOn (wired w i) (1 + length (wired w i).links) q → TaskPartShape w i (move.at_place t q)
+  moved_part : (q : Place) → running_count t.place ≡ 1 → heard_by (1 + length (wired w i).links) t.place ≡ 1 + length (wired w i).links → GoesOn (wired w i) (1 + length (wired w i).links) q → TaskPartShape w i (move.at_place t q)
   moved_part q busy all goes = record {
     place = goes.inside;
     occurs = omega (arith, ok.occurs, busy, goes.busy);
@@ -59,7 +59,7 @@ module _ (w : Wiring) (i : ℕ) (t : TaskPart) (ok : TaskPartShape w i t) where
       let inside : PlaceIn (wired w i) (place.Hear n) = subst (λ (q : Place). PlaceIn (wired w i) q) at ok.place in
       let few : n ≤ length (wired w i).links = omega (arith, inside) in
       let size : length t.heard.items ≡ n = ok.heard ∙ ap (heard_by (1 + length (wired w i).links)) at in
-      let busy : running t.place ≡ 1 = ap running at in
+      let busy : running_count t.place ≡ 1 = ap running_count at in
       let goes : GoesOn (wired w i) (n + 1) (move.hear_place (wired w i) (n + 1)) = goes_to_hear (wired w i) n few in
       record {
         place = goes.inside;
@@ -72,13 +72,13 @@ module _ (w : Wiring) (i : ℕ) (t : TaskPart) (ok : TaskPartShape w i t) where
   looked_part n ready at = elim (cases_Bool ready) [
     | inl is ↦
         let inside : PlaceIn (wired w i) (place.Look n) = subst (λ (q : Place). PlaceIn (wired w i) q) at ok.place in
-        rw is (moved_part (place.Take n) (ap running at) (ap (heard_by (1 + length (wired w i).links)) at) (record { inside = inside; busy = refl; heard = refl }))
+        rw is (moved_part (place.Take n) (ap running_count at) (ap (heard_by (1 + length (wired w i).links)) at) (record { inside = inside; busy = refl; heard = refl }))
     | inr isnt ↦ rw isnt ok
   ]
 
   ended_part : t.place ≡ place.End → TaskPartShape w i (move.after_end t)
   ended_part at =
-      let busy : running t.place ≡ 1 = ap running at in
+      let busy : running_count t.place ≡ 1 = ap running_count at in
       record {
         place = omega arith;
         occurs = omega (arith, ok.occurs, busy);
@@ -87,8 +87,8 @@ module _ (w : Wiring) (i : ℕ) (t : TaskPart) (ok : TaskPartShape w i t) where
       }
 
   -- the place is the one of an allowed step
-  at_step : (e : Step) → rule.task_refusal (wired w i) t e ≡ None → t.place ≡ place_of (kind_number (kind_of e)) (place_number t.place)
-  at_step e free = at_next broken.TaskPlace (wired w i) t.place (kind_number (kind_of e)) (subject_of e) free
+  at_allowed : (e : Step) → rule.task_refusal (wired w i) t e ≡ None → t.place ≡ place_of (kind_number (kind_of e)) (place_number t.place)
+  at_allowed e free = at_next broken.TaskPlace (wired w i) t.place (kind_number (kind_of e)) (subject_of e) free
 
   at_hear : (n : ℕ) → t.place ≡ place.Hear n → t.place ≡ place.Hear (rule.hears_at t.place)
   at_hear n at = at ∙ ap (λ m. place.Hear m) (sym (ap rule.hears_at at))
@@ -101,22 +101,22 @@ module _ (w : Wiring) (i : ℕ) (t : TaskPart) (ok : TaskPartShape w i t) where
   task_part_kept some (Aim j slot) l free loads = ok
   task_part_kept some (Claim k) l free loads = ok
   task_part_kept some (OpenGate j) l free loads = ok
-  task_part_kept some (Start j) l free loads = started_part (loaded_number l) (at_step (Start j) free) loads
-  task_part_kept some (Hear j) l free loads = heard_part (rule.hears_at t.place) (loaded_order l) (at_hear (place_number t.place) (at_step (Hear j) free)) loads
-  task_part_kept some (Look j r) l free loads = looked_part (rule.turn_at t.place) (rule.is_stamp_of (rule.read_order_in (wired w i) t (rule.turn_at t.place)) (loaded_number l)) (at_look (place_number t.place) (at_step (Look j r) free))
+  task_part_kept some (Start j) l free loads = started_part (loaded_number l) (at_allowed (Start j) free) loads
+  task_part_kept some (Hear j) l free loads = heard_part (rule.hears_at t.place) (loaded_order l) (at_hear (place_number t.place) (at_allowed (Hear j) free)) loads
+  task_part_kept some (Look j r) l free loads = looked_part (rule.turn_at t.place) (rule.is_stamp_of (rule.read_order_in (wired w i) t (rule.turn_at t.place)) (loaded_number l)) (at_look (place_number t.place) (at_allowed (Look j r) free))
   task_part_kept some (Take j r) l free loads =
-      let at : t.place ≡ place.Take (place_number t.place) = at_step (Take j r) free in
-      moved_part (move.read_place (length (wired w i).reads) (rule.turn_at t.place + 1)) (ap running at) (ap (heard_by (1 + length (wired w i).links)) at) (goes_to_read (wired w i) (rule.turn_at t.place + 1))
+      let at : t.place ≡ place.Take (place_number t.place) = at_allowed (Take j r) free in
+      moved_part (move.read_place (length (wired w i).reads) (rule.turn_at t.place + 1)) (ap running_count at) (ap (heard_by (1 + length (wired w i).links)) at) (goes_to_read (wired w i) (rule.turn_at t.place + 1))
   task_part_kept some (Shut j) l free loads =
-      let at : t.place ≡ place.Shut = at_step (Shut j) free in
-      moved_part (place.Put 0) (ap running at) (ap (heard_by (1 + length (wired w i).links)) at) (record { inside = some; busy = refl; heard = refl })
+      let at : t.place ≡ place.Shut = at_allowed (Shut j) free in
+      moved_part (place.Put 0) (ap running_count at) (ap (heard_by (1 + length (wired w i).links)) at) (record { inside = some; busy = refl; heard = refl })
   task_part_kept some (Put j port) l free loads =
-      let at : t.place ≡ place.Put (place_number t.place) = at_step (Put j port) free in
-      moved_part (move.put_place (wired w i).ports (port + 1)) (ap running at) (ap (heard_by (1 + length (wired w i).links)) at) (goes_to_put (wired w i) (port + 1))
+      let at : t.place ≡ place.Put (place_number t.place) = at_allowed (Put j port) free in
+      moved_part (move.put_place (wired w i).ports (port + 1)) (ap running_count at) (ap (heard_by (1 + length (wired w i).links)) at) (goes_to_put (wired w i) (port + 1))
   task_part_kept some (Done j) l free loads =
-      let at : t.place ≡ place.Done = at_step (Done j) free in
-      moved_part place.End (ap running at) (ap (heard_by (1 + length (wired w i).links)) at) (record { inside = omega arith; busy = refl; heard = refl })
-  task_part_kept some (End j) l free loads = ended_part (at_step (End j) free)
+      let at : t.place ≡ place.Done = at_allowed (Done j) free in
+      moved_part place.End (ap running_count at) (ap (heard_by (1 + length (wired w i).links)) at) (record { inside = omega arith; busy = refl; heard = refl })
+  task_part_kept some (End j) l free loads = ended_part (at_allowed (End j) free)
 
 -- ---- the releaser's part
 

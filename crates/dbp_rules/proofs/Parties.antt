@@ -23,7 +23,7 @@ use Rattle.dbp_rules.specs.declared.step.Step.{Step}
 use Rattle.dbp_rules.specs.declared.step.Step.TheVariants.{Seen, Aim, Claim, OpenGate, Start, Hear, Look, Take, Shut, Put, Done, End}
 use Rattle.dbp_rules.specs.declared.wiring.Wiring.{Wiring}
 use Rattle.dbp_rules.proofs.Allowed.{at_next, or_else_none}
-use Rattle.dbp_rules.proofs.StateKept.{word_ordered}
+use Rattle.dbp_rules.proofs.ShapeFacts.{word_ordered}
 
 -- ---- refusals
 
@@ -32,12 +32,12 @@ or_else_nothing None = refl
 or_else_nothing (Some x) = refl
 
 -- where all links are counted no task blocks another
-not_blocked : (w : Wiring) (s : State) (i : ℕ) → w.count ≡ All → rule.unblocked w.count w s i ≡ None
-not_blocked w s i all = ap (λ (c : Count). rule.unblocked c w s i) all
+not_blocked : (w : Wiring) (s : State) (i : ℕ) → w.count ≡ All → rule.blocker_refusal w.count w s i ≡ None
+not_blocked w s i all = ap (λ (c : Count). rule.blocker_refusal c w s i) all
 
-forbidden_by : (w : Wiring) (s : State) (e : Step) (i j : ℕ) → w.count ≡ All → Some j ≡ Some i → rule.forbidden w s j e ≡ party.task_refusal (wired w i) (task s i).part e
+forbidden_by : (w : Wiring) (s : State) (e : Step) (i j : ℕ) → w.count ≡ All → Some j ≡ Some i → rule.ranked_refusal w s j e ≡ party.task_refusal (wired w i) (task s i).part e
 forbidden_by w s e i j all is =
-    subst (λ (n : ℕ). rule.forbidden w s j e ≡ party.task_refusal (wired w n) (task s n).part e) (same_Some j i is)
+    subst (λ (n : ℕ). rule.ranked_refusal w s j e ≡ party.task_refusal (wired w n) (task s n).part e) (same_Some j i is)
     (ap (rule.or_else (party.task_refusal (wired w j) (task s j).part e)) (not_blocked w s j all) ∙ or_else_nothing (party.task_refusal (wired w j) (task s j).part e))
 
 start_by : (w : Wiring) (s : State) (i : ℕ) → w.count ≡ All → rule.refusal w s (Start i) ≡ party.task_refusal (wired w i) (task s i).part (Start i)

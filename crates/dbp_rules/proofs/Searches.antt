@@ -6,6 +6,7 @@ use Rattle.std.proofs.lemmas.Bool.{cases_Bool}
 use Rattle.std.proofs.lemmas.List.{map-id}
 use Rattle.std.proofs.lemmas.List.Folds.{find-append}
 use Rattle.std.proofs.lemmas.List.FromFn.{map-range_with_len_more}
+use Rattle.dbp_plan.proofs.Searches.{find-filter}
 use Rattle.dbp_rules.specs.PartyRules.{least}
 
 -- a search that has gone past the first items
@@ -27,20 +28,6 @@ find_past f (x ∷ xs) (suc n) below none isnt = elim (cases_Bool (f x)) [
       ap (λ (m : ℕ). find f (take m (x ∷ xs))) one ∙ rw not_ (find_past f xs n (omega arith) rest isnt)
 ]
 
--- what is found among those that pass a wider test is found among all
-find_filter : (wide f : ℕ → Bool) → ((k : ℕ) → f k ≡ true → wide k ≡ true) → (xs : List ℕ) → find f (filter wide xs) ≡ find f xs
-find_filter wide f within [] = refl
-find_filter wide f within (x ∷ xs) = elim (cases_Bool (wide x)) [
-  | inl yes_ ↦ elim (cases_Bool (f x)) [
-    | inl is ↦ rw (yes_, is) refl
-    | inr isnt ↦ rw (yes_, isnt) (find_filter wide f within xs)
-  ]
-  | inr not_ ↦ elim (cases_Bool (f x)) [
-    | inl is ↦ let bad : wide x ≡ true = within x is in absurd (cc (bad, not_))
-    | inr isnt ↦ rw (not_, isnt) (find_filter wide f within xs)
-  ]
-]
-
 -- one number more
 range_more : (n : ℕ) → range_with_len 0 (suc n) ≡ range_with_len 0 n ++ n ∷ []
 range_more n =
@@ -56,4 +43,4 @@ find_least f (suc n) =
     ap (find f) (range_more n) ∙ find-append f (range_with_len 0 n) (n ∷ []) ∙ ap (λ (o : Option ℕ). option_or o (find f (n ∷ []))) (find_least f n)
 
 pub find_among : (wide f : ℕ → Bool) (n : ℕ) → ((k : ℕ) → f k ≡ true → wide k ≡ true) → find f (filter wide (range_with_len 0 n)) ≡ least f n
-find_among wide f n within = find_filter wide f within (range_with_len 0 n) ∙ find_least f n
+find_among wide f n within = find-filter f wide within (range_with_len 0 n) ∙ find_least f n

@@ -7,9 +7,9 @@ use Rattle.dbp_rules.specs.Moves.{own_slot}
 use Rattle.dbp_rules.specs.Places.{link, link_entry, read_at, task, task_entry, wired}
 use Rattle.dbp_rules.specs.Promises.{IsClaimFilled}
 use Rattle.dbp_rules.specs.Rules as rule
-use Rattle.dbp_rules.specs.Shapes.{TaskShape, heard_by, running}
+use Rattle.dbp_rules.specs.Shapes.{TaskShape, heard_by, running_count}
 use Rattle.dbp_rules.specs.Sound.{Sound}
-use Rattle.dbp_rules.specs.SoundParts.{Stands, TaskSound, meant}
+use Rattle.dbp_rules.specs.SoundParts.{Stands, TaskSound, meant_word}
 use Rattle.dbp_rules.specs.declared.parts.Place.{Place}
 use Rattle.dbp_rules.specs.declared.parts.Place.TheVariants as place
 use Rattle.dbp_rules.specs.declared.state.State.{State}
@@ -21,7 +21,8 @@ use Rattle.dbp_rules.specs.declared.wiring.Wiring.{Wiring}
 use Rattle.dbp_rules.proofs.Allowed.{next_none, or_else_none}
 use Rattle.dbp_rules.proofs.SoundLooks.{claims_next, delayed_ready, filled_ready, ranked_ready, ready_filled}
 use Rattle.dbp_rules.proofs.SoundOwn.{IsOwn}
-use Rattle.dbp_rules.proofs.SoundReading.{at_look, at_take, take_word}
+use Rattle.dbp_rules.proofs.SoundReading.{take_word}
+use Rattle.dbp_rules.proofs.StepPlaces.{at_look, at_take}
 use Rattle.dbp_rules.proofs.SoundWriting.{own_current}
 
 module _ (p : Plan) (w : Wiring) (rows : ℕ → ℕ → List ℤ) (s : State) (own : IsOwn p w) (sound : Sound p w rows s) where
@@ -30,13 +31,13 @@ module _ (p : Plan) (w : Wiring) (rows : ℕ → ℕ → List ℤ) (s : State) (
   named_read i r kind next q at = ap (λ (x : Place). (rule.place_kind (wired w i) x).1) (sym at) ∙ (next_none broken.TaskPlace (rule.place_kind (wired w i) (task s i).part.place) kind r next).1
 
   -- each allowed take hears the word that the meaning gives the read in the running instance
-  pub take_hears : (i r : ℕ) → i < length p.diagram.tasks → rule.refusal w s (Take i r) ≡ None → rule.hears w s (Take i r) ≡ heard.Word (meant p rows i ((task s i).part.ended + 1) (get_or (declared p i).reads r no_read))
+  pub take_hears : (i r : ℕ) → i < length p.diagram.tasks → rule.refusal w s (Take i r) ≡ None → rule.hears w s (Take i r) ≡ heard.Word (meant_word p rows i ((task s i).part.ended + 1) (get_or (declared p i).reads r no_read))
   take_hears i r named free =
       let below : i < length w.tasks = omega (arith, named, own.whole.tasks) in
       let n : ℕ = rule.turn_at (task s i).part.place in
-      let at : (task s i).part.place ≡ place.Take n = at_take p w rows s own sound i r free in
+      let at : (task s i).part.place ≡ place.Take n = at_take w s i r free in
       let read : (read_at (wired w i) n).read ≡ r = named_read i r 8 (or_else_none (rule.steps_next w s i 8 r) _ free).0 (place.Take n) at in
-      ap (λ (x : ℤ). heard.Word x) (take_word p w rows s own sound i n below at ∙ ap (λ (m : ℕ). meant p rows i ((task s i).part.ended + 1) (get_or (declared p i).reads m no_read)) read)
+      ap (λ (x : ℤ). heard.Word x) (take_word p w rows s own sound i n below at ∙ ap (λ (m : ℕ). meant_word p rows i ((task s i).part.ended + 1) (get_or (declared p i).reads m no_read)) read)
 
   ready_hears : (i r : ℕ) → rule.is_ready w s i (rule.turn_at (task s i).part.place) ≡ true → rule.hears w s (Look i r) ≡ heard.Ready
   ready_hears i r is = rw is refl
@@ -52,7 +53,7 @@ module _ (p : Plan) (w : Wiring) (rows : ℕ → ℕ → List ℤ) (s : State) (
   filled_hears i r named free filled =
       let below : i < length w.tasks = omega (arith, named, own.whole.tasks) in
       let n : ℕ = rule.turn_at (task s i).part.place in
-      let at : (task s i).part.place ≡ place.Look n = at_look p w rows s own sound i r free in
+      let at : (task s i).part.place ≡ place.Look n = at_look w s i r free in
       let read : (read_at (wired w i) n).read ≡ r = named_read i r 7 (or_else_none (rule.steps_next w s i 7 r) _ free).0 (place.Look n) at in
       ready_hears i r (filled_ready p w rows s own sound i n below at (subst (λ (m : ℕ). IsClaimFilled w s (get_or (declared p i).reads m no_read).link) (sym read) filled))
 
@@ -61,7 +62,7 @@ module _ (p : Plan) (w : Wiring) (rows : ℕ → ℕ → List ℤ) (s : State) (
   hears_filled i r named free is =
       let below : i < length w.tasks = omega (arith, named, own.whole.tasks) in
       let n : ℕ = rule.turn_at (task s i).part.place in
-      let at : (task s i).part.place ≡ place.Look n = at_look p w rows s own sound i r free in
+      let at : (task s i).part.place ≡ place.Look n = at_look w s i r free in
       let read : (read_at (wired w i) n).read ≡ r = named_read i r 7 (or_else_none (rule.steps_next w s i 7 r) _ free).0 (place.Look n) at in
       subst (λ (m : ℕ). IsClaimFilled w s (get_or (declared p i).reads m no_read).link) read (ready_filled p w rows s own sound i n below at (hears_ready i r is))
 
@@ -70,7 +71,7 @@ module _ (p : Plan) (w : Wiring) (rows : ℕ → ℕ → List ℤ) (s : State) (
   delayed_hears i r named free late =
       let below : i < length w.tasks = omega (arith, named, own.whole.tasks) in
       let n : ℕ = rule.turn_at (task s i).part.place in
-      let at : (task s i).part.place ≡ place.Look n = at_look p w rows s own sound i r free in
+      let at : (task s i).part.place ≡ place.Look n = at_look w s i r free in
       let read : (read_at (wired w i) n).read ≡ r = named_read i r 7 (or_else_none (rule.steps_next w s i 7 r) _ free).0 (place.Look n) at in
       ready_hears i r (delayed_ready p w rows s own sound i n below at (subst (λ (m : ℕ). 0 < (link w (get_or (declared p i).reads m no_read).link).delay) (sym read) late))
 
@@ -79,11 +80,11 @@ module _ (p : Plan) (w : Wiring) (rows : ℕ → ℕ → List ℤ) (s : State) (
   ranked_hears i r named ranked free =
       let below : i < length w.tasks = omega (arith, named, own.whole.tasks) in
       let n : ℕ = rule.turn_at (task s i).part.place in
-      let at : (task s i).part.place ≡ place.Look n = at_look p w rows s own sound i r free in
-      ready_hears i r (ranked_ready p w rows s own sound i n below at ranked (or_else_none (rule.steps_next w s i 7 r) (rule.unblocked w.count w s i) free).1)
+      let at : (task s i).part.place ≡ place.Look n = at_look w s i r free in
+      ready_hears i r (ranked_ready p w rows s own sound i n below at ranked (or_else_none (rule.steps_next w s i 7 r) (rule.blocker_refusal w.count w s i) free).1)
 
   -- a task that may step, and has heard its orders, fills no slot that a claim of an instance which may still read names, but for a claim of the very row that it fills
-  pub claimed_apart : (i k : ℕ) → k < length w.links → (link w k).writer ≡ i → running (task s i).part.place ≡ 1 → heard_by (1 + length (wired w i).links) (task s i).part.place ≡ 1 + length (wired w i).links → rule.unblocked w.count w s i ≡ None
+  pub claimed_apart : (i k : ℕ) → k < length w.links → (link w k).writer ≡ i → running_count (task s i).part.place ≡ 1 → heard_by (1 + length (wired w i).links) (task s i).part.place ≡ 1 + length (wired w i).links → rule.blocker_refusal w.count w s i ≡ None
       → Stands w k (link_entry s k) (task_entry s (link w k).reader) (task s (link w k).reader) → (link_entry s k).slot ≡ own_slot (task s i).part → (link_entry s k).number ≡ (task s i).part.ended + 1
   claimed_apart i k fits is busy all free stands here =
       let below : i < length w.tasks = subst (λ (x : ℕ). x < length w.tasks) is (own.whole.writer k fits) in

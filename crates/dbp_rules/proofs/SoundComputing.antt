@@ -11,9 +11,10 @@ use Rattle.dbp_plan.specs.Lookups.{declared, no_declared, no_read}
 use Rattle.sync_meaning.specs.Meaning.{outs_in}
 use Rattle.sync_meaning.specs.SomeMeaningEnvs.{IsEnvFrom, env_from-is, states_after}
 use Rattle.sync_meaning.specs.SomeMeaningRows.{Solves, env_at, given_at, states_at, states_at-more, word_at}
+use Rattle.dbp_plan.specs.Places.{same_item}
 use Rattle.dbp_rules.specs.Moves as move
 use Rattle.dbp_rules.specs.Places.{read_at, time, wired}
-use Rattle.dbp_rules.specs.SoundParts.{meant, place_of_read, read_of}
+use Rattle.dbp_rules.specs.SoundParts.{meant_word, place_of_read, read_of}
 use Rattle.dbp_rules.specs.Work.{WorkWords}
 use Rattle.dbp_rules.specs.declared.wiring.Wiring.{Wiring}
 use Rattle.dbp_rules.proofs.SoundOwn.{IsOwn}
@@ -25,20 +26,11 @@ take_rest (x ∷ xs) ys (suc n) r size =
     let more : suc n + r ≡ suc (n + r) = omega arith in
     rw more (ap (λ zs. x ∷ zs) (take_rest xs ys n r (omega arith)))
 
-same_word : (xs ys : List ℤ) (v : ℕ) → slice_get xs v ≡ slice_get ys v → get_or xs v (pos 0) ≡ get_or ys v (pos 0)
-same_word [] [] v same = refl
-same_word [] (y ∷ ys) zero same = absurd (cc (same))
-same_word [] (y ∷ ys) (suc v) same = same_word [] ys v same
-same_word (x ∷ xs) [] zero same = absurd (cc (same))
-same_word (x ∷ xs) [] (suc v) same = same_word xs [] v same
-same_word (x ∷ xs) (y ∷ ys) zero same = same_Some _ _ same
-same_word (x ∷ xs) (y ∷ ys) (suc v) same = same_word xs ys v same
-
 -- what a task has to compute with in its instance m + 1: its states after m instances, and the words that the meaning gives its reads
 pub record HasItsWords (p : Plan) (w : Wiring) (rows : ℕ → ℕ → List ℤ) (i m : ℕ) (work : WorkWords) : Type 0 where
   pub size : length work.now ≡ place_count (declared p i)
   pub states : take (length (declared p i).states) work.now ≡ states_at p.diagram p.samples p.batches rows i (declared p i) m
-  pub taken : (n : ℕ) → n < length (wired w i).reads → get_or work.now (place_of_read p w i n) (pos 0) ≡ meant p rows i (m + 1) (read_of p w i n)
+  pub taken : (n : ℕ) → n < length (wired w i).reads → get_or work.now (place_of_read p w i n) (pos 0) ≡ meant_word p rows i (m + 1) (read_of p w i n)
 
 -- what it has computed in that instance: the row, and its next states; what it has computed with stays
 pub record HasComputed (p : Plan) (w : Wiring) (rows : ℕ → ℕ → List ℤ) (i m : ℕ) (work : WorkWords) : Type 0 where
@@ -54,8 +46,8 @@ module _ (p : Plan) (w : Wiring) (rows : ℕ → ℕ → List ℤ) (own : IsOwn 
   abbrev now : ℕ
   now = get_or (times_of p.batches i) m 0
 
-  abbrev sensed : List ℤ
-  sensed = map (λ x. input_value p.diagram.inputs p.samples x.input now) d.senses
+  abbrev sense_values : List ℤ
+  sense_values = map (λ x. input_value p.diagram.inputs p.samples x.input now) d.senses
 
   abbrev states : List ℤ
   states = states_at p.diagram p.samples p.batches rows i d m
@@ -72,7 +64,7 @@ module _ (p : Plan) (w : Wiring) (rows : ℕ → ℕ → List ℤ) (own : IsOwn 
   states_size : length states ≡ length d.states
   states_size = ap length (sym has.states) ∙ length-take-le (length d.states) work.now (omega (arith, has.size))
 
-  sensed_size : length sensed ≡ length d.senses
+  sensed_size : length sense_values ≡ length d.senses
   sensed_size = length-map d.senses _
 
   words_size : length words ≡ length d.reads
@@ -82,16 +74,16 @@ module _ (p : Plan) (w : Wiring) (rows : ℕ → ℕ → List ℤ) (own : IsOwn 
   read_word : (j : ℕ) → j < length d.reads → get_or work.now (length d.states + length d.senses + j) (pos 0) ≡ get_or words j (pos 0)
   read_word j inside =
       let n : (n : ℕ) × (n < length (wired w i).reads) × ((read_at (wired w i) n).read ≡ j) = own.turned i j below inside in
-      let taken : get_or work.now (place_of_read p w i n.0) (pos 0) ≡ meant p rows i (m + 1) (read_of p w i n.0) = has.taken n.0 n.1 in
+      let taken : get_or work.now (place_of_read p w i n.0) (pos 0) ≡ meant_word p rows i (m + 1) (read_of p w i n.0) = has.taken n.0 n.1 in
       let time : m + 1 - 1 ≡ m = omega arith in
       ap (λ (x : ℕ). get_or work.now (length d.states + length d.senses + x) (pos 0)) (sym n.2)
       ∙ taken
-      ∙ ap (λ (x : ℕ). meant p rows i (m + 1) (get_or d.reads x no_read)) n.2
+      ∙ ap (λ (x : ℕ). meant_word p rows i (m + 1) (get_or d.reads x no_read)) n.2
       ∙ ap (λ (x : ℕ). word_at p.diagram p.samples p.batches rows (get_or (times_of p.batches i) x 0) (get_or d.reads j no_read)) time
       ∙ sym (get_or-map (word_at p.diagram p.samples p.batches rows now) d.reads j no_read (pos 0) inside)
 
   -- what the instance begins with
-  given_is : (senses : List ℤ) → senses ≡ sensed → take (let_base d) (move.with_senses d senses work).now ≡ given
+  given_is : (senses : List ℤ) → senses ≡ sense_values → take (let_base d) (move.with_senses d senses work).now ≡ given
   given_is senses same =
       let size : length senses ≡ length d.senses = ap length same ∙ sensed_size in
       let front : List ℤ = take (length d.states) work.now in
@@ -111,10 +103,10 @@ module _ (p : Plan) (w : Wiring) (rows : ℕ → ℕ → List ℤ) (own : IsOwn 
       ∙ take_rest (front ++ senses) rest (length d.states + length d.senses) (length d.reads) joined
       ∙ ap (λ xs. (front ++ senses) ++ xs) reads
       ∙ ap (λ xs. (front ++ xs) ++ words) same
-      ∙ ap (λ xs. (xs ++ sensed) ++ words) has.states
+      ∙ ap (λ xs. (xs ++ sense_values) ++ words) has.states
 
   given_size : length given ≡ let_base d
-  given_size = length-append (states ++ sensed) words ∙ omega (arith, length-append states sensed, states_size, sensed_size, words_size)
+  given_size = length-append (states ++ sense_values) words ∙ omega (arith, length-append states sense_values, states_size, sensed_size, words_size)
 
   env_is : IsEnvFrom d given env
   env_is = env_from-is d given (own.whole.each_task i below).closed.order given_size
@@ -126,18 +118,18 @@ module _ (p : Plan) (w : Wiring) (rows : ℕ → ℕ → List ℤ) (own : IsOwn 
       ext_get_or (pos 0) (take (length d.states) env) states (size ∙ sym states_size) (λ j less.
       let inside : j < length d.states = omega arith in
       get_or-take (length d.states) env j (pos 0) inside
-      ∙ same_word env given j (env_is.given_words j (omega arith))
-      ∙ get_or_append_left (states ++ sensed) words (pos 0) j (omega (arith, length-append states sensed, states_size))
-      ∙ get_or_append_left states sensed (pos 0) j (omega (arith, states_size)))
+      ∙ same_item env given j (pos 0) (env_is.given_words j (omega arith))
+      ∙ get_or_append_left (states ++ sense_values) words (pos 0) j (omega (arith, length-append states sense_values, states_size))
+      ∙ get_or_append_left states sense_values (pos 0) j (omega (arith, states_size)))
 
-  env_reads : (n : ℕ) → n < length (wired w i).reads → get_or env (place_of_read p w i n) (pos 0) ≡ meant p rows i (m + 1) (read_of p w i n)
+  env_reads : (n : ℕ) → n < length (wired w i).reads → get_or env (place_of_read p w i n) (pos 0) ≡ meant_word p rows i (m + 1) (read_of p w i n)
   env_reads n few =
       let r : ℕ = (read_at (wired w i) n).read in
       let inside : r < length d.reads = ((own.whole.each_task i below).each_read n few).read in
-      let joined : length (states ++ sensed) ≡ length d.states + length d.senses = length-append states sensed ∙ omega (arith, states_size, sensed_size) in
-      same_word env given (place_of_read p w i n) (env_is.given_words (place_of_read p w i n) (omega arith))
+      let joined : length (states ++ sense_values) ≡ length d.states + length d.senses = length-append states sense_values ∙ omega (arith, states_size, sensed_size) in
+      same_item env given (place_of_read p w i n) (pos 0) (env_is.given_words (place_of_read p w i n) (omega arith))
       ∙ ap (λ (x : ℕ). get_or given (x + r) (pos 0)) (sym joined)
-      ∙ get_or-append-add (states ++ sensed) words r (pos 0)
+      ∙ get_or-append-add (states ++ sense_values) words r (pos 0)
       ∙ sym (read_word r inside)
       ∙ has.taken n few
 
@@ -154,13 +146,13 @@ module _ (p : Plan) (w : Wiring) (rows : ℕ → ℕ → List ℤ) (own : IsOwn 
       ∙ ap (λ (n : ℕ). states_at p.diagram p.samples p.batches rows i d n) (sym one)
 
   -- the senses at the time of the instance
-  senses_are : map (λ x. input_value p.diagram.inputs p.samples x.input (time (wired w i) (m + 1))) d.senses ≡ sensed
+  senses_are : map (λ x. input_value p.diagram.inputs p.samples x.input (time (wired w i) (m + 1))) d.senses ≡ sense_values
   senses_are =
       let one : m + 1 - 1 ≡ m = omega arith in
       ap (λ (t : ℕ). map (λ x. input_value p.diagram.inputs p.samples x.input t) d.senses)
       (ap (λ (ts : List ℕ). get_or ts (m + 1 - 1) 0) (own.whole.each_task i below).times ∙ ap (λ (n : ℕ). get_or (times_of p.batches i) n 0) one)
 
-  computed_is : HasComputed p w rows i m (move.computed d given)
+  computed_is : HasComputed p w rows i m (move.work_words_of d given)
   computed_is = record {
     given = record { size = env_is.size; states = env_states; taken = env_reads };
     row = row_is;
@@ -168,7 +160,7 @@ module _ (p : Plan) (w : Wiring) (rows : ℕ → ℕ → List ℤ) (own : IsOwn 
   }
 
   -- what it computes with the values of its senses at that time is what the meaning computes
-  pub worked_is : HasComputed p w rows i m (move.worked d (map (λ x. input_value p.diagram.inputs p.samples x.input (time (wired w i) (m + 1))) d.senses) work)
+  pub worked_is : HasComputed p w rows i m (move.after_compute d (map (λ x. input_value p.diagram.inputs p.samples x.input (time (wired w i) (m + 1))) d.senses) work)
   worked_is =
       let senses : List ℤ = map (λ x. input_value p.diagram.inputs p.samples x.input (time (wired w i) (m + 1))) d.senses in
-      subst (λ (g : List ℤ). HasComputed p w rows i m (move.computed d g)) (sym (given_is senses senses_are)) computed_is
+      subst (λ (g : List ℤ). HasComputed p w rows i m (move.work_words_of d g)) (sym (given_is senses senses_are)) computed_is

@@ -6,8 +6,8 @@ use Rattle.dbp_plan.specs.Lookups.{declared}
 use Rattle.sync_meaning.specs.SomeMeaningRows.{states_at}
 use Rattle.dbp_rules.specs.Moves as move
 use Rattle.dbp_rules.specs.Places.{is_counted, link, slot_at, wired}
-use Rattle.dbp_rules.specs.Shapes.{link_in, running}
-use Rattle.dbp_rules.specs.SoundParts.{LinkSound, TaskSound, filled_by, last_filled, last_shut, meant, passed, place_of_read, put_by, read_of, shut_by, taken_by}
+use Rattle.dbp_rules.specs.Shapes.{link_in, running_count}
+use Rattle.dbp_rules.specs.SoundParts.{LinkSound, TaskSound, filled_by, last_filled, last_shut, meant_word, last_passed, place_of_read, put_by, read_of, shut_by, taken_by}
 use Rattle.dbp_rules.specs.Work.{WorkWords}
 use Rattle.dbp_rules.specs.declared.parts.LinkEntry.{LinkEntry}
 use Rattle.dbp_rules.specs.declared.parts.Place.{Place}
@@ -21,7 +21,7 @@ use Rattle.dbp_rules.specs.declared.wiring.Wiring.{Wiring}
 -- ---- places
 
 -- a task that isn't running is idle
-pub idle : (q : Place) → running q ≡ 0 → q ≡ Idle
+pub idle : (q : Place) → running_count q ≡ 0 → q ≡ Idle
 idle Idle none = refl
 idle (Hear n) none = absurd (omega (arith, none))
 idle (Look n) none = absurd (omega (arith, none))
@@ -41,7 +41,7 @@ filled_shut (Put n) = omega arith
 filled_shut Done = omega arith
 filled_shut End = omega arith
 
-pub shut_running : (q : Place) → shut_by q ≤ running q
+pub shut_running : (q : Place) → shut_by q ≤ running_count q
 shut_running Idle = omega arith
 shut_running (Hear n) = omega arith
 shut_running (Look n) = omega arith
@@ -108,7 +108,7 @@ writer_same p w k c v u writer other e reader slots current aimed filled shut ol
   ready = λ n at here. rw slots (old.ready n at here);
 }
 
-pub passed_more : (b : Bool) (known ended more further : ℕ) → known ≤ more → ended ≤ further → passed b known ended ≤ passed b more further
+pub passed_more : (b : Bool) (known ended more further : ℕ) → known ≤ more → ended ≤ further → last_passed b known ended ≤ last_passed b more further
 passed_more true known ended more further first second = first
 passed_more false known ended more further first second = second
 
@@ -118,7 +118,7 @@ pub reader_on : (p : Plan) (w : Wiring) (k : ℕ) (c : LinkEntry) (v : TaskEntry
     → ((n : ℕ) → other.part.place ≡ Take n → (read_of p w (link w k).reader n).link ≡ k → (slot_at writer.words.slots c.slot).stamp ≡ c.number + 1)
     → LinkSound p w k c v writer e reader → LinkSound p w k c v writer f other
 reader_on p w k c v writer e f reader other known ended heard ready old =
-    let more : passed (is_counted w k) e.known reader.words.ended ≤ passed (is_counted w k) f.known other.words.ended = passed_more (is_counted w k) e.known reader.words.ended f.known other.words.ended known ended in
+    let more : last_passed (is_counted w k) e.known reader.words.ended ≤ last_passed (is_counted w k) f.known other.words.ended = passed_more (is_counted w k) e.known reader.words.ended f.known other.words.ended known ended in
     record {
       holds = λ stands. old.holds (omega arith);
       current = λ stands here. old.current (omega arith) here;
@@ -132,7 +132,7 @@ pub task_goes : (p : Plan) (w : Wiring) (rows : ℕ → ℕ → List ℤ) (i : �
     → IsEarly t.part.place → IsEarly part.place → part.ended ≡ t.part.ended
     → (0 < length part.heard.items → move.heard_order part 0 ≡ t.words.aim)
     → take (length (declared p i).states) work.now ≡ take (length (declared p i).states) t.work.now
-    → ((n : ℕ) → n < taken_by (length (wired w i).reads) part.place → get_or work.now (place_of_read p w i n) (pos 0) ≡ meant p rows i (t.part.ended + 1) (read_of p w i n))
+    → ((n : ℕ) → n < taken_by (length (wired w i).reads) part.place → get_or work.now (place_of_read p w i n) (pos 0) ≡ meant_word p rows i (t.part.ended + 1) (read_of p w i n))
     → work.row ≡ t.work.row
     → TaskSound p w rows i e (record { words = t.words; part = part; work = work })
 task_goes p w rows i e t part work ok from to same heard states taken row = record {
@@ -148,7 +148,7 @@ task_goes p w rows i e t part work ok from to same heard states taken row = reco
   kept = ok.kept;
   kept_apart = ok.kept_apart;
   states = states ∙ ok.states ∙ ap (λ n. states_at p.diagram p.samples p.batches rows i (declared p i) n) (sym same);
-  taken = λ n below. taken n below ∙ ap (λ m. meant p rows i (m + 1) (read_of p w i n)) (sym same);
+  taken = λ n below. taken n below ∙ ap (λ m. meant_word p rows i (m + 1) (read_of p w i n)) (sym same);
   row = row ∙ ok.row ∙ ap (rows i) (omega (arith, from.shut, to.shut, same));
   later = λ some. absurd (omega (arith, to.shut));
 }

@@ -11,7 +11,7 @@ use Rattle.sync_meaning.specs.SomeMeaningTables.{rows_in}
 use Rattle.dbp_rules.specs.Moves as move
 use Rattle.dbp_rules.specs.Places.{slot_at, task, task_entry, wired}
 use Rattle.dbp_rules.specs.Rules as rule
-use Rattle.dbp_rules.specs.Shapes.{TaskShape, heard_by, running}
+use Rattle.dbp_rules.specs.Shapes.{TaskShape, heard_by, running_count}
 use Rattle.dbp_rules.specs.Sound.{Sound}
 use Rattle.dbp_rules.specs.SoundParts.{TaskSound, filled_by, taken_by}
 use Rattle.dbp_rules.specs.Wired.{wiring_of}
@@ -38,17 +38,17 @@ module _ (p : Plan) (w : Wiring) (rows : ℕ → ℕ → List ℤ) (s : State) (
       let below : i < length w.tasks = omega (arith, named, own.whole.tasks) in
       let ok : TaskSound p w rows i (task_entry s i) (task s i) = sound.tasks i below in
       let fits : TaskShape w (declared p i) i (task_entry s i).aimed (task s i) = sound.shape.each_task i below in
-      let both = or_else_none (rule.steps_next w s i 9 0) (rule.unblocked w.count w s i) free in
+      let both = or_else_none (rule.steps_next w s i 9 0) (rule.blocker_refusal w.count w s i) free in
       let at : (task s i).part.place ≡ place.Shut = at_next broken.TaskPlace (wired w i) (task s i).part.place 9 0 both.0 in
       let all : heard_by (1 + length (wired w i).links) (task s i).part.place ≡ 1 + length (wired w i).links = ap (heard_by (1 + length (wired w i).links)) at in
       let from : filled_by (task s i).part.place ≡ 0 = ap filled_by at in
-      let busy : running (task s i).part.place ≡ 1 = ap running at in
+      let busy : running_count (task s i).part.place ≡ 1 = ap running_count at in
       let taken : taken_by (length (wired w i).reads) (task s i).part.place ≡ length (wired w i).reads = ap (taken_by (length (wired w i).reads)) at in
       let few : (task_entry s i).aimed ≤ length (times_of p.batches i) = omega (arith, sound.shape.aimed i below, own.whole.releases.aims_times s.releaser.place i) in
       let room : (task s i).part.ended < length (times_of p.batches i) = omega (arith, fits.gate, fits.aimed) in
       let has : HasItsWords p w rows i (task s i).part.ended (task s i).work = record { size = fits.now; states = ok.states; taken = λ n less. ok.taken n (omega (arith, taken, less)) } in
-      let done : HasComputed p w rows i (task s i).part.ended (move.worked (declared p i) (rule.sensed p w s i) (task s i).work) = worked_is p w rows own solves i (task s i).part.ended (task s i).work below room has in
-      write_sound p w rows s own sound i (place.Put 0) (record (slot_at (task s i).words.slots (move.own_slot (task s i).part)) { stamp = 0 }) (move.worked (declared p i) (rule.sensed p w s i) (task s i).work) below
+      let done : HasComputed p w rows i (task s i).part.ended (move.after_compute (declared p i) (rule.sense_values p w s i) (task s i).work) = worked_is p w rows own solves i (task s i).part.ended (task s i).work below room has in
+      write_sound p w rows s own sound i (place.Put 0) (record (slot_at (task s i).words.slots (move.own_slot (task s i).part)) { stamp = 0 }) (move.after_compute (declared p i) (rule.sense_values p w s i) (task s i).work) below
       (step_kept p w s sound.shape (Shut i) named free) both.1 busy from all (inl (omega (arith, fits.gate, fits.aimed)))
       (record {
         whole = λ l stamp. absurd (omega arith);

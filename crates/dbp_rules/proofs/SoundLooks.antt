@@ -14,9 +14,9 @@ use Rattle.release_list.specs.Schedule.{aims, seen_by}
 use Rattle.dbp_rules.specs.Places.{counts_link, is_counted, link, link_entry, slot_at, task, task_entry, time, wired}
 use Rattle.dbp_rules.specs.Promises.{IsClaimFilled}
 use Rattle.dbp_rules.specs.Rules as rule
-use Rattle.dbp_rules.specs.Shapes.{IsWired, PlaceIn, TaskShape, heard_by, running}
+use Rattle.dbp_rules.specs.Shapes.{IsWired, PlaceIn, TaskShape, heard_by, running_count}
 use Rattle.dbp_rules.specs.Sound.{Sound}
-use Rattle.dbp_rules.specs.SoundParts.{Stands, TaskSound, last_filled, passed, read_of}
+use Rattle.dbp_rules.specs.SoundParts.{Stands, TaskSound, last_filled, last_passed, read_of}
 use Rattle.dbp_rules.specs.declared.parts.Order.{Order}
 use Rattle.dbp_rules.specs.declared.parts.Place.{Place}
 use Rattle.dbp_rules.specs.declared.parts.Place.TheVariants as place
@@ -29,7 +29,7 @@ use Rattle.dbp_rules.proofs.Allowed.{none_found}
 use Rattle.dbp_rules.proofs.SoundOwn.{IsOwn, IsOwnRead, claims_aims, seen_aims}
 use Rattle.dbp_rules.proofs.SoundReading.{claimed_instance, claimed_number, read_claim, read_from, read_ready}
 
-pub passed_below : (b : Bool) (known ended instance : ℕ) → known ≤ ended → ended < instance → passed b known ended < instance
+pub passed_below : (b : Bool) (known ended instance : ℕ) → known ≤ ended → ended < instance → last_passed b known ended < instance
 passed_below true known ended instance less below = omega arith
 passed_below false known ended instance less below = below
 
@@ -47,12 +47,12 @@ highest_none w f (suc n) k none below = elim (cases_Bool (f n)) [
       ]
 ]
 
-none_blocks : (c : Count) (w : Wiring) (s : State) (i r : ℕ) → rule.unblocked c w s i ≡ None → c ≡ Ranked → r < length w.tasks → rule.blocks w s i r ≡ false
+none_blocks : (c : Count) (w : Wiring) (s : State) (i r : ℕ) → rule.blocker_refusal c w s i ≡ None → c ≡ Ranked → r < length w.tasks → rule.blocks w s i r ≡ false
 none_blocks All w s i r free is below = absurd (cc (is))
 none_blocks Ranked w s i r free is below = highest_none w (rule.blocks w s i) (length w.tasks) r (none_found (rule.highest w (rule.blocks w s i) (length w.tasks)) broken.HigherUnfinished i free) below
 
 -- under `Ranked` an unfinished instance of a higher task is later than the task's own
-pub higher_later : (w : Wiring) (s : State) (i r : ℕ) → rule.unblocked w.count w s i ≡ None → w.count ≡ Ranked → r < length w.tasks
+pub higher_later : (w : Wiring) (s : State) (i r : ℕ) → rule.blocker_refusal w.count w s i ≡ None → w.count ≡ Ranked → r < length w.tasks
     → (wired w r).rank < (wired w i).rank → (task s r).part.ended < (task_entry s r).aimed → rule.own_time w s i < rule.own_time w s r
 higher_later w s i r free ranked below above left = elim (cases_lt (rule.own_time w s i) (rule.own_time w s r)) [
   | inl less ↦ less
@@ -77,7 +77,7 @@ come p v n time below =
 
 module _ (p : Plan) (w : Wiring) (rows : ℕ → ℕ → List ℤ) (s : State) (own : IsOwn p w) (sound : Sound p w rows s) where
   -- the claim of a running reader stands
-  pub stands_running : (k : ℕ) → k < length w.links → running (task s (link w k).reader).part.place ≡ 1 → Stands w k (link_entry s k) (task_entry s (link w k).reader) (task s (link w k).reader)
+  pub stands_running : (k : ℕ) → k < length w.links → running_count (task s (link w k).reader).part.place ≡ 1 → Stands w k (link_entry s k) (task_entry s (link w k).reader) (task s (link w k).reader)
   stands_running k fits busy =
       let ok : TaskSound p w rows (link w k).reader (task_entry s (link w k).reader) (task s (link w k).reader) = sound.tasks (link w k).reader (own.whole.reader k fits) in
       passed_below (is_counted w k) (task_entry s (link w k).reader).known (task s (link w k).reader).words.ended (link_entry s k).instance ok.known (omega (arith, ok.ended, claimed_instance p w rows s own sound k fits busy))
@@ -95,8 +95,8 @@ module _ (p : Plan) (w : Wiring) (rows : ℕ → ℕ → List ℤ) (s : State) (
     abbrev k : ℕ
     k = (read_of p w i n).link
 
-    busy : running (task s (link w k).reader).part.place ≡ 1
-    busy = ap (λ x. running (task s x).part.place) read.reader ∙ ap running at
+    busy : running_count (task s (link w k).reader).part.place ≡ 1
+    busy = ap (λ x. running_count (task s x).part.place) read.reader ∙ ap running_count at
 
     stands : Stands w k (link_entry s k) (task_entry s (link w k).reader) (task s (link w k).reader)
     stands = stands_running k read.below busy
@@ -137,7 +137,7 @@ module _ (p : Plan) (w : Wiring) (rows : ℕ → ℕ → List ℤ) (s : State) (
         filled_ready (omega (arith, number_aimed, late, ok.known, ok.ended, ok.aimed))
 
     -- under `Ranked` it has where the look is allowed
-    pub ranked_ready : w.count ≡ Ranked → rule.unblocked w.count w s i ≡ None → rule.is_ready w s i n ≡ true
+    pub ranked_ready : w.count ≡ Ranked → rule.blocker_refusal w.count w s i ≡ None → rule.is_ready w s i n ≡ true
     ranked_ready ranked free = elim (cases_lt 0 (link w k).delay) [
       | inl late ↦ delayed_ready late
       | inr now ↦
@@ -147,7 +147,7 @@ module _ (p : Plan) (w : Wiring) (rows : ℕ → ℕ → List ℤ) (s : State) (
             | inr filled ↦ filled_ready filled
             | inl coming ↦
                 let above : (wired w v).rank < (wired w i).rank = omega (arith, own.downward k read.below direct, ap (λ x. (wired w x).rank) read.reader) in
-                let number : (link_entry s k).number ≡ count_until (times_of p.batches v) (time_of p.batches i ((task s i).part.ended + 1)) - (link w k).delay = claimed_number p w rows s own sound i k read.below read.reader (ap running at) in
+                let number : (link_entry s k).number ≡ count_until (times_of p.batches v) (time_of p.batches i ((task s i).part.ended + 1)) - (link w k).delay = claimed_number p w rows s own sound i k read.below read.reader (ap running_count at) in
                 let later : rule.own_time w s i < rule.own_time w s v = higher_later w s i v free ranked writer above (omega (arith, coming, number_aimed)) in
                 let soon : time_of p.batches v ((task s v).part.ended + 1) ≤ time_of p.batches i ((task s i).part.ended + 1) = come p v (task s v).part.ended (time_of p.batches i ((task s i).part.ended + 1)) (omega (arith, coming, number, direct)) in
                 absurd (omega (arith, later, soon, own_time_is p w s i own.whole below, own_time_is p w s v own.whole writer))
@@ -161,7 +161,7 @@ module _ (p : Plan) (w : Wiring) (rows : ℕ → ℕ → List ℤ) (s : State) (
   uncounted All writer reader isnt = absurd (cc (isnt))
 
   -- a task that may step has no standing claim on its slot that was made before this slot was aimed
-  not_earlier : (k : ℕ) → k < length w.links → running (task s (link w k).writer).part.place ≡ 1 → rule.unblocked w.count w s (link w k).writer ≡ None
+  not_earlier : (k : ℕ) → k < length w.links → running_count (task s (link w k).writer).part.place ≡ 1 → rule.blocker_refusal w.count w s (link w k).writer ≡ None
       → is_counted w k ≡ false → Stands w k (link_entry s k) (task_entry s (link w k).reader) (task s (link w k).reader) → seen_by w.links p.batches k (link_entry s k).instance < (task_entry s (link w k).writer).aimed → ⊥
   not_earlier k fits busy free isnt stands seen =
       let i : ℕ = (link w k).writer in
@@ -172,7 +172,7 @@ module _ (p : Plan) (w : Wiring) (rows : ℕ → ℕ → List ℤ) (s : State) (
       let other : TaskSound p w rows r (task_entry s r) (task s r) = sound.tasks r reader in
       let shape : TaskShape w (declared p i) i (task_entry s i).aimed (task s i) = sound.shape.each_task i writer in
       let u = uncounted w.count (wired w i).rank (wired w r).rank isnt in
-      let live : (task s r).words.ended < (link_entry s k).instance = subst (λ (b : Bool). passed b (task_entry s r).known (task s r).words.ended < (link_entry s k).instance) isnt stands in
+      let live : (task s r).words.ended < (link_entry s k).instance = subst (λ (b : Bool). last_passed b (task_entry s r).known (task s r).words.ended < (link_entry s k).instance) isnt stands in
       let claim : (link_entry s k).instance ≤ (task_entry s r).aimed = omega (arith, (sound.claims k fits).instance, sound.shape.aimed r reader, claims_aims p w own.whole s.releaser.place k fits) in
       let above : (wired w r).rank < (wired w i).rank = omega (arith, u.1, own.ranks i r writer reader (own.apart k fits)) in
       let later : rule.own_time w s i < rule.own_time w s r = higher_later w s i r free u.0 reader above (omega (arith, other.ended)) in
@@ -189,7 +189,7 @@ module _ (p : Plan) (w : Wiring) (rows : ℕ → ℕ → List ℤ) (s : State) (
       absurd (omega (arith, later, before, rise, same, own_time_is p w s i own.whole writer, own_time_is p w s r own.whole reader))
 
   -- so each standing claim on the slot of a task that may step is for the row that is to come
-  pub claims_next : (k : ℕ) → k < length w.links → running (task s (link w k).writer).part.place ≡ 1 → rule.unblocked w.count w s (link w k).writer ≡ None
+  pub claims_next : (k : ℕ) → k < length w.links → running_count (task s (link w k).writer).part.place ≡ 1 → rule.blocker_refusal w.count w s (link w k).writer ≡ None
       → Stands w k (link_entry s k) (task_entry s (link w k).reader) (task s (link w k).reader) → (link_entry s k).slot ≡ (task_entry s (link w k).writer).current → (link_entry s k).number ≡ (task_entry s (link w k).writer).aimed
   claims_next k fits busy free stands here = elim ((sound.links k fits).current stands here) [
     | inl number ↦ number

@@ -11,8 +11,7 @@ use Rattle.dbp_plan.specs.declared.plan.Plan.{Plan}
 use Rattle.dbp_plan.specs.Closed.{IsClosed}
 use Rattle.dbp_plan.specs.Ranks.{ranks_of}
 use Rattle.dbp_plan.specs.Lookups.{link_at, no_link, declared, no_declared, no_read}
-use Rattle.dbp_plan.proofs.RankLaws.{ranks-apart}
-use Rattle.sync_meaning.proofs.Ranks.{length-ranks}
+use Rattle.dbp_plan.proofs.RankLaws.{ranks-apart, length-ranks}
 use Rattle.release_list.specs.Releases.{links_into}
 use Rattle.release_list.specs.Schedule.{aims, claims, opens, seen_by}
 use Rattle.release_list.specs.declared.release.Release.TheVariants.{Claim}

@@ -14,9 +14,9 @@ use Rattle.release_list.specs.Schedule.{seen_by}
 use Rattle.dbp_rules.specs.Moves as move
 use Rattle.dbp_rules.specs.Places.{link, link_entry, no_order, order, read_at, slot_at, task, task_entry, wired}
 use Rattle.dbp_rules.specs.Rules as rule
-use Rattle.dbp_rules.specs.Shapes.{IsShape, PlaceIn, TaskShape, heard_by, link_in, place_number, running}
+use Rattle.dbp_rules.specs.Shapes.{IsShape, PlaceIn, TaskShape, heard_by, link_in, place_number, running_count}
 use Rattle.dbp_rules.specs.Sound.{Sound}
-use Rattle.dbp_rules.specs.SoundParts.{LinkSound, TaskSound, meant, place_of_read, read_of, taken_by}
+use Rattle.dbp_rules.specs.SoundParts.{LinkSound, TaskSound, meant_word, place_of_read, read_of, taken_by}
 use Rattle.dbp_rules.specs.Work.{WorkWords}
 use Rattle.dbp_rules.specs.declared.parts.Order.{Order}
 use Rattle.dbp_rules.specs.declared.parts.Place.{Place}
@@ -27,6 +27,8 @@ use Rattle.dbp_rules.specs.declared.step.Broken.TheVariants as broken
 use Rattle.dbp_rules.specs.declared.step.Illegal.{Illegal}
 use Rattle.dbp_rules.specs.declared.step.Step.TheVariants.{Start, Hear, Look, Take}
 use Rattle.dbp_rules.specs.declared.wiring.Wiring.{Wiring}
+use Rattle.dbp_rules.proofs.ShapeFacts.{place_in}
+use Rattle.dbp_rules.proofs.StepPlaces.{at_step, at_look, at_take}
 use Rattle.dbp_rules.proofs.Allowed.{at_next, next_none, or_else_none, place_of}
 use Rattle.dbp_rules.proofs.SoundFrame.{task_step}
 use Rattle.dbp_rules.proofs.SoundGoes.{IsEarly, early_hear, early_heard, early_idle, early_look, early_read, early_take, reader_on, take_hear, take_read, taken_hear, taken_read, task_goes, writer_same}
@@ -48,15 +50,12 @@ module _ (p : Plan) (w : Wiring) (rows : ℕ → ℕ → List ℤ) (s : State) (
   there : (i : ℕ) → i < length p.diagram.tasks → i < length w.tasks
   there i named = omega (arith, named, own.whole.tasks)
 
-  at_step : (i kind operand : ℕ) (rest : Option Illegal) → rule.or_else (rule.steps_next w s i kind operand) rest ≡ None → (task s i).part.place ≡ place_of kind (place_number (task s i).part.place)
-  at_step i kind operand rest free = at_next broken.TaskPlace (wired w i) (task s i).part.place kind operand (or_else_none _ _ free).0
-
   -- a task that goes on before its shut
   goes_sound : (i : ℕ) (part : TaskPart) (work : WorkWords) → i < length w.tasks → IsShape p w (rule.with_task s i (record { words = (task s i).words; part = part; work = work }))
       → IsEarly (task s i).part.place → IsEarly part.place → part.ended ≡ (task s i).part.ended
       → (0 < length part.heard.items → move.heard_order part 0 ≡ (task s i).words.aim)
       → take (length (declared p i).states) work.now ≡ take (length (declared p i).states) (task s i).work.now
-      → ((n : ℕ) → n < taken_by (length (wired w i).reads) part.place → get_or work.now (place_of_read p w i n) (pos 0) ≡ meant p rows i ((task s i).part.ended + 1) (read_of p w i n))
+      → ((n : ℕ) → n < taken_by (length (wired w i).reads) part.place → get_or work.now (place_of_read p w i n) (pos 0) ≡ meant_word p rows i ((task s i).part.ended + 1) (read_of p w i n))
       → work.row ≡ (task s i).work.row
       → ((k : ℕ) → k < length w.links → (link w k).reader ≡ i → (j : ℕ) → j + 1 < length part.heard.items → link_in (wired w i) j ≡ k → move.heard_order part (j + 1) ≡ move.claim_order (link_entry s k))
       → ((k : ℕ) → k < length w.links → (link w k).reader ≡ i → (n : ℕ) → part.place ≡ place.Take n → (read_of p w i n).link ≡ k → (slot_at (task s (link w k).writer).words.slots (link_entry s k).slot).stamp ≡ (link_entry s k).number + 1)
@@ -82,7 +81,7 @@ module _ (p : Plan) (w : Wiring) (rows : ℕ → ℕ → List ℤ) (s : State) (
   start_sound i named free =
       let below : i < length w.tasks = there i named in
       let ok : TaskSound p w rows i (task_entry s i) (task s i) = sound.tasks i below in
-      let at : (task s i).part.place ≡ place.Idle = at_step i 5 0 _ free in
+      let at : (task s i).part.place ≡ place.Idle = at_step w s i 5 0 _ free in
       let shape : IsShape p w (rule.next p w s (Start i)) = step_kept p w s sound.shape (Start i) named free in
       let none : taken_by (length (wired w i).reads) (task s i).part.place ≡ 0 = ap (taken_by (length (wired w i).reads)) at in
       let idle : IsEarly (task s i).part.place = subst (λ (q : Place). IsEarly q) (sym at) early_idle in
@@ -123,7 +122,7 @@ module _ (p : Plan) (w : Wiring) (rows : ℕ → ℕ → List ℤ) (s : State) (
       let ok : TaskSound p w rows i (task_entry s i) (task s i) = sound.tasks i below in
       let fits : TaskShape w (declared p i) i (task_entry s i).aimed (task s i) = sound.shape.each_task i below in
       let n : ℕ = rule.hears_at (task s i).part.place in
-      let first : (task s i).part.place ≡ place.Hear (place_number (task s i).part.place) = at_step i 6 0 _ free in
+      let first : (task s i).part.place ≡ place.Hear (place_number (task s i).part.place) = at_step w s i 6 0 _ free in
       let at : (task s i).part.place ≡ place.Hear n = first ∙ ap (λ (m : ℕ). place.Hear m) (sym (ap rule.hears_at first)) in
       let size : length (task s i).part.heard.items ≡ n = fits.heard ∙ ap (heard_by (1 + length (wired w i).links)) at in
       let o : Order = rule.order_word w s i n in
@@ -158,26 +157,13 @@ module _ (p : Plan) (w : Wiring) (rows : ℕ → ℕ → List ℤ) (s : State) (
         let same : (rule.read_slot w s i n).stamp ≡ (rule.read_order w s i n).number + 1 = eqb-true (rule.read_slot w s i n).stamp ((rule.read_order w s i n).number + 1) is in
         ap (λ x. x.stamp) (sym read_from) ∙ same ∙ ap (λ (x : Order). x.number + 1) read_claim
 
-  pub at_look : (i r : ℕ) → rule.refusal w s (Look i r) ≡ None → (task s i).part.place ≡ place.Look (rule.turn_at (task s i).part.place)
-  at_look i r free =
-      let first : (task s i).part.place ≡ place.Look (place_number (task s i).part.place) = at_step i 7 r _ free in
-      first ∙ ap (λ (m : ℕ). place.Look m) (sym (ap rule.turn_at first))
-
-  pub at_take : (i r : ℕ) → rule.refusal w s (Take i r) ≡ None → (task s i).part.place ≡ place.Take (rule.turn_at (task s i).part.place)
-  at_take i r free =
-      let first : (task s i).part.place ≡ place.Take (place_number (task s i).part.place) = at_step i 8 r _ free in
-      first ∙ ap (λ (m : ℕ). place.Take m) (sym (ap rule.turn_at first))
-
-  inside_at : (i : ℕ) (q : Place) → i < length w.tasks → (task s i).part.place ≡ q → PlaceIn (wired w i) q
-  inside_at i q below at = subst (λ (x : Place). PlaceIn (wired w i) x) at (sound.shape.each_task i below).place
-
   pub look_sound : (i r : ℕ) → i < length p.diagram.tasks → rule.refusal w s (Look i r) ≡ None → Sound p w rows (rule.next p w s (Look i r))
   look_sound i r named free =
       let below : i < length w.tasks = there i named in
       let ok : TaskSound p w rows i (task_entry s i) (task s i) = sound.tasks i below in
       let n : ℕ = rule.turn_at (task s i).part.place in
-      let at : (task s i).part.place ≡ place.Look n = at_look i r free in
-      let few : n < length (wired w i).reads = inside_at i (place.Look n) below at in
+      let at : (task s i).part.place ≡ place.Look n = at_look w s i r free in
+      let few : n < length (wired w i).reads = place_in p w s sound.shape i (place.Look n) below at in
       let all : heard_by (1 + length (wired w i).links) (task s i).part.place ≡ 1 + length (wired w i).links = ap (heard_by (1 + length (wired w i).links)) at in
       let count : taken_by (length (wired w i).reads) (task s i).part.place ≡ n = ap (taken_by (length (wired w i).reads)) at in
       let shape : IsShape p w (rule.next p w s (Look i r)) = step_kept p w s sound.shape (Look i r) named free in
@@ -198,7 +184,7 @@ module _ (p : Plan) (w : Wiring) (rows : ℕ → ℕ → List ℤ) (s : State) (
   -- ---- take
 
   -- a claim of a running reader is for the running instance
-  pub claimed_instance : (k : ℕ) → k < length w.links → running (task s (link w k).reader).part.place ≡ 1 → (link_entry s k).instance ≡ (task s (link w k).reader).part.ended + 1
+  pub claimed_instance : (k : ℕ) → k < length w.links → running_count (task s (link w k).reader).part.place ≡ 1 → (link_entry s k).instance ≡ (task s (link w k).reader).part.ended + 1
   claimed_instance k fits busy =
       let reader : (link w k).reader < length w.tasks = own.whole.reader k fits in
       let ok : TaskSound p w rows (link w k).reader (task_entry s (link w k).reader) (task s (link w k).reader) = sound.tasks (link w k).reader reader in
@@ -206,7 +192,7 @@ module _ (p : Plan) (w : Wiring) (rows : ℕ → ℕ → List ℤ) (s : State) (
       omega (arith, (sound.claims k fits).instance, opens_claims p w own.whole s.releaser.place k fits, claims_aims p w own.whole s.releaser.place k fits, sound.gates (link w k).reader reader, sound.shape.aimed (link w k).reader reader, shape.gate, ok.known, ok.ended, ok.aimed)
 
   -- the number of a claim of a running reader is that of the row which its instance is to read
-  pub claimed_number : (i k : ℕ) → k < length w.links → (link w k).reader ≡ i → running (task s i).part.place ≡ 1
+  pub claimed_number : (i k : ℕ) → k < length w.links → (link w k).reader ≡ i → running_count (task s i).part.place ≡ 1
       → (link_entry s k).number ≡ count_until (times_of p.batches (link w k).writer) (time_of p.batches i ((task s i).part.ended + 1)) - (link w k).delay
   claimed_number i k fits is busy =
       let number : (link_entry s k).number ≡ seen_by w.links p.batches k (link_entry s k).instance - (link w k).delay = (sound.claims k fits).number in
@@ -218,16 +204,16 @@ module _ (p : Plan) (w : Wiring) (rows : ℕ → ℕ → List ℤ) (s : State) (
       ∙ ap (λ (x : ℕ). count_until (times_of p.batches (link w k).writer) (time_of p.batches x ((task s i).part.ended + 1)) - (link w k).delay) is
 
   -- each take loads the word that the meaning gives the read
-  pub take_word : (i n : ℕ) → i < length w.tasks → (task s i).part.place ≡ place.Take n → rule.read_word w s i n ≡ meant p rows i ((task s i).part.ended + 1) (read_of p w i n)
+  pub take_word : (i n : ℕ) → i < length w.tasks → (task s i).part.place ≡ place.Take n → rule.read_word w s i n ≡ meant_word p rows i ((task s i).part.ended + 1) (read_of p w i n)
   take_word i n below at =
-      let few : n < length (wired w i).reads = inside_at i (place.Take n) below at in
+      let few : n < length (wired w i).reads = place_in p w s sound.shape i (place.Take n) below at in
       let all : heard_by (1 + length (wired w i).links) (task s i).part.place ≡ 1 + length (wired w i).links = ap (heard_by (1 + length (wired w i).links)) at in
       let read : IsOwnRead p w i n = own.reads i n below few in
       let r : Read = read_of p w i n in
       let k : ℕ = (read_of p w i n).link in
       let v : ℕ = (link w (read_of p w i n).link).writer in
       let fits : k < length w.links = read.below in
-      let busy : running (task s i).part.place ≡ 1 = ap running at in
+      let busy : running_count (task s i).part.place ≡ 1 = ap running_count at in
       let writer : v < length w.tasks = own.whole.writer k fits in
       let old : LinkSound p w k (link_entry s k) (task_entry s v) (task s v) (task_entry s (link w k).reader) (task s (link w k).reader) = sound.links k fits in
       let stamp : (slot_at (task s v).words.slots (link_entry s k).slot).stamp ≡ (link_entry s k).number + 1 =
@@ -244,8 +230,8 @@ module _ (p : Plan) (w : Wiring) (rows : ℕ → ℕ → List ℤ) (s : State) (
       let ok : TaskSound p w rows i (task_entry s i) (task s i) = sound.tasks i below in
       let shape : TaskShape w (declared p i) i (task_entry s i).aimed (task s i) = sound.shape.each_task i below in
       let n : ℕ = rule.turn_at (task s i).part.place in
-      let at : (task s i).part.place ≡ place.Take n = at_take i r free in
-      let few : n < length (wired w i).reads = inside_at i (place.Take n) below at in
+      let at : (task s i).part.place ≡ place.Take n = at_take w s i r free in
+      let few : n < length (wired w i).reads = place_in p w s sound.shape i (place.Take n) below at in
       let count : taken_by (length (wired w i).reads) (task s i).part.place ≡ n = ap (taken_by (length (wired w i).reads)) at in
       let next : taken_by (length (wired w i).reads) (move.read_place (length (wired w i).reads) (n + 1)) ≡ n + 1 = taken_read (length (wired w i).reads) (n + 1) (omega arith) in
       let kind : (rule.place_kind (wired w i) (task s i).part.place).1 ≡ r = (next_none broken.TaskPlace (rule.place_kind (wired w i) (task s i).part.place) 8 r (or_else_none _ _ free).0).1 in

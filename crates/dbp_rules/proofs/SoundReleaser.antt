@@ -15,7 +15,7 @@ use Rattle.dbp_rules.specs.Places.{is_counted, link, link_entry, slot_at, task, 
 use Rattle.dbp_rules.specs.Rules as rule
 use Rattle.dbp_rules.specs.Shapes.{EntryShape, TaskShape, heard_by}
 use Rattle.dbp_rules.specs.Sound.{Sound}
-use Rattle.dbp_rules.specs.SoundParts.{LinkSound, TaskSound, filled_by, last_filled, passed, put_by, shut_by}
+use Rattle.dbp_rules.specs.SoundParts.{LinkSound, TaskSound, filled_by, last_filled, last_passed, put_by, shut_by}
 use Rattle.dbp_rules.specs.declared.parts.LinkEntry.{LinkEntry}
 use Rattle.dbp_rules.specs.declared.parts.Place.TheVariants as place
 use Rattle.dbp_rules.specs.declared.parts.TaskEntry.{TaskEntry}
@@ -112,7 +112,7 @@ aim_writes p w rows i k slot c v t e reader ok shape known free seen old =
         | inr to ↦ absurd (omega (arith, to.1, to.2, ok.known, ok.ended))
       ];
       current = λ stands here. elim (cases_Bool (is_counted w k)) [
-        | inl is ↦ absurd (free is (let known_below : passed (is_counted w k) e.known reader.words.ended < c.instance = stands in rw is at known_below) here)
+        | inl is ↦ absurd (free is (let known_below : last_passed (is_counted w k) e.known reader.words.ended < c.instance = stands in rw is at known_below) here)
         | inr isnt ↦ inr (isnt, omega (arith, shape.gate, shape.aimed), omega arith)
       ];
       heard = old.heard;

@@ -1,6 +1,6 @@
 -- The state before the first step is sound.
 use Rattle.std.proofs.Common.{◌≡◌, ℕ, zero, suc, ℤ, pos, ◌+◌, ◌-◌, ◌<◌, ◌≤◌, Bool, true, false, List, [], ◌∷◌, ◌++◌, length, get_or, take, replicate, refl, sym, ◌∙◌, ap, arith}
-use Rattle.std.proofs.lemmas.List.{length-map}
+use Rattle.std.proofs.lemmas.List.{get_or-replicate, length-map}
 use Rattle.std.proofs.lemmas.List.FromFn.{get_or-map-range_with_len}
 use Rattle.std.proofs.lemmas.Option.{slice_get-get_or}
 use Rattle.std.proofs.Math.ListN.{get_or-map}
@@ -8,25 +8,16 @@ use Rattle.dbp_plan.specs.declared.plan.Plan.{Plan}
 use Rattle.dbp_plan.specs.Closed.{place_count}
 use Rattle.dbp_plan.specs.Lookups.{declared, no_declared}
 use Rattle.sync_meaning.specs.SomeMeaningRows.{Solves, states_at-none}
+use Rattle.dbp_plan.proofs.ListParts.{repeated}
 use Rattle.dbp_rules.specs.Places.{is_counted, link, no_link_entry, no_order, no_slot, no_task, no_task_wiring, slot_at, task, task_entry, wired}
 use Rattle.dbp_rules.specs.Shapes.{IsWired}
 use Rattle.dbp_rules.specs.Sound.{Sound}
-use Rattle.dbp_rules.specs.SoundParts.{TaskSound, passed}
+use Rattle.dbp_rules.specs.SoundParts.{TaskSound, last_passed}
 use Rattle.dbp_rules.specs.Start.{first_row, first_states, start_entry, start_of, start_slots, start_task}
 use Rattle.dbp_rules.specs.declared.state.Slot.{Slot}
 use Rattle.dbp_rules.specs.declared.wiring.TaskWiring.{TaskWiring}
 use Rattle.dbp_rules.specs.declared.wiring.Wiring.{Wiring}
 use Rattle.dbp_rules.proofs.StartShape.{start_shape}
-
-repeated : {X : Type 0} (n k : ℕ) (x : X) → get_or (replicate n x) k x ≡ x
-repeated zero k x = refl
-repeated (suc n) zero x = refl
-repeated (suc n) (suc k) x = repeated n k x
-
-repeated_within : {X : Type 0} (n k : ℕ) (x d : X) → k < n → get_or (replicate n x) k d ≡ x
-repeated_within zero k x d below = absurd (omega arith)
-repeated_within (suc n) zero x d below = refl
-repeated_within (suc n) (suc k) x d below = repeated_within n k x d (omega arith)
 
 pub take_front : (xs ys : List ℤ) (n : ℕ) → length xs ≡ n → take n (xs ++ ys) ≡ xs
 take_front [] ys n size = rw (sym size) refl
@@ -39,7 +30,7 @@ whole t row rows zero l same below stamp =
     let none : 0 ≡ l = omega arith in
     (omega arith, same ∙ ap rows none)
 whole t row rows (suc n) l same below stamp =
-    let empty : (slot_at (start_slots t row) (suc n)).stamp ≡ 0 = ap (λ (x : Slot). x.stamp) (repeated_within (t.slots - 1) n (record { stamp = 0; words = replicate t.ports (pos 0) }) no_slot (omega arith)) in
+    let empty : (slot_at (start_slots t row) (suc n)).stamp ≡ 0 = ap (λ (x : Slot). x.stamp) (get_or-replicate (t.slots - 1) n (record { stamp = 0; words = replicate t.ports (pos 0) }) no_slot (omega arith)) in
     absurd (omega arith)
 
 start_sound_task : (p : Plan) (w : Wiring) (rows : ℕ → ℕ → List ℤ) (i : ℕ) → first_row (declared p i) ≡ rows i 0 → TaskSound p w rows i (start_entry (wired w i)) (start_task (wired w i) (declared p i))
@@ -55,7 +46,7 @@ start_sound_task p w rows i same =
       filled = λ all. refl;
       filling = λ some. absurd (omega arith);
       put = λ port below. absurd (omega arith);
-      kept = λ j below. let zero_ : get_or (replicate {A = ℕ} (wired w i).kept 0) j 0 ≡ 0 = repeated {X = ℕ} (wired w i).kept j 0 in rw zero_ (omega arith);
+      kept = λ j below. let zero_ : get_or (replicate {A = ℕ} (wired w i).kept 0) j 0 ≡ 0 = repeated {A = ℕ} (wired w i).kept j 0 in rw zero_ (omega arith);
       kept_apart = λ some. absurd (omega arith);
       states = take_front (first_states (declared p i)) (replicate (place_count (declared p i) - length (declared p i).states) (pos 0)) (length (declared p i).states) states ∙ sym (states_at-none p.diagram p.samples p.batches rows i (declared p i));
       taken = λ n below. absurd (omega arith);
@@ -63,7 +54,7 @@ start_sound_task p w rows i same =
       later = λ some. absurd (omega arith);
     }
 
-none_stands : (b : Bool) → passed b 0 0 < 0 → ⊥
+none_stands : (b : Bool) → last_passed b 0 0 < 0 → ⊥
 none_stands true stands = absurd (omega arith)
 none_stands false stands = absurd (omega arith)
 

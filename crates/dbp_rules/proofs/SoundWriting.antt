@@ -8,9 +8,9 @@ use Rattle.sync_meaning.specs.SomeMeaningRows.{states_at}
 use Rattle.dbp_rules.specs.Moves as move
 use Rattle.dbp_rules.specs.Places.{link, link_entry, no_slot, slot_at, task, task_entry, wired}
 use Rattle.dbp_rules.specs.Rules as rule
-use Rattle.dbp_rules.specs.Shapes.{EntryShape, IsShape, PlaceIn, TaskShape, heard_by, place_number, running}
+use Rattle.dbp_rules.specs.Shapes.{EntryShape, IsShape, PlaceIn, TaskShape, heard_by, place_number, running_count}
 use Rattle.dbp_rules.specs.Sound.{Sound}
-use Rattle.dbp_rules.specs.SoundParts.{LinkSound, Stands, TaskSound, filled_by, last_shut, meant, place_of_read, put_by, read_of, shut_by, taken_by}
+use Rattle.dbp_rules.specs.SoundParts.{LinkSound, Stands, TaskSound, filled_by, last_shut, meant_word, place_of_read, put_by, read_of, shut_by, taken_by}
 use Rattle.dbp_rules.specs.Work.{WorkWords}
 use Rattle.dbp_rules.specs.declared.parts.LinkEntry.{LinkEntry}
 use Rattle.dbp_rules.specs.declared.parts.Place.{Place}
@@ -23,6 +23,7 @@ use Rattle.dbp_rules.specs.declared.step.Broken.TheVariants as broken
 use Rattle.dbp_rules.specs.declared.step.Illegal.{Illegal}
 use Rattle.dbp_rules.specs.declared.step.Step.TheVariants.{Put, Done, End}
 use Rattle.dbp_rules.specs.declared.wiring.Wiring.{Wiring}
+use Rattle.dbp_rules.proofs.StepPlaces.{at_step}
 use Rattle.dbp_rules.proofs.Allowed.{at_next, next_none, or_else_none, place_of}
 use Rattle.dbp_rules.proofs.Frames.{after_set}
 use Rattle.dbp_rules.proofs.SoundFrame.{task_step}
@@ -50,12 +51,12 @@ pub record Writes (p : Plan) (w : Wiring) (rows : ℕ → ℕ → List ℤ) (i m
   pub filling : filled_by q < shut_by q → x.stamp ≡ 0
   pub put : (port : ℕ) → port < put_by (wired w i).ports q → get_or x.words port (pos 0) ≡ get_or (rows i (m + 1)) port (pos 0)
   pub states : take (length (declared p i).states) work.now ≡ states_at p.diagram p.samples p.batches rows i (declared p i) m
-  pub taken : (n : ℕ) → n < taken_by (length (wired w i).reads) q → get_or work.now (place_of_read p w i n) (pos 0) ≡ meant p rows i (m + 1) (read_of p w i n)
+  pub taken : (n : ℕ) → n < taken_by (length (wired w i).reads) q → get_or work.now (place_of_read p w i n) (pos 0) ≡ meant_word p rows i (m + 1) (read_of p w i n)
   pub row : work.row ≡ rows i (m + shut_by q)
   pub later : 0 < shut_by q → work.later ≡ states_at p.diagram p.samples p.batches rows i (declared p i) (m + 1)
 
 pub task_writes : (p : Plan) (w : Wiring) (rows : ℕ → ℕ → List ℤ) (i : ℕ) (e : TaskEntry) (t : TaskState) (q : Place) (x : Slot) (work : WorkWords) → TaskSound p w rows i e t → TaskShape w (declared p i) i e.aimed t → EntryShape (wired w i) e
-    → running t.part.place ≡ 1 → filled_by t.part.place ≡ 0 → move.own_slot t.part ≡ e.current → Writes p w rows i t.part.ended e.aimed q x work → TaskSound p w rows i e (written t q x work)
+    → running_count t.part.place ≡ 1 → filled_by t.part.place ≡ 0 → move.own_slot t.part ≡ e.current → Writes p w rows i t.part.ended e.aimed q x work → TaskSound p w rows i e (written t q x work)
 task_writes p w rows i e t q x work ok shape fits busy from same new =
     let some : 0 < e.aimed = omega (arith, shape.gate, shape.aimed) in
     let inside : move.own_slot t.part < length t.words.slots = omega (arith, shape.slots.0, fits.current, same) in
@@ -85,7 +86,7 @@ task_writes p w rows i e t q x work ok shape fits busy from same new =
 -- a link out of the task
 pub link_written : (p : Plan) (w : Wiring) (rows : ℕ → ℕ → List ℤ) (i k : ℕ) (c : LinkEntry) (v : TaskEntry) (t : TaskState) (e : TaskEntry) (reader : TaskState) (q : Place) (x : Slot) (work : WorkWords)
     → TaskSound p w rows i v t → TaskShape w (declared p i) i v.aimed t → EntryShape (wired w i) v
-    → running t.part.place ≡ 1 → filled_by t.part.place ≡ 0 → move.own_slot t.part ≡ v.current
+    → running_count t.part.place ≡ 1 → filled_by t.part.place ≡ 0 → move.own_slot t.part ≡ v.current
     → (Stands w k c e reader → c.slot ≡ v.current → c.number ≡ v.aimed)
     → (t.part.ended + filled_by q < v.aimed) ⊎ (x.stamp ≡ v.aimed + 1)
     → ((n : ℕ) → reader.part.place ≡ place.Take n → Stands w k c e reader)
@@ -133,12 +134,9 @@ module _ (p : Plan) (w : Wiring) (rows : ℕ → ℕ → List ℤ) (s : State) (
   there : (i : ℕ) → i < length p.diagram.tasks → i < length w.tasks
   there i named = omega (arith, named, own.whole.tasks)
 
-  at_step : (i kind operand : ℕ) (rest : Option Illegal) → rule.or_else (rule.steps_next w s i kind operand) rest ≡ None → (task s i).part.place ≡ place_of kind (place_number (task s i).part.place)
-  at_step i kind operand rest free = at_next broken.TaskPlace (wired w i) (task s i).part.place kind operand (or_else_none _ _ free).0
-
   -- a step that writes the task's own slot
-  pub write_sound : (i : ℕ) (q : Place) (x : Slot) (work : WorkWords) → i < length w.tasks → IsShape p w (rule.with_task s i (written (task s i) q x work)) → rule.unblocked w.count w s i ≡ None
-      → running (task s i).part.place ≡ 1 → filled_by (task s i).part.place ≡ 0 → heard_by (1 + length (wired w i).links) (task s i).part.place ≡ 1 + length (wired w i).links
+  pub write_sound : (i : ℕ) (q : Place) (x : Slot) (work : WorkWords) → i < length w.tasks → IsShape p w (rule.with_task s i (written (task s i) q x work)) → rule.blocker_refusal w.count w s i ≡ None
+      → running_count (task s i).part.place ≡ 1 → filled_by (task s i).part.place ≡ 0 → heard_by (1 + length (wired w i).links) (task s i).part.place ≡ 1 + length (wired w i).links
       → ((task s i).part.ended + filled_by q < (task_entry s i).aimed) ⊎ (x.stamp ≡ (task_entry s i).aimed + 1)
       → Writes p w rows i (task s i).part.ended (task_entry s i).aimed q x work
       → ((n : ℕ) → q ≡ place.Take n → ⊥)
@@ -154,7 +152,7 @@ module _ (p : Plan) (w : Wiring) (rows : ℕ → ℕ → List ℤ) (s : State) (
       (subst (λ (v : ℕ). Stands w k (link_entry s k) (task_entry s (link w k).reader) (task s (link w k).reader) → (link_entry s k).slot ≡ (task_entry s v).current → (link_entry s k).number ≡ (task_entry s v).aimed) is
       (claims_next p w rows s own sound k inside (rw is busy) (rw is free)))
       after
-      (λ n at. stands_running p w rows s own sound k inside (ap running at))
+      (λ n at. stands_running p w rows s own sound k inside (ap running_count at))
       old)
       (λ k inside is old. reader_on p w k (link_entry s k) (task_entry s (link w k).writer) (task s (link w k).writer) (task_entry s i) (task_entry s i) (task s i) (written (task s i) q x work) (omega arith) (omega arith) old.heard
       (λ n at _. absurd (no_take n at)) old)
@@ -171,15 +169,15 @@ module _ (p : Plan) (w : Wiring) (rows : ℕ → ℕ → List ℤ) (s : State) (
       let below : i < length w.tasks = there i named in
       let ok : TaskSound p w rows i (task_entry s i) (task s i) = sound.tasks i below in
       let fits : TaskShape w (declared p i) i (task_entry s i).aimed (task s i) = sound.shape.each_task i below in
-      let both = or_else_none (rule.steps_next w s i 10 port) (rule.unblocked w.count w s i) free in
-      let first : (task s i).part.place ≡ place.Put (place_number (task s i).part.place) = at_step i 10 port (rule.unblocked w.count w s i) free in
+      let both = or_else_none (rule.steps_next w s i 10 port) (rule.blocker_refusal w.count w s i) free in
+      let first : (task s i).part.place ≡ place.Put (place_number (task s i).part.place) = at_step w s i 10 port (rule.blocker_refusal w.count w s i) free in
       let kind : (rule.place_kind (wired w i) (task s i).part.place).1 ≡ port = (next_none broken.TaskPlace (rule.place_kind (wired w i) (task s i).part.place) 10 port both.0).1 in
       let number : place_number (task s i).part.place ≡ port = sym (ap (λ (q : Place). (rule.place_kind (wired w i) q).1) first) ∙ kind in
       let at : (task s i).part.place ≡ place.Put port = first ∙ ap (λ (n : ℕ). place.Put n) number in
       let all : heard_by (1 + length (wired w i).links) (task s i).part.place ≡ 1 + length (wired w i).links = ap (heard_by (1 + length (wired w i).links)) at in
       let from : filled_by (task s i).part.place ≡ 0 = ap filled_by at in
       let shut : shut_by (task s i).part.place ≡ 1 = ap shut_by at in
-      let busy : running (task s i).part.place ≡ 1 = ap running at in
+      let busy : running_count (task s i).part.place ≡ 1 = ap running_count at in
       let puts : put_by (wired w i).ports (task s i).part.place ≡ port = ap (put_by (wired w i).ports) at in
       let taken : taken_by (length (wired w i).reads) (task s i).part.place ≡ length (wired w i).reads = ap (taken_by (length (wired w i).reads)) at in
       let same : move.own_slot (task s i).part ≡ (task_entry s i).current = own_current p w rows i (task_entry s i) (task s i) ok fits all in
@@ -214,12 +212,12 @@ module _ (p : Plan) (w : Wiring) (rows : ℕ → ℕ → List ℤ) (s : State) (
       let below : i < length w.tasks = there i named in
       let ok : TaskSound p w rows i (task_entry s i) (task s i) = sound.tasks i below in
       let fits : TaskShape w (declared p i) i (task_entry s i).aimed (task s i) = sound.shape.each_task i below in
-      let both = or_else_none (rule.steps_next w s i 11 0) (rule.unblocked w.count w s i) free in
-      let at : (task s i).part.place ≡ place.Done = at_step i 11 0 (rule.unblocked w.count w s i) free in
+      let both = or_else_none (rule.steps_next w s i 11 0) (rule.blocker_refusal w.count w s i) free in
+      let at : (task s i).part.place ≡ place.Done = at_step w s i 11 0 (rule.blocker_refusal w.count w s i) free in
       let all : heard_by (1 + length (wired w i).links) (task s i).part.place ≡ 1 + length (wired w i).links = ap (heard_by (1 + length (wired w i).links)) at in
       let from : filled_by (task s i).part.place ≡ 0 = ap filled_by at in
       let shut : shut_by (task s i).part.place ≡ 1 = ap shut_by at in
-      let busy : running (task s i).part.place ≡ 1 = ap running at in
+      let busy : running_count (task s i).part.place ≡ 1 = ap running_count at in
       let puts : put_by (wired w i).ports (task s i).part.place ≡ (wired w i).ports = ap (put_by (wired w i).ports) at in
       let taken : taken_by (length (wired w i).reads) (task s i).part.place ≡ length (wired w i).reads = ap (taken_by (length (wired w i).reads)) at in
       let same : move.own_slot (task s i).part ≡ (task_entry s i).current = own_current p w rows i (task_entry s i) (task s i) ok fits all in
@@ -248,11 +246,11 @@ module _ (p : Plan) (w : Wiring) (rows : ℕ → ℕ → List ℤ) (s : State) (
       let below : i < length w.tasks = there i named in
       let ok : TaskSound p w rows i (task_entry s i) (task s i) = sound.tasks i below in
       let fits : TaskShape w (declared p i) i (task_entry s i).aimed (task s i) = sound.shape.each_task i below in
-      let at : (task s i).part.place ≡ place.End = at_step i 12 0 (rule.unblocked w.count w s i) free in
+      let at : (task s i).part.place ≡ place.End = at_step w s i 12 0 (rule.blocker_refusal w.count w s i) free in
       let filled : filled_by (task s i).part.place ≡ 1 = ap filled_by at in
       let shut : shut_by (task s i).part.place ≡ 1 = ap shut_by at in
-      let t : TaskState = record { words = move.with_ended (task s i).words ((task s i).part.ended + 1); part = move.after_end (task s i).part; work = move.advanced (task s i).work } in
-      task_step p w rows s own sound i (record { words = move.with_ended (task s i).words ((task s i).part.ended + 1); part = move.after_end (task s i).part; work = move.advanced (task s i).work }) below
+      let t : TaskState = record { words = move.with_ended (task s i).words ((task s i).part.ended + 1); part = move.after_end (task s i).part; work = move.after_advance (task s i).work } in
+      task_step p w rows s own sound i (record { words = move.with_ended (task s i).words ((task s i).part.ended + 1); part = move.after_end (task s i).part; work = move.after_advance (task s i).work }) below
       (step_kept p w s sound.shape (End i) named free) refl
       (record {
         known = omega (arith, ok.known, ok.ended);
@@ -271,6 +269,6 @@ module _ (p : Plan) (w : Wiring) (rows : ℕ → ℕ → List ℤ) (s : State) (
         row = ok.row ∙ ap (rows i) (omega arith);
         later = λ some. absurd (omega arith);
       })
-      (λ k inside is old. writer_same p w k (link_entry s k) (task_entry s i) (task_entry s i) (task s i) (record { words = move.with_ended (task s i).words ((task s i).part.ended + 1); part = move.after_end (task s i).part; work = move.advanced (task s i).work }) (task_entry s (link w k).reader) (task s (link w k).reader) refl refl refl (omega arith) (omega arith) old)
-      (λ k inside is old. reader_on p w k (link_entry s k) (task_entry s (link w k).writer) (task s (link w k).writer) (task_entry s i) (task_entry s i) (task s i) (record { words = move.with_ended (task s i).words ((task s i).part.ended + 1); part = move.after_end (task s i).part; work = move.advanced (task s i).work }) (omega arith) (omega (arith, ok.ended))
+      (λ k inside is old. writer_same p w k (link_entry s k) (task_entry s i) (task_entry s i) (task s i) (record { words = move.with_ended (task s i).words ((task s i).part.ended + 1); part = move.after_end (task s i).part; work = move.after_advance (task s i).work }) (task_entry s (link w k).reader) (task s (link w k).reader) refl refl refl (omega arith) (omega arith) old)
+      (λ k inside is old. reader_on p w k (link_entry s k) (task_entry s (link w k).writer) (task s (link w k).writer) (task_entry s i) (task_entry s i) (task s i) (record { words = move.with_ended (task s i).words ((task s i).part.ended + 1); part = move.after_end (task s i).part; work = move.after_advance (task s i).work }) (omega arith) (omega (arith, ok.ended))
       (λ j less _. absurd (omega arith)) (λ n takes _. absurd (cc (takes))) old)

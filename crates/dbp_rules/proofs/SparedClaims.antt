@@ -8,7 +8,7 @@ use Rattle.dbp_rules.specs.Moves as move
 use Rattle.dbp_rules.specs.Places.{counts_link, is_counted, link, link_entry, no_slot, slot_at, task, task_entry, wired}
 use Rattle.dbp_rules.specs.Promises.{IsFilledByItsOwn, IsUnclaimed, SparesClaims, filled_of}
 use Rattle.dbp_rules.specs.Rules as rule
-use Rattle.dbp_rules.specs.Shapes.{heard_by, place_number, running}
+use Rattle.dbp_rules.specs.Shapes.{heard_by, place_number, running_count}
 use Rattle.dbp_rules.specs.Sound.{Sound}
 use Rattle.dbp_rules.specs.TenParts.{IsStanding, slot_of_claim}
 use Rattle.dbp_rules.specs.declared.parts.Place.TheVariants as place
@@ -42,15 +42,15 @@ module _ (p : Plan) (w : Wiring) (rows : ℕ → ℕ → List ℤ) (s : State) (
   slots_stay i k t named same = of_each (λ x. slot_at x.words.slots (link_entry s k).slot) s i (link w k).writer t (there i named) (λ _. ap (λ (xs : List Slot). slot_at xs (link_entry s k).slot) same)
 
   -- a step that replaces the task's own slot
-  fills : (i kind operand : ℕ) (e : Step) (t : TaskState) (x : Slot) → i < length p.diagram.tasks → rule.or_else (rule.steps_next w s i kind operand) (rule.unblocked w.count w s i) ≡ None
-      → ((n : ℕ) → running (place_of kind n) ≡ 1) → ((n : ℕ) → heard_by (1 + length (wired w i).links) (place_of kind n) ≡ 1 + length (wired w i).links)
+  fills : (i kind operand : ℕ) (e : Step) (t : TaskState) (x : Slot) → i < length p.diagram.tasks → rule.or_else (rule.steps_next w s i kind operand) (rule.blocker_refusal w.count w s i) ≡ None
+      → ((n : ℕ) → running_count (place_of kind n) ≡ 1) → ((n : ℕ) → heard_by (1 + length (wired w i).links) (place_of kind n) ≡ 1 + length (wired w i).links)
       → filled_of e ≡ Some i → t.words.slots ≡ set (task s i).words.slots (move.own_slot (task s i).part) x
       → (k : ℕ) → k < length w.links → (task s (link w k).reader).words.ended < (link_entry s k).instance
       → (slot_at (task (rule.with_task s i t) (link w k).writer).words.slots (link_entry s k).slot ≡ slot_of_claim w s k) ⊎ IsFilledByItsOwn w s e k
   fills i kind operand e t x named free runs all is slots k fits live =
-      let both = or_else_none (rule.steps_next w s i kind operand) (rule.unblocked w.count w s i) free in
+      let both = or_else_none (rule.steps_next w s i kind operand) (rule.blocker_refusal w.count w s i) free in
       let at : (task s i).part.place ≡ place_of kind (place_number (task s i).part.place) = at_next broken.TaskPlace (wired w i) (task s i).part.place kind operand both.0 in
-      let busy : running (task s i).part.place ≡ 1 = ap running at ∙ runs (place_number (task s i).part.place) in
+      let busy : running_count (task s i).part.place ≡ 1 = ap running_count at ∙ runs (place_number (task s i).part.place) in
       let heard : heard_by (1 + length (wired w i).links) (task s i).part.place ≡ 1 + length (wired w i).links = ap (heard_by (1 + length (wired w i).links)) at ∙ all (place_number (task s i).part.place) in
       let moved : (link w k).writer ≡ i → (link_entry s k).slot ≡ move.own_slot (task s i).part → IsFilledByItsOwn w s e k =
       λ out slot. record {
@@ -78,7 +78,7 @@ module _ (p : Plan) (w : Wiring) (rows : ℕ → ℕ → List ℤ) (s : State) (
   spared (Take i r) named free k fits live =
       inl (slots_stay i k (record { words = (task s i).words; part = move.after_take (wired w i) (task s i).part (rule.turn_at (task s i).part.place); work = move.with_read (declared p i) (task s i).work r (rule.read_word w s i (rule.turn_at (task s i).part.place)) }) named refl)
   spared (Shut i) named free k fits live =
-      fills i 9 0 (Shut i) (record { words = move.with_stamp (task s i).words (move.own_slot (task s i).part) 0; part = move.at_place (task s i).part (place.Put 0); work = move.worked (declared p i) (rule.sensed p w s i) (task s i).work })
+      fills i 9 0 (Shut i) (record { words = move.with_stamp (task s i).words (move.own_slot (task s i).part) 0; part = move.at_place (task s i).part (place.Put 0); work = move.after_compute (declared p i) (rule.sense_values p w s i) (task s i).work })
       (record (slot_at (task s i).words.slots (move.own_slot (task s i).part)) { stamp = 0 }) named free (λ n. refl) (λ n. refl) refl refl k fits live
   spared (Put i port) named free k fits live =
       fills i 10 port (Put i port) (record { words = move.with_word (task s i).words (move.own_slot (task s i).part) port (get_or (task s i).work.row port (pos 0)); part = move.at_place (task s i).part (move.put_place (wired w i).ports (port + 1)); work = (task s i).work })
@@ -86,7 +86,7 @@ module _ (p : Plan) (w : Wiring) (rows : ℕ → ℕ → List ℤ) (s : State) (
   spared (Done i) named free k fits live =
       fills i 11 0 (Done i) (record { words = move.with_stamp (task s i).words (move.own_slot (task s i).part) ((task s i).part.ended + 2); part = move.at_place (task s i).part place.End; work = (task s i).work })
       (record (slot_at (task s i).words.slots (move.own_slot (task s i).part)) { stamp = (task s i).part.ended + 2 }) named free (λ n. refl) (λ n. refl) refl refl k fits live
-  spared (End i) named free k fits live = inl (slots_stay i k (record { words = move.with_ended (task s i).words ((task s i).part.ended + 1); part = move.after_end (task s i).part; work = move.advanced (task s i).work }) named refl)
+  spared (End i) named free k fits live = inl (slots_stay i k (record { words = move.with_ended (task s i).words ((task s i).part.ended + 1); part = move.after_end (task s i).part; work = move.after_advance (task s i).work }) named refl)
 
 -- ---- aims
 

@@ -1,28 +1,19 @@
 -- The state before the first step has what the code needs.
 use Rattle.std.proofs.Common.{◌≡◌, ℕ, zero, suc, ℤ, pos, ◌-◌, ◌<◌, List, length, get_or, replicate, refl, sym, ◌∙◌, ap, arith, length-append}
 use Rattle.std.specs.List.{range_with_len}
-use Rattle.std.proofs.lemmas.List.{length-map, length-replicate}
+use Rattle.std.proofs.lemmas.List.{get_or-replicate, length-map, length-replicate}
 use Rattle.std.proofs.lemmas.List.FromFn.{get_or-map-range_with_len, length-range_with_len}
 use Rattle.std.proofs.Math.ListN.{get_or-map}
 use Rattle.dbp_plan.specs.declared.plan.Plan.{Plan}
 use Rattle.dbp_plan.specs.Closed.{place_count}
 use Rattle.dbp_plan.specs.Lookups.{declared}
+use Rattle.dbp_plan.proofs.ListParts.{repeated}
 use Rattle.dbp_rules.specs.Places.{link, no_link_entry, no_order, no_slot, no_task, no_task_wiring, slot_at, task, task_entry, wired}
 use Rattle.dbp_rules.specs.Shapes.{EntryShape, IsShape, IsTaskWired, IsWired, SlotsFit, TaskShape}
 use Rattle.dbp_rules.specs.Start.{first_row, first_states, start_entry, start_of, start_slots, start_task}
 use Rattle.dbp_rules.specs.declared.state.Slot.{Slot}
 use Rattle.dbp_rules.specs.declared.wiring.TaskWiring.{TaskWiring}
 use Rattle.dbp_rules.specs.declared.wiring.Wiring.{Wiring}
-
-repeated : {X : Type 0} (n k : ℕ) (x : X) → get_or (replicate n x) k x ≡ x
-repeated zero k x = refl
-repeated (suc n) zero x = refl
-repeated (suc n) (suc k) x = repeated n k x
-
-repeated_within : {X : Type 0} (n k : ℕ) (x d : X) → k < n → get_or (replicate n x) k d ≡ x
-repeated_within zero k x d below = absurd (omega arith)
-repeated_within (suc n) zero x d below = refl
-repeated_within (suc n) (suc k) x d below = repeated_within n k x d (omega arith)
 
 slots_fit : (t : TaskWiring) (row : List ℤ) → 0 < t.slots → length row ≡ t.ports → SlotsFit t (start_slots t row)
 slots_fit t row some size = (
@@ -32,7 +23,7 @@ slots_fit t row some size = (
   where
     each : (n : ℕ) → n < t.slots → length (slot_at (start_slots t row) n).words ≡ t.ports
     each zero below = size
-    each (suc n) below = ap (λ (x : Slot). length x.words) (repeated_within (t.slots - 1) n (record { stamp = 0; words = replicate t.ports (pos 0) }) no_slot (omega arith)) ∙ length-replicate t.ports (pos 0)
+    each (suc n) below = ap (λ (x : Slot). length x.words) (get_or-replicate (t.slots - 1) n (record { stamp = 0; words = replicate t.ports (pos 0) }) no_slot (omega arith)) ∙ length-replicate t.ports (pos 0)
 
 task_shape : (p : Plan) (w : Wiring) (i : ℕ) → IsTaskWired p w i (wired w i) → TaskShape w (declared p i) i 0 (start_task (wired w i) (declared p i))
 task_shape p w i t =
@@ -52,7 +43,7 @@ task_shape p w i t =
     }
 
 entry_shape : (t : TaskWiring) → 0 < t.slots → EntryShape t (start_entry t)
-entry_shape t some = record { current = some; kept = length-replicate {A = ℕ} t.kept 0; kept_slots = λ j below. let zero_ : get_or (replicate {A = ℕ} t.kept 0) j 0 ≡ 0 = repeated {X = ℕ} t.kept j 0 in rw zero_ some }
+entry_shape t some = record { current = some; kept = length-replicate {A = ℕ} t.kept 0; kept_slots = λ j below. let zero_ : get_or (replicate {A = ℕ} t.kept 0) j 0 ≡ 0 = repeated {A = ℕ} t.kept j 0 in rw zero_ some }
 
 pub start_shape : (p : Plan) (w : Wiring) → IsWired p w → IsShape p w (start_of p w)
 start_shape p w whole =

@@ -13,7 +13,7 @@ use Rattle.release_list.specs.declared.release.Release.TheVariants as release
 use Rattle.dbp_rules.specs.Moves as move
 use Rattle.dbp_rules.specs.Places.{link, task, task_entry, wired}
 use Rattle.dbp_rules.specs.Rules as rule
-use Rattle.dbp_rules.specs.Shapes.{EntryShape, IsShape, IsTaskWired, OrderFits, PlaceIn, TaskShape, heard_by, link_in, place_number, running, slot_owner}
+use Rattle.dbp_rules.specs.Shapes.{EntryShape, IsShape, IsTaskWired, OrderFits, PlaceIn, TaskShape, heard_by, link_in, place_number, running_count, slot_owner}
 use Rattle.dbp_rules.specs.Work.{WorkWords}
 use Rattle.dbp_rules.specs.declared.parts.Place.{Place}
 use Rattle.dbp_rules.specs.declared.parts.Place.TheVariants as place
@@ -25,6 +25,8 @@ use Rattle.dbp_rules.specs.declared.step.Step.{Step}
 use Rattle.dbp_rules.specs.declared.step.Step.TheVariants.{Seen, Aim, Claim, OpenGate, Start, Hear, Look, Take, Shut, Put, Done, End}
 use Rattle.dbp_rules.specs.declared.wiring.TaskWiring.{TaskWiring}
 use Rattle.dbp_rules.specs.declared.wiring.Wiring.{Wiring}
+use Rattle.dbp_rules.proofs.ShapeFacts.{aimed_few, own_fits, place_in, word_ordered}
+use Rattle.dbp_rules.proofs.StepPlaces.{at_step}
 use Rattle.dbp_rules.proofs.Aims.{IsAllowedAim, aim_allowed}
 use Rattle.dbp_rules.proofs.Allowed.{at_claim, at_next, at_open, next_none, or_else_none, place_of}
 use Rattle.dbp_rules.proofs.Counted.{aims_claim, aims_open, aims_other, aims_same}
@@ -32,17 +34,7 @@ use Rattle.dbp_rules.proofs.Frames.{aim_changes, claim_changes, entry_changes, f
 use Rattle.dbp_rules.proofs.Keeping.{claimed_fits, kept_on}
 use Rattle.dbp_rules.proofs.TaskKept.{WorkFits, computed_fits, end_kept, goes_on, goes_to_put, goes_to_read, hear_kept, stamped_fit, start_kept, word_fits}
 
--- a place that the task has, told otherwise
-inside_at : (t : TaskWiring) (q r : Place) → q ≡ r → PlaceIn t q → PlaceIn t r
-inside_at t q r same inside = subst (λ (x : Place). PlaceIn t x) same inside
-
 module _ (p : Plan) (w : Wiring) (s : State) (shape : IsShape p w s) where
-  -- a task is aimed no more often than it occurs
-  aimed_few : (i : ℕ) → i < length w.tasks → (task_entry s i).aimed ≤ MAX_OCCURRENCES
-  aimed_few i below =
-      let t : IsTaskWired p w i (wired w i) = shape.wiring.each_task i below in
-      omega (arith, shape.aimed i below, shape.wiring.releases.aims_times s.releaser.place i, t.few, ap length t.times)
-
   seen_kept : (i : ℕ) → i < length w.tasks → IsShape p w (rule.next p w s (Seen i))
   seen_kept i below =
       let e : EntryShape (wired w i) (task_entry s i) = shape.each_entry i below in
@@ -86,7 +78,7 @@ module _ (p : Plan) (w : Wiring) (s : State) (shape : IsShape p w s) where
       let e : EntryShape (wired w (link w k).writer) (task_entry s (link w k).writer) = shape.each_entry (link w k).writer writer in
       let slot : move.claimed_slot (link w k).delay (task_entry s (link w k).writer).current (task_entry s (link w k).writer).kept < (wired w (link w k).writer).slots =
       claimed_fits (wired w (link w k).writer).slots (wired w (link w k).writer).kept (link w k).delay (task_entry s (link w k).writer) e.current e.kept_slots (shape.wiring.delay k below) in
-      let number : (task_entry s (link w k).writer).aimed - (link w k).delay ≤ MAX_OCCURRENCES = omega (arith, aimed_few (link w k).writer writer) in
+      let number : (task_entry s (link w k).writer).aimed - (link w k).delay ≤ MAX_OCCURRENCES = omega (arith, aimed_few p w s shape (link w k).writer writer) in
       let c = move.claim_entry (link w k).delay (task_entry s (link w k).writer) (task_entry s (link w k).reader) in
       further_on p w (rule.with_claim s k c) (claim_changes p w s k c shape below (record { claim = (slot, number); order = (slot, number) })) (λ j. aims_claim w.releases s.releaser.place k j here)
 
@@ -109,10 +101,6 @@ module _ (p : Plan) (w : Wiring) (s : State) (shape : IsShape p w s) where
         row = ok.row;
       })) (λ j. aims_open w.releases s.releaser.place i j here)
 
-  -- the place of a task is the one of its allowed step
-  at_step : (i kind operand : ℕ) (rest : Option Illegal) → rule.or_else (rule.steps_next w s i kind operand) rest ≡ None → (task s i).part.place ≡ place_of kind (place_number (task s i).part.place)
-  at_step i kind operand rest free = at_next broken.TaskPlace (wired w i) (task s i).part.place kind operand (or_else_none _ _ free).0
-
   start_on : (i : ℕ) → i < length w.tasks → (task s i).part.place ≡ place.Idle → IsShape p w (rule.next p w s (Start i))
   start_on i below at =
       let ok : TaskShape w (declared p i) i (task_entry s i).aimed (task s i) = shape.each_task i below in
@@ -123,24 +111,19 @@ module _ (p : Plan) (w : Wiring) (s : State) (shape : IsShape p w s) where
         | inr isnt ↦ rw isnt (task_changes p w s i (task s i) shape below ok)
       ]
 
-  -- what is ordered at a place of the hears fits
-  pub word_ordered : (i n : ℕ) → i < length w.tasks → n ≤ length (wired w i).links → OrderFits (wired w (slot_owner w i n)) (rule.order_word w s i n)
-  word_ordered i zero below few = (shape.each_task i below).aim
-  word_ordered i (suc n) below few = (shape.each_link (link_in (wired w i) n) ((shape.wiring.each_task i below).into n (omega arith))).order
-
   hear_on : (i n : ℕ) → i < length w.tasks → (task s i).part.place ≡ place.Hear n → IsShape p w (rule.next p w s (Hear i))
   hear_on i n below at =
       let ok : TaskShape w (declared p i) i (task_entry s i).aimed (task s i) = shape.each_task i below in
-      let few : n ≤ length (wired w i).links = omega (arith, inside_at (wired w i) (task s i).part.place (place.Hear n) at ok.place) in
-      rw at (task_changes p w s i (record (task s i) { part = move.after_hear (wired w i) (task s i).part n (rule.order_word w s i n) }) shape below (hear_kept w (declared p i) i (task_entry s i).aimed (task s i) ok n (rule.order_word w s i n) at (word_ordered i n below few)))
+      let few : n ≤ length (wired w i).links = omega (arith, place_in p w s shape i (place.Hear n) below at) in
+      rw at (task_changes p w s i (record (task s i) { part = move.after_hear (wired w i) (task s i).part n (rule.order_word w s i n) }) shape below (hear_kept w (declared p i) i (task_entry s i).aimed (task s i) ok n (rule.order_word w s i n) at (word_ordered p w s shape i n below few)))
 
   look_on : (i r n : ℕ) → i < length w.tasks → (task s i).part.place ≡ place.Look n → IsShape p w (rule.next p w s (Look i r))
   look_on i r n below at =
       let ok : TaskShape w (declared p i) i (task_entry s i).aimed (task s i) = shape.each_task i below in
-      let few : n < length (wired w i).reads = inside_at (wired w i) (task s i).part.place (place.Look n) at ok.place in
+      let few : n < length (wired w i).reads = place_in p w s shape i (place.Look n) below at in
       elim (cases_Bool (rule.is_ready w s i n)) [
         | inl is ↦ rw (at, is) (task_changes p w s i (record (task s i) { part = move.at_place (task s i).part (place.Take n) }) shape below
-            (goes_on w (declared p i) i (task_entry s i).aimed (task s i) ok (place.Take n) (task s i).words (task s i).work (ap running at) (ap (heard_by (1 + length (wired w i).links)) at) (record { inside = few; busy = refl; heard = refl }) refl refl ok.slots ok.now ok.later ok.row))
+            (goes_on w (declared p i) i (task_entry s i).aimed (task s i) ok (place.Take n) (task s i).words (task s i).work (ap running_count at) (ap (heard_by (1 + length (wired w i).links)) at) (record { inside = few; busy = refl; heard = refl }) refl refl ok.slots ok.now ok.later ok.row))
         | inr isnt ↦ rw (at, isnt) (task_changes p w s i (task s i) shape below ok)
       ]
 
@@ -149,14 +132,8 @@ module _ (p : Plan) (w : Wiring) (s : State) (shape : IsShape p w s) where
       let ok : TaskShape w (declared p i) i (task_entry s i).aimed (task s i) = shape.each_task i below in
       let work : WorkWords = move.with_read (declared p i) (task s i).work r (rule.read_word w s i n) in
       rw at (task_changes p w s i (record { words = (task s i).words; part = move.after_take (wired w i) (task s i).part n; work = work }) shape below
-      (goes_on w (declared p i) i (task_entry s i).aimed (task s i) ok (move.read_place (length (wired w i).reads) (n + 1)) (task s i).words work (ap running at) (ap (heard_by (1 + length (wired w i).links)) at)
+      (goes_on w (declared p i) i (task_entry s i).aimed (task s i) ok (move.read_place (length (wired w i).reads) (n + 1)) (task s i).words work (ap running_count at) (ap (heard_by (1 + length (wired w i).links)) at)
       (goes_to_read (wired w i) (n + 1)) refl refl ok.slots (length-set (task s i).work.now (length (declared p i).states + length (declared p i).senses + r) (rule.read_word w s i n) ∙ ok.now) ok.later ok.row))
-
-  -- a task that has heard all its orders has heard its own
-  own_fits : (i : ℕ) → i < length w.tasks → heard_by (1 + length (wired w i).links) (task s i).part.place ≡ 1 + length (wired w i).links → move.own_slot (task s i).part < (wired w i).slots
-  own_fits i below all =
-      let ok : TaskShape w (declared p i) i (task_entry s i).aimed (task s i) = shape.each_task i below in
-      (ok.each_heard 0 (omega (arith, ok.heard, all))).0
 
   shut_on : (i : ℕ) → i < length w.tasks → (task s i).part.place ≡ place.Shut → IsShape p w (rule.next p w s (Shut i))
   shut_on i below at =
@@ -164,15 +141,15 @@ module _ (p : Plan) (w : Wiring) (s : State) (shape : IsShape p w s) where
       let t : IsTaskWired p w i (wired w i) = shape.wiring.each_task i below in
       let all : heard_by (1 + length (wired w i).links) (task s i).part.place ≡ 1 + length (wired w i).links = ap (heard_by (1 + length (wired w i).links)) at in
       let d : Task = declared p i in
-      let senses : List ℤ = rule.sensed p w s i in
+      let senses : List ℤ = rule.sense_values p w s i in
       let count : length senses ≡ length d.senses = length-map d.senses _ in
       let room : length (take (let_base d) (move.with_senses d senses (task s i).work).now) ≡ let_base d =
       length-take-le (let_base d) (move.with_senses d senses (task s i).work).now
       (omega (arith, ok.now, count, length-append (take (length d.states) (task s i).work.now) (senses ++ drop (length d.states + length senses) (task s i).work.now), length-append senses (drop (length d.states + length senses) (task s i).work.now), length-take-le (length d.states) (task s i).work.now (omega (arith, ok.now)), length-drop (length d.states + length senses) (task s i).work.now)) in
-      let fits : WorkFits d (move.worked d senses (task s i).work) = computed_fits d (length p.diagram.inputs) (length p.diagram.events) (length p.diagram.links) (take (let_base d) (move.with_senses d senses (task s i).work).now) t.closed room in
-      task_changes p w s i (record { words = move.with_stamp (task s i).words (move.own_slot (task s i).part) 0; part = move.at_place (task s i).part (place.Put 0); work = move.worked d senses (task s i).work }) shape below
-      (goes_on w d i (task_entry s i).aimed (task s i) ok (place.Put 0) (move.with_stamp (task s i).words (move.own_slot (task s i).part) 0) (move.worked d senses (task s i).work) (ap running at) all
-      (record { inside = t.some_port; busy = refl; heard = refl }) refl refl (stamped_fit (wired w i) (task s i).words (move.own_slot (task s i).part) 0 ok.slots (own_fits i below all)) fits.now fits.later fits.row)
+      let fits : WorkFits d (move.after_compute d senses (task s i).work) = computed_fits d (length p.diagram.inputs) (length p.diagram.events) (length p.diagram.links) (take (let_base d) (move.with_senses d senses (task s i).work).now) t.closed room in
+      task_changes p w s i (record { words = move.with_stamp (task s i).words (move.own_slot (task s i).part) 0; part = move.at_place (task s i).part (place.Put 0); work = move.after_compute d senses (task s i).work }) shape below
+      (goes_on w d i (task_entry s i).aimed (task s i) ok (place.Put 0) (move.with_stamp (task s i).words (move.own_slot (task s i).part) 0) (move.after_compute d senses (task s i).work) (ap running_count at) all
+      (record { inside = t.some_port; busy = refl; heard = refl }) refl refl (stamped_fit (wired w i) (task s i).words (move.own_slot (task s i).part) 0 ok.slots (own_fits p w s shape i (task s i).part.place below refl all)) fits.now fits.later fits.row)
 
   put_on : (i port n : ℕ) → i < length w.tasks → (task s i).part.place ≡ place.Put n → IsShape p w (rule.next p w s (Put i port))
   put_on i port n below at =
@@ -180,8 +157,8 @@ module _ (p : Plan) (w : Wiring) (s : State) (shape : IsShape p w s) where
       let all : heard_by (1 + length (wired w i).links) (task s i).part.place ≡ 1 + length (wired w i).links = ap (heard_by (1 + length (wired w i).links)) at in
       let words = move.with_word (task s i).words (move.own_slot (task s i).part) port _ in
       task_changes p w s i _ shape below
-      (goes_on w (declared p i) i (task_entry s i).aimed (task s i) ok (move.put_place (wired w i).ports (port + 1)) words (task s i).work (ap running at) all
-      (goes_to_put (wired w i) (port + 1)) refl refl (word_fits (wired w i) (task s i).words (move.own_slot (task s i).part) port _ ok.slots (own_fits i below all)) ok.now ok.later ok.row)
+      (goes_on w (declared p i) i (task_entry s i).aimed (task s i) ok (move.put_place (wired w i).ports (port + 1)) words (task s i).work (ap running_count at) all
+      (goes_to_put (wired w i) (port + 1)) refl refl (word_fits (wired w i) (task s i).words (move.own_slot (task s i).part) port _ ok.slots (own_fits p w s shape i (task s i).part.place below refl all)) ok.now ok.later ok.row)
 
   done_on : (i : ℕ) → i < length w.tasks → (task s i).part.place ≡ place.Done → IsShape p w (rule.next p w s (Done i))
   done_on i below at =
@@ -189,8 +166,8 @@ module _ (p : Plan) (w : Wiring) (s : State) (shape : IsShape p w s) where
       let all : heard_by (1 + length (wired w i).links) (task s i).part.place ≡ 1 + length (wired w i).links = ap (heard_by (1 + length (wired w i).links)) at in
       let stamp : ℕ = (task s i).part.ended + 2 in
       task_changes p w s i (record { words = move.with_stamp (task s i).words (move.own_slot (task s i).part) stamp; part = move.at_place (task s i).part place.End; work = (task s i).work }) shape below
-      (goes_on w (declared p i) i (task_entry s i).aimed (task s i) ok place.End (move.with_stamp (task s i).words (move.own_slot (task s i).part) stamp) (task s i).work (ap running at) all
-      (record { inside = omega arith; busy = refl; heard = refl }) refl refl (stamped_fit (wired w i) (task s i).words (move.own_slot (task s i).part) stamp ok.slots (own_fits i below all)) ok.now ok.later ok.row)
+      (goes_on w (declared p i) i (task_entry s i).aimed (task s i) ok place.End (move.with_stamp (task s i).words (move.own_slot (task s i).part) stamp) (task s i).work (ap running_count at) all
+      (record { inside = omega arith; busy = refl; heard = refl }) refl refl (stamped_fit (wired w i) (task s i).words (move.own_slot (task s i).part) stamp ok.slots (own_fits p w s shape i (task s i).part.place below refl all)) ok.now ok.later ok.row)
 
   end_on : (i : ℕ) → i < length w.tasks → (task s i).part.place ≡ place.End → IsShape p w (rule.next p w s (End i))
   end_on i below at =
@@ -206,14 +183,14 @@ module _ (p : Plan) (w : Wiring) (s : State) (shape : IsShape p w s) where
   step_kept (Aim i slot) named free = aim_kept i slot (there i named) free
   step_kept (Claim k) named free = claim_kept k (rw shape.wiring.links named) free
   step_kept (OpenGate i) named free = open_kept i (there i named) free
-  step_kept (Start i) named free = start_on i (there i named) (at_step i 5 0 _ free)
-  step_kept (Hear i) named free = hear_on i _ (there i named) (at_step i 6 0 _ free)
-  step_kept (Look i r) named free = look_on i r _ (there i named) (at_step i 7 r _ free)
-  step_kept (Take i r) named free = take_on i r _ (there i named) (at_step i 8 r _ free)
-  step_kept (Shut i) named free = shut_on i (there i named) (at_step i 9 0 _ free)
-  step_kept (Put i port) named free = put_on i port _ (there i named) (at_step i 10 port _ free)
-  step_kept (Done i) named free = done_on i (there i named) (at_step i 11 0 _ free)
-  step_kept (End i) named free = end_on i (there i named) (at_step i 12 0 _ free)
+  step_kept (Start i) named free = start_on i (there i named) (at_step w s i 5 0 _ free)
+  step_kept (Hear i) named free = hear_on i _ (there i named) (at_step w s i 6 0 _ free)
+  step_kept (Look i r) named free = look_on i r _ (there i named) (at_step w s i 7 r _ free)
+  step_kept (Take i r) named free = take_on i r _ (there i named) (at_step w s i 8 r _ free)
+  step_kept (Shut i) named free = shut_on i (there i named) (at_step w s i 9 0 _ free)
+  step_kept (Put i port) named free = put_on i port _ (there i named) (at_step w s i 10 port _ free)
+  step_kept (Done i) named free = done_on i (there i named) (at_step w s i 11 0 _ free)
+  step_kept (End i) named free = end_on i (there i named) (at_step w s i 12 0 _ free)
 
 -- so does a step that is asked for, allowed or not
 answers_kept : (why : Option Illegal) (p : Plan) (w : Wiring) (s new : State) (e : Step) (result : Result Heard Illegal) → IsShape p w s → (why ≡ None → IsShape p w (rule.next p w s e)) → rule.IsAnswer why p w s e result new → IsShape p w new

@@ -13,8 +13,12 @@ use Rattle.dbp_rules.specs.declared.wiring.Wiring.{Wiring}
 use Rattle.dbp_rules.proofs.Allowed.{at_next, next_none, or_else_none, place_of}
 
 module _ (w : Wiring) (s : State) (i : ℕ) where
-  at_step : (kind operand : ℕ) (rest : Option Illegal) → rule.or_else (rule.steps_next w s i kind operand) rest ≡ None → (task s i).part.place ≡ place_of kind (place_number (task s i).part.place)
-  at_step kind operand rest free = at_next broken.TaskPlace (wired w i) (task s i).part.place kind operand (or_else_none _ _ free).0
+  -- a task whose next step is of this kind is at the place of the kind
+  pub at_kind : (kind operand : ℕ) → rule.steps_next w s i kind operand ≡ None → (task s i).part.place ≡ place_of kind (place_number (task s i).part.place)
+  at_kind kind operand next = at_next broken.TaskPlace (wired w i) (task s i).part.place kind operand next
+
+  pub at_step : (kind operand : ℕ) (rest : Option Illegal) → rule.or_else (rule.steps_next w s i kind operand) rest ≡ None → (task s i).part.place ≡ place_of kind (place_number (task s i).part.place)
+  at_step kind operand rest free = at_kind kind operand (or_else_none _ _ free).0
 
   pub at_hear : rule.refusal w s (Hear i) ≡ None → (task s i).part.place ≡ place.Hear (rule.hears_at (task s i).part.place)
   at_hear free =

@@ -23,9 +23,10 @@ use Rattle.dbp_rules.specs.declared.state.TaskWords.{TaskWords}
 use Rattle.dbp_rules.specs.declared.step.Step.{Step}
 use Rattle.dbp_rules.specs.declared.step.Step.TheVariants.{Seen, Aim, Claim, OpenGate, Start, Hear, Look, Take, Shut, Put, Done, End}
 use Rattle.dbp_rules.specs.declared.wiring.Wiring.{Wiring}
+use Rattle.dbp_rules.proofs.ShapeFacts.{aimed_few, own_fits}
 use Rattle.dbp_rules.proofs.StateKept.{step_kept}
 use Rattle.dbp_rules.proofs.StepPlaces.{at_done, at_put, at_shut}
-use Rattle.dbp_rules.proofs.TableSizes.{is_slot, sizes_of_task, task_count}
+use Rattle.dbp_rules.proofs.TableSizes.{is_slot, is_word, sizes_of_task, task_count}
 use Rattle.dbp_rules.proofs.WordNumbers.{order_below, value_below}
 
 -- the task that was replaced
@@ -46,21 +47,14 @@ module _ (p : Plan) (w : Wiring) (s : State) (shape : IsShape p w s) where
 
   -- ---- the slot that a task fills
 
-  -- a task that has heard its orders fills one of its slots
-  own_fits : (i : ℕ) (q : Place) → i < length w.tasks → (task s i).part.place ≡ q → heard_by (1 + length (wired w i).links) q ≡ 1 + length (wired w i).links → move.own_slot (task s i).part < (wired w i).slots
-  own_fits i q below at all =
-      let ok : TaskShape w (declared p i) i (task_entry s i).aimed (task s i) = shape.each_task i below in
-      let heard : length (task s i).part.heard.items ≡ 1 + length (wired w i).links = ok.heard ∙ ap (heard_by (1 + length (wired w i).links)) at ∙ all in
-      (ok.each_heard 0 (omega (arith, heard))).0
-
   shut_fits : (i : ℕ) → i < length w.tasks → rule.refusal w s (Shut i) ≡ None → move.own_slot (task s i).part < (wired w i).slots
-  shut_fits i below free = own_fits i place.Shut below (at_shut w s i free) refl
+  shut_fits i below free = own_fits p w s shape i place.Shut below (at_shut w s i free) refl
 
   put_fits : (i port : ℕ) → i < length w.tasks → rule.refusal w s (Put i port) ≡ None → move.own_slot (task s i).part < (wired w i).slots
-  put_fits i port below free = own_fits i (place.Put port) below (at_put w s i port free) refl
+  put_fits i port below free = own_fits p w s shape i (place.Put port) below (at_put w s i port free) refl
 
   done_fits : (i : ℕ) → i < length w.tasks → rule.refusal w s (Done i) ≡ None → move.own_slot (task s i).part < (wired w i).slots
-  done_fits i below free = own_fits i place.Done below (at_done w s i free) refl
+  done_fits i below free = own_fits p w s shape i place.Done below (at_done w s i free) refl
 
   -- the port of a put is one of the task's
   put_port : (i port : ℕ) → i < length w.tasks → rule.refusal w s (Put i port) ≡ None → port < (wired w i).ports
@@ -68,26 +62,23 @@ module _ (p : Plan) (w : Wiring) (s : State) (shape : IsShape p w s) where
 
   -- ---- the word is one of the table's
 
-  is_word : (v q : TableWord) → Some v ≡ Some q → IsWord (sizes_of_wiring w) v → IsWord (sizes_of_wiring w) q
-  is_word v q same = subst (λ (x : TableWord). IsWord (sizes_of_wiring w) x) (same_Some v q same)
-
   own_word : (i : ℕ) → i < length w.tasks → move.own_slot (task s i).part < (wired w i).slots → IsSlot (sizes_of_wiring w) i (move.own_slot (task s i).part)
   own_word i below fits = is_slot w i (move.own_slot (task s i).part) below fits
 
   pub stored_inside : (e : Step) (q : TableWord) → rule.IsNamed p.diagram e → rule.refusal w s e ≡ None → stored_by s e ≡ Some q → IsWord (sizes_of_wiring w) q
   stored_inside (Seen i) q named free is = absurd (cc (is))
-  stored_inside (Aim i slot) q named free is = is_word (aim i) q is (omega (arith, there i named, task_count w))
-  stored_inside (Claim k) q named free is = is_word (claim k) q is (rw shape.wiring.links named)
-  stored_inside (OpenGate i) q named free is = is_word (gate i) q is (omega (arith, there i named, task_count w))
+  stored_inside (Aim i slot) q named free is = is_word w (aim i) q is (omega (arith, there i named, task_count w))
+  stored_inside (Claim k) q named free is = is_word w (claim k) q is (rw shape.wiring.links named)
+  stored_inside (OpenGate i) q named free is = is_word w (gate i) q is (omega (arith, there i named, task_count w))
   stored_inside (Start i) q named free is = absurd (cc (is))
   stored_inside (Hear i) q named free is = absurd (cc (is))
   stored_inside (Look i r) q named free is = absurd (cc (is))
   stored_inside (Take i r) q named free is = absurd (cc (is))
-  stored_inside (Shut i) q named free is = is_word (stamp i (move.own_slot (task s i).part)) q is (own_word i (there i named) (shut_fits i (there i named) free))
+  stored_inside (Shut i) q named free is = is_word w (stamp i (move.own_slot (task s i).part)) q is (own_word i (there i named) (shut_fits i (there i named) free))
   stored_inside (Put i port) q named free is =
-      is_word (word i (move.own_slot (task s i).part) port) q is (own_word i (there i named) (put_fits i port (there i named) free), rw (sizes_of_task w i) (put_port i port (there i named) free))
-  stored_inside (Done i) q named free is = is_word (stamp i (move.own_slot (task s i).part)) q is (own_word i (there i named) (done_fits i (there i named) free))
-  stored_inside (End i) q named free is = is_word (ended i) q is (omega (arith, there i named, task_count w))
+      is_word w (word i (move.own_slot (task s i).part) port) q is (own_word i (there i named) (put_fits i port (there i named) free), rw (sizes_of_task w i) (put_port i port (there i named) free))
+  stored_inside (Done i) q named free is = is_word w (stamp i (move.own_slot (task s i).part)) q is (own_word i (there i named) (done_fits i (there i named) free))
+  stored_inside (End i) q named free is = is_word w (ended i) q is (omega (arith, there i named, task_count w))
 
   -- ---- its number
 
@@ -116,7 +107,7 @@ module _ (p : Plan) (w : Wiring) (s : State) (shape : IsShape p w s) where
   shut_number i named free =
       let n : ℕ = move.own_slot (task s i).part in
       ap (λ (t : TaskState). (slot_at t.words.slots n).stamp)
-      (task_there s i (record { words = move.with_stamp (task s i).words (move.own_slot (task s i).part) 0; part = move.at_place (task s i).part (place.Put 0); work = move.worked (declared p i) (rule.sensed p w s i) (task s i).work }) (inside i named))
+      (task_there s i (record { words = move.with_stamp (task s i).words (move.own_slot (task s i).part) 0; part = move.at_place (task s i).part (place.Put 0); work = move.after_compute (declared p i) (rule.sense_values p w s i) (task s i).work }) (inside i named))
       ∙ stamp_there (task s i).words n 0 (slot_inside i named (shut_fits i (there i named) free))
 
   put_number : (i port : ℕ) → i < length p.diagram.tasks → rule.refusal w s (Put i port) ≡ None → value_in (rule.next p w s (Put i port)) (word i (move.own_slot (task s i).part) port) ≡ stored_number w s (Put i port)
@@ -138,7 +129,7 @@ module _ (p : Plan) (w : Wiring) (s : State) (shape : IsShape p w s) where
 
   end_number : (i : ℕ) → i < length p.diagram.tasks → value_in (rule.next p w s (End i)) (ended i) ≡ stored_number w s (End i)
   end_number i named =
-      ap (λ (t : TaskState). t.words.ended) (task_there s i (record { words = move.with_ended (task s i).words ((task s i).part.ended + 1); part = move.after_end (task s i).part; work = move.advanced (task s i).work }) (inside i named))
+      ap (λ (t : TaskState). t.words.ended) (task_there s i (record { words = move.with_ended (task s i).words ((task s i).part.ended + 1); part = move.after_end (task s i).part; work = move.after_advance (task s i).work }) (inside i named))
 
   pub number_stored : (e : Step) (q : TableWord) → rule.IsNamed p.diagram e → rule.refusal w s e ≡ None → stored_by s e ≡ Some q → value_in (rule.next p w s e) q ≡ stored_number w s e
   number_stored (Seen i) q named free is = absurd (cc (is))
@@ -156,16 +147,10 @@ module _ (p : Plan) (w : Wiring) (s : State) (shape : IsShape p w s) where
 
   -- ---- it is below 2^64
 
-  -- a task is aimed no more often than it occurs
-  aimed_few : (i : ℕ) → i < length w.tasks → (task_entry s i).aimed ≤ MAX_OCCURRENCES
-  aimed_few i below =
-      let t : IsTaskWired p w i (wired w i) = shape.wiring.each_task i below in
-      omega (arith, shape.aimed i below, shape.wiring.releases.aims_times s.releaser.place i, t.few, ap length t.times)
-
   ended_few : (i : ℕ) → i < length w.tasks → (task s i).part.ended ≤ MAX_OCCURRENCES
   ended_few i below =
       let ok : TaskShape w (declared p i) i (task_entry s i).aimed (task s i) = shape.each_task i below in
-      omega (arith, ok.gate, ok.aimed, aimed_few i below)
+      omega (arith, ok.gate, ok.aimed, aimed_few p w s shape i below)
 
   module _ (few : (i : ℕ) → i < length w.tasks → (wired w i).slots < 2 ^ 32) where
     order_few : (i : ℕ) (o : Order) → i < length w.tasks → OrderFits (wired w i) o → order_value o < 2 ^ 64
@@ -187,7 +172,7 @@ module _ (p : Plan) (w : Wiring) (s : State) (shape : IsShape p w s) where
     number_below (Seen i) put named free = omega arith
     number_below (Aim i slot) put named free = aim_few i slot named free
     number_below (Claim k) put named free = claim_few k named free
-    number_below (OpenGate i) put named free = omega (arith, aimed_few i (there i named))
+    number_below (OpenGate i) put named free = omega (arith, aimed_few p w s shape i (there i named))
     number_below (Start i) put named free = omega arith
     number_below (Hear i) put named free = omega arith
     number_below (Look i r) put named free = omega arith

@@ -188,19 +188,19 @@ module _ (p : Plan) (w : Wiring) (s : State) (shape : IsShape p w s) where
   words_kept (Take i r) named free q other =
       words_stay s i (move.after_take (wired w i) (task s i).part (rule.turn_at (task s i).part.place)) (move.with_read (declared p i) (task s i).work r (rule.read_word w s i (rule.turn_at (task s i).part.place))) q (there i named)
   words_kept (Shut i) named free q other =
-      let inside : move.own_slot (task s i).part < length (task s i).words.slots = own_inside i 9 0 (rule.unblocked w.count w s i) named free (λ n. refl) in
-      value_task s i (record { words = move.with_stamp (task s i).words (move.own_slot (task s i).part) 0; part = move.at_place (task s i).part (place.Put 0); work = move.worked (declared p i) (rule.sensed p w s i) (task s i).work }) q (there i named)
+      let inside : move.own_slot (task s i).part < length (task s i).words.slots = own_inside i 9 0 (rule.blocker_refusal w.count w s i) named free (λ n. refl) in
+      value_task s i (record { words = move.with_stamp (task s i).words (move.own_slot (task s i).part) 0; part = move.at_place (task s i).part (place.Put 0); work = move.after_compute (declared p i) (rule.sense_values p w s i) (task s i).work }) q (there i named)
       (but_stamp (task s i).words (move.own_slot (task s i).part) 0 i q inside other)
   words_kept (Put i port) named free q other =
-      let inside : move.own_slot (task s i).part < length (task s i).words.slots = own_inside i 10 port (rule.unblocked w.count w s i) named free (λ n. refl) in
+      let inside : move.own_slot (task s i).part < length (task s i).words.slots = own_inside i 10 port (rule.blocker_refusal w.count w s i) named free (λ n. refl) in
       value_task s i (record { words = move.with_word (task s i).words (move.own_slot (task s i).part) port (get_or (task s i).work.row port (pos 0)); part = move.at_place (task s i).part (move.put_place (wired w i).ports (port + 1)); work = (task s i).work }) q (there i named)
       (but_word (task s i).words (move.own_slot (task s i).part) port i (get_or (task s i).work.row port (pos 0)) q inside other)
   words_kept (Done i) named free q other =
-      let inside : move.own_slot (task s i).part < length (task s i).words.slots = own_inside i 11 0 (rule.unblocked w.count w s i) named free (λ n. refl) in
+      let inside : move.own_slot (task s i).part < length (task s i).words.slots = own_inside i 11 0 (rule.blocker_refusal w.count w s i) named free (λ n. refl) in
       value_task s i (record { words = move.with_stamp (task s i).words (move.own_slot (task s i).part) ((task s i).part.ended + 2); part = move.at_place (task s i).part place.End; work = (task s i).work }) q (there i named)
       (but_stamp (task s i).words (move.own_slot (task s i).part) ((task s i).part.ended + 2) i q inside other)
   words_kept (End i) named free q other =
-      value_task s i (record { words = move.with_ended (task s i).words ((task s i).part.ended + 1); part = move.after_end (task s i).part; work = move.advanced (task s i).work }) q (there i named)
+      value_task s i (record { words = move.with_ended (task s i).words ((task s i).part.ended + 1); part = move.after_end (task s i).part; work = move.after_advance (task s i).work }) q (there i named)
       (but_ended (task s i).words ((task s i).part.ended + 1) i q other)
 
   pub parts_kept : (e : Step) → rule.IsNamed p.diagram e → KeepsOtherParts (made_by e) s (rule.next p w s e)

@@ -1,13 +1,14 @@
 -- The table's sizes are those of the wiring, and the numbers of slots and instances are small.
-use Rattle.std.proofs.Common.{◌≡◌, ℕ, ◌<◌, ◌≤◌, ◌^◌, length, map, ap, arith}
+use Rattle.std.proofs.Common.{◌≡◌, ℕ, ◌<◌, ◌≤◌, ◌^◌, length, map, Some, ap, subst, arith}
 use Rattle.std.specs.List.{enumerate_from}
 use Rattle.std.proofs.lemmas.List.{length-map}
+use Rattle.std.proofs.lemmas.Option.{same_Some}
 use Rattle.std.proofs.lemmas.Simd.{map-map}
 use Rattle.std.proofs.Math.ListN.{get_or-map}
 use Rattle.dbp_plan.specs.declared.plan.Plan.{Plan}
 use Rattle.dbp_plan.specs.Closed.{IsClosed}
 use Rattle.dbp_slots.specs.Slots.{is_to_higher, is_to_lower}
-use Rattle.dbp_slots.specs.TableWords.{IsSlot, SlotSizes, sizes_of, task_sizes}
+use Rattle.dbp_slots.specs.TableWords.{IsSlot, IsWord, SlotSizes, TableWord, sizes_of, task_sizes}
 use Rattle.dbp_slots.proofs.Links.{delay_short, links_few}
 use Rattle.dbp_rules.specs.LoadedWords.{sizes_of_wiring}
 use Rattle.dbp_rules.specs.Places.{no_task_wiring, wired}
@@ -31,6 +32,10 @@ sizes_of_task w i = get_or-map slot_sizes w.tasks i no_task_wiring
 
 pub is_slot : (w : Wiring) (i n : ℕ) → i < length w.tasks → n < (wired w i).slots → IsSlot (sizes_of_wiring w) i n
 is_slot w i n below fits = (omega (arith, task_count w), rw (sizes_of_task w i) fits)
+
+-- a word that is there is one of the table's
+pub is_word : (w : Wiring) (v q : TableWord) → Some v ≡ Some q → IsWord (sizes_of_wiring w) v → IsWord (sizes_of_wiring w) q
+is_word w v q same = subst (λ (x : TableWord). IsWord (sizes_of_wiring w) x) (same_Some v q same)
 
 pub same_sizes : (p : Plan) → sizes_of_wiring (wiring_of p All) ≡ sizes_of p.diagram
 same_sizes p =

@@ -16,9 +16,9 @@ use Rattle.sync_meaning.specs.SomeMeaningTables.{row_in, rows_in}
 use Rattle.dbp_rules.specs.Places.{read_at, task, task_entry, wired}
 use Rattle.dbp_rules.specs.Promises.{TakesTheMeaning}
 use Rattle.dbp_rules.specs.Rules as rule
-use Rattle.dbp_rules.specs.Shapes.{PlaceIn, TaskShape, running}
+use Rattle.dbp_rules.specs.Shapes.{PlaceIn, TaskShape, running_count}
 use Rattle.dbp_rules.specs.Sound.{Sound}
-use Rattle.dbp_rules.specs.SoundParts.{last_shut, meant}
+use Rattle.dbp_rules.specs.SoundParts.{last_shut, meant_word}
 use Rattle.dbp_rules.specs.declared.parts.Place.{Place}
 use Rattle.dbp_rules.specs.declared.parts.Place.TheVariants as place
 use Rattle.dbp_rules.specs.declared.state.State.{State}
@@ -28,10 +28,10 @@ use Rattle.dbp_rules.proofs.Allowed.{or_else_none}
 use Rattle.dbp_rules.proofs.SoundAnswers.{named_read, take_hears}
 use Rattle.dbp_rules.proofs.SoundGoes.{shut_running}
 use Rattle.dbp_rules.proofs.SoundOwn.{IsOwn}
-use Rattle.dbp_rules.proofs.SoundReading.{at_take}
+use Rattle.dbp_rules.proofs.StepPlaces.{at_take}
 
 -- a task's running instance is one of its occurrences
-started_few : (p : Plan) (w : Wiring) (rows : ℕ → ℕ → List ℤ) (s : State) (i : ℕ) → IsOwn p w → Sound p w rows s → i < length w.tasks → (task s i).part.ended + running (task s i).part.place ≤ length (times_of p.batches i)
+started_few : (p : Plan) (w : Wiring) (rows : ℕ → ℕ → List ℤ) (s : State) (i : ℕ) → IsOwn p w → Sound p w rows s → i < length w.tasks → (task s i).part.ended + running_count (task s i).part.place ≤ length (times_of p.batches i)
 started_few p w rows s i own sound below =
     let fits : TaskShape w (declared p i) i (task_entry s i).aimed (task s i) = sound.shape.each_task i below in
     omega (arith, sound.shape.aimed i below, own.whole.releases.aims_times s.releaser.place i, fits.gate, fits.aimed)
@@ -41,21 +41,21 @@ pub take_meant : (p : Plan) (w : Wiring) (table : Table) (s : State) (i r : ℕ)
 take_meant p w table s i r own meaning sound named free =
     let below : i < length w.tasks = omega (arith, named, own.whole.tasks) in
     let n : ℕ = rule.turn_at (task s i).part.place in
-    let at : (task s i).part.place ≡ place.Take n = at_take p w (rows_in table) s own sound i r free in
+    let at : (task s i).part.place ≡ place.Take n = at_take w s i r free in
     let few : n < length (wired w i).reads = subst (λ (x : Place). PlaceIn (wired w i) x) at (sound.shape.each_task i below).place in
     let number : (read_at (wired w i) n).read ≡ r = named_read p w (rows_in table) s own sound i r 8 (or_else_none (rule.steps_next w s i 8 r) _ free).0 (place.Take n) at in
     let inside : r < length (declared p i).reads = omega (arith, number, ((own.whole.each_task i below).each_read n few).read) in
     let read : Read = get_or (declared p i).reads r no_read in
     let has : slice_get (declared p i).reads r ≡ Some (get_or (declared p i).reads r no_read) = slice_get-get_or (declared p i).reads r no_read inside in
     let ended : ℕ = (task s i).part.ended in
-    let room : (task s i).part.ended < length (times_of p.batches i) = omega (arith, started_few p w (rows_in table) s i own sound below, ap running at) in
+    let room : (task s i).part.ended < length (times_of p.batches i) = omega (arith, started_few p w (rows_in table) s i own sound below, ap running_count at) in
     let one : (task s i).part.ended + 1 - 1 ≡ (task s i).part.ended = omega arith in
     let time : time_of p.batches i ((task s i).part.ended + 1) ≡ get_or (times_of p.batches i) (task s i).part.ended 0 = ap (λ (m : ℕ). get_or (times_of p.batches i) m 0) one in
     let there : slice_get p.diagram.tasks i ≡ Some (declared p i) = slice_get-get_or p.diagram.tasks i no_declared named in
     let is : IsRead p.diagram.links (λ v. count_until (times_of p.batches v) (get_or (times_of p.batches i) (task s i).part.ended 0)) table read (word_at p.diagram p.samples p.batches (rows_in table) (get_or (times_of p.batches i) (task s i).part.ended 0) (get_or (declared p i).reads r no_read)) =
     read_is p.diagram p.samples p.batches table meaning i (task s i).part.ended r (declared p i) (get_or (declared p i).reads r no_read) there room has in
     record {
-      word = meant p (rows_in table) i ((task s i).part.ended + 1) (get_or (declared p i).reads r no_read);
+      word = meant_word p (rows_in table) i ((task s i).part.ended + 1) (get_or (declared p i).reads r no_read);
       hears = take_hears p w (rows_in table) s own sound i r named free;
       meant = record {
         read = get_or (declared p i).reads r no_read;

@@ -8,7 +8,7 @@ use Rattle.dbp_plan.specs.Closed.{IsClosedTask, let_base, place_count}
 use Rattle.sync_meaning.specs.SomeMeaningEnvs.{env_from, env_from-is, states_after-are}
 use Rattle.dbp_rules.specs.Moves as move
 use Rattle.dbp_rules.specs.Places.{no_order, no_slot, slot_at, wired}
-use Rattle.dbp_rules.specs.Shapes.{OrderFits, PlaceIn, SlotsFit, TaskShape, heard_by, running, slot_owner}
+use Rattle.dbp_rules.specs.Shapes.{OrderFits, PlaceIn, SlotsFit, TaskShape, heard_by, running_count, slot_owner}
 use Rattle.dbp_rules.specs.Work.{WorkWords}
 use Rattle.dbp_rules.specs.declared.parts.Order.{Order}
 use Rattle.dbp_rules.specs.declared.parts.Place.{Place}
@@ -22,7 +22,7 @@ use Rattle.dbp_rules.specs.declared.wiring.Wiring.{Wiring}
 -- a place that the task goes on to within its instance: as many orders are heard there
 pub record GoesOn (t : TaskWiring) (orders : ℕ) (q : Place) : Type 0 where
   pub inside : PlaceIn t q
-  pub busy : running q ≡ 1
+  pub busy : running_count q ≡ 1
   pub heard : heard_by (1 + length t.links) q ≡ orders
 
 pub goes_to_read : (t : TaskWiring) (n : ℕ) → GoesOn t (1 + length t.links) (move.read_place (length t.reads) n)
@@ -79,7 +79,7 @@ orders_more w i n items o size each fits m below = elim (cases_lt m n) [
 
 module _ (w : Wiring) (d : Task) (i last : ℕ) (s : TaskState) (ok : TaskShape w d i last s) where
   -- the task goes on within its instance, with the same orders, words that fit and work that fits
-  pub goes_on : (q : Place) (words : TaskWords) (work : WorkWords) → running s.part.place ≡ 1 → heard_by (1 + length (wired w i).links) s.part.place ≡ 1 + length (wired w i).links → GoesOn (wired w i) (1 + length (wired w i).links) q
+  pub goes_on : (q : Place) (words : TaskWords) (work : WorkWords) → running_count s.part.place ≡ 1 → heard_by (1 + length (wired w i).links) s.part.place ≡ 1 + length (wired w i).links → GoesOn (wired w i) (1 + length (wired w i).links) q
       → words.gate ≡ s.words.gate → words.aim ≡ s.words.aim → SlotsFit (wired w i) words.slots → length work.now ≡ place_count d → length work.later ≡ length d.states → length work.row ≡ length d.outs
       → TaskShape w d i last (record { words = words; part = move.at_place s.part q; work = work })
   goes_on q words work busy all goes gate aim fit now later row = record {
@@ -114,7 +114,7 @@ module _ (w : Wiring) (d : Task) (i last : ℕ) (s : TaskState) (ok : TaskShape 
       let inside : PlaceIn (wired w i) (place.Hear n) = subst (λ (q : Place). PlaceIn (wired w i) q) at ok.place in
       let few : n ≤ length (wired w i).links = omega (arith, inside) in
       let size : length s.part.heard.items ≡ n = ok.heard ∙ ap (heard_by (1 + length (wired w i).links)) at in
-      let busy : running s.part.place ≡ 1 = ap running at in
+      let busy : running_count s.part.place ≡ 1 = ap running_count at in
       let goes : GoesOn (wired w i) (n + 1) (move.hear_place (wired w i) (n + 1)) = goes_to_hear (wired w i) n few in
       record {
         gate = omega (arith, ok.gate, busy, goes.busy);
@@ -129,9 +129,9 @@ module _ (w : Wiring) (d : Task) (i last : ℕ) (s : TaskState) (ok : TaskShape 
         row = ok.row;
       }
 
-  pub end_kept : s.part.place ≡ place.End → TaskShape w d i last (record { words = move.with_ended s.words (s.part.ended + 1); part = move.after_end s.part; work = move.advanced s.work })
+  pub end_kept : s.part.place ≡ place.End → TaskShape w d i last (record { words = move.with_ended s.words (s.part.ended + 1); part = move.after_end s.part; work = move.after_advance s.work })
   end_kept at =
-      let busy : running s.part.place ≡ 1 = ap running at in
+      let busy : running_count s.part.place ≡ 1 = ap running_count at in
       let shorter : length s.work.later ≤ length s.work.now = omega (arith, ok.now, ok.later) in
       record {
         gate = omega (arith, ok.gate);
@@ -152,7 +152,7 @@ pub record WorkFits (d : Task) (work : WorkWords) : Type 0 where
   pub later : length work.later ≡ length d.states
   pub row : length work.row ≡ length d.outs
 
-pub computed_fits : (d : Task) (inputs events links : ℕ) (given : List ℤ) → IsClosedTask inputs events links d → length given ≡ let_base d → WorkFits d (move.computed d given)
+pub computed_fits : (d : Task) (inputs events links : ℕ) (given : List ℤ) → IsClosedTask inputs events links d → length given ≡ let_base d → WorkFits d (move.work_words_of d given)
 computed_fits d inputs events links given closed size =
     let env = env_from-is d given closed.order size in
     let states : length (take (length d.states) (env_from d given)) ≡ length d.states = length-take-le (length d.states) (env_from d given) (omega (arith, env.size)) in

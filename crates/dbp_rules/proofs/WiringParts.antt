@@ -51,23 +51,6 @@ most_of from w (suc k) (m ∷ links) l at is =
 pub delay_kept : (links : List Link) (k : ℕ) → k < length links → (link_at links k).delay ≤ longest_delay links (link_at links k).writer
 delay_kept links k below = most_of 0 (link_at links k).writer k links (link_at links k) (slice_get-get_or links k no_link below) refl
 
--- ---- times
-
--- no more of a task than of all tasks
-pub times_few : (bs : List Batch) (i : ℕ) → length (times_of bs i) ≤ occurrence_count bs
-times_few [] i = omega arith
-times_few (b ∷ bs) i =
-    let rest : length (times_of bs i) ≤ occurrence_count bs = times_few bs i in
-    let all : occurrence_count (b ∷ bs) ≡ length b.tasks + occurrence_count bs = sum_by-cons (λ (a : Batch). length a.tasks) b bs in
-    elim (cases_Bool (names i b)) [
-      | inl is ↦ let one : 1 ≤ length b.tasks = some_named b.tasks i is in rw is (omega (arith, rest, all, one))
-      | inr not ↦ rw not (omega (arith, rest, all))
-    ]
-  where
-    some_named : (xs : List ℕ) (j : ℕ) → list_any (λ n. n == j) xs ≡ true → 1 ≤ length xs
-    some_named [] j is = absurd (cc)
-    some_named (x ∷ xs) j is = omega arith
-
 -- ---- samples and releases
 
 pub samples_wired : (p : Plan) (count : Count) → HasSamples p (wiring_of p count).samples

@@ -12,6 +12,7 @@ use Rattle.dbp_plan.specs.Closed.{IsClosed}
 use Rattle.dbp_plan.specs.Lookups.{link_at, no_link, declared, no_declared, no_read}
 use Rattle.release_list.specs.Releases.{links_into}
 use Rattle.release_list.proofs.Schedules.{scheduled}
+use Rattle.dbp_plan.proofs.TaskTimes.{times_few}
 use Rattle.dbp_rules.specs.declared.step.Count.{Count}
 use Rattle.dbp_rules.specs.declared.step.Count.TheVariants.{Ranked, All}
 use Rattle.dbp_rules.specs.declared.wiring.TaskWiring.{TaskWiring}
@@ -21,7 +22,7 @@ use Rattle.dbp_rules.specs.Shapes.{IsReadWired, IsTaskWired, IsWired, link_in, s
 use Rattle.dbp_rules.specs.Wired.{in_turn, read_wiring, slot_count, task_wiring, wiring_of}
 use Rattle.dbp_rules.proofs.IntoTask.{into_below, into_no_more, link_below, link_place, link_there}
 use Rattle.dbp_rules.proofs.Turns.{length-in_turn, read_of_turn}
-use Rattle.dbp_rules.proofs.WiringParts.{delay_kept, releases_few, samples_wired, times_few, wired_is, wired_tasks}
+use Rattle.dbp_rules.proofs.WiringParts.{delay_kept, releases_few, samples_wired, wired_is, wired_tasks}
 
 slots_some : (p : Plan) (count : Count) (i : ℕ) → 0 < slot_count count p i
 slots_some p Ranked i = omega arith

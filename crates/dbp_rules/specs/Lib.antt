@@ -1,19 +1,21 @@
+-- Definitions that public clauses cite.
+pub mod Lawful
+pub mod LoadedWords
 pub mod Moves
-pub mod Places
-pub mod StepKinds
 pub mod PartyRules
+pub mod PartyShapes
+pub mod Places
+pub mod Promises
 pub mod Rules
 pub mod Shapes
-pub mod Start
-pub mod Wired
-pub mod Work
-pub mod InputValues
-pub mod SoundParts
-pub mod Sound
-pub mod Lawful
-pub mod TenParts
 pub mod SharedWords
-pub mod PartyShapes
-pub mod LoadedWords
+pub mod Sound
+pub mod SoundParts
+pub mod Start
+pub mod StepKinds
+pub mod TenParts
+pub mod Wired
 pub mod WordRanges
-pub mod Promises
+pub mod Work
+-- What private functions, the inside of types and proofs cite.
+pub mod InputValues

@@ -113,8 +113,8 @@ abbrev pub with_read : Task → WorkWords → ℕ → ℤ → WorkWords
 with_read task w n word = with_now w (length task.states + length task.senses + n) word
 
 -- what an instance computes from its states, its senses and its reads
-abbrev pub computed : Task → List ℤ → WorkWords
-computed task given =
+abbrev pub work_words_of : Task → List ℤ → WorkWords
+work_words_of task given =
     let env = env_from task given in
     record { now = env; later = states_after task env (take (length task.states) env); row = outs_in task env }
 
@@ -123,9 +123,9 @@ abbrev pub with_senses : Task → List ℤ → WorkWords → WorkWords
 with_senses task senses w = record w { now = take (length task.states) w.now ++ (senses ++ drop (length task.states + length senses) w.now) }
 
 -- what an instance computes with these values of its senses
-abbrev pub worked : Task → List ℤ → WorkWords → WorkWords
-worked task senses w = computed task (take (let_base task) (with_senses task senses w).now)
+abbrev pub after_compute : Task → List ℤ → WorkWords → WorkWords
+after_compute task senses w = work_words_of task (take (let_base task) (with_senses task senses w).now)
 
 -- the states after the instance become those before the next one; the other words and the row stay, and are written over
-abbrev pub advanced : WorkWords → WorkWords
-advanced w = record w { now = w.later ++ drop (length w.later) w.now }
+abbrev pub after_advance : WorkWords → WorkWords
+after_advance w = record w { now = w.later ++ drop (length w.later) w.now }

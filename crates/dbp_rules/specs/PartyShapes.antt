@@ -6,7 +6,7 @@ use Rattle.dbp_rules.specs.Moves.{heard_order}
 use Rattle.dbp_rules.specs.PartyRules.{Loaded, hears_at, loaded_number, loaded_order}
 use Rattle.dbp_rules.specs.Places.{claim_in, entry_in, link, wired}
 use Rattle.dbp_rules.specs.Rules.{IsNamedWithin}
-use Rattle.dbp_rules.specs.Shapes.{EntryShape, OrderFits, PlaceIn, heard_by, running, slot_owner}
+use Rattle.dbp_rules.specs.Shapes.{EntryShape, OrderFits, PlaceIn, heard_by, running_count, slot_owner}
 use Rattle.dbp_rules.specs.Wired.{links_at}
 use Rattle.dbp_rules.specs.declared.parts.ReleaserPart.{ReleaserPart}
 use Rattle.dbp_rules.specs.declared.parts.TaskPart.{TaskPart}
@@ -33,7 +33,7 @@ IsNamedIn w e = IsNamedWithin (length w.tasks) (length w.links) e
 -- whose hears come before the place, each of them in range
 pub record TaskPartShape (w : Wiring) (i : ℕ) (t : TaskPart) : Type 0 where
   pub place : PlaceIn (wired w i) t.place
-  pub occurs : t.ended + running t.place ≤ length (wired w i).times
+  pub occurs : t.ended + running_count t.place ≤ length (wired w i).times
   pub heard : length t.heard.items ≡ heard_by (1 + length (wired w i).links) t.place
   pub each_heard : (n : ℕ) → n < length t.heard.items → OrderFits (wired w (slot_owner w i n)) (heard_order t n)
 

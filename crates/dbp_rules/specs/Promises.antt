@@ -8,7 +8,7 @@ use Rattle.dbp_plan.specs.Lookups.{declared}
 use Rattle.dbp_slots.specs.FreeSlot.{IsLeastFree}
 use Rattle.sync_meaning.specs.Meaning.{IsRead}
 use Rattle.dbp_rules.specs.Moves.{own_slot}
-use Rattle.dbp_rules.specs.PartyRules.{claimed_in, has_claim_in, releaser_refusal, kept_after_aim}
+use Rattle.dbp_rules.specs.PartyRules.{claimed_in, releaser_refusal, kept_after_aim}
 use Rattle.dbp_rules.specs.Places.{entry_in, link, link_entry, slot_at, task, wired}
 use Rattle.dbp_rules.specs.Rules.{hears, next}
 use Rattle.dbp_rules.specs.SoundParts.{last_filled}
@@ -66,10 +66,7 @@ SparesClaims p w s e = (k : ℕ) → k < length w.links → (task s (link w k).r
 
 -- ---- free slots
 
--- a counted link from the task has a claim whose instance isn't known to have ended, and the slots that such claims name
-abbrev pub has_claim : Wiring → State → ℕ → ℕ → Bool
-has_claim w s i k = has_claim_in w s.releaser i k
-
+-- the slots that claims of the task name whose instances aren't known to have ended
 abbrev pub claimed_of : Wiring → State → ℕ → List ℕ
 claimed_of w s i = claimed_in w s.releaser i
 

@@ -77,9 +77,9 @@ highest w f zero = None
 highest w f (suc n) = if f n then Some (higher w (highest w f n) n) else highest w f n
 
 -- under `Ranked` no task blocks the task's step
-abbrev pub unblocked : Count → Wiring → State → ℕ → Option Illegal
-unblocked count.All w s i = None
-unblocked count.Ranked w s i = none_of (highest w (blocks w s i) (length w.tasks)) broken.HigherUnfinished i
+abbrev pub blocker_refusal : Count → Wiring → State → ℕ → Option Illegal
+blocker_refusal count.All w s i = None
+blocker_refusal count.Ranked w s i = none_of (highest w (blocks w s i) (length w.tasks)) broken.HigherUnfinished i
 
 -- ---- what is loaded
 
@@ -118,14 +118,14 @@ loaded_value w s (Take i r) = a_value (read_word w s i (turn_at (task s i).part.
 loaded_value w s _ = no_word
 
 -- the values of the task's senses at the release of its running instance
-abbrev pub sensed : Plan → Wiring → State → ℕ → List ℤ
-sensed p w s i = map (λ x. input_value p.diagram.inputs p.samples x.input (own_time w s i)) (declared p i).senses
+abbrev pub sense_values : Plan → Wiring → State → ℕ → List ℤ
+sense_values p w s i = map (λ x. input_value p.diagram.inputs p.samples x.input (own_time w s i)) (declared p i).senses
 
 -- ---- the steps
 
 -- why the task's own part, or else a task ranked above it, forbids the step
-abbrev pub forbidden : Wiring → State → ℕ → Step → Option Illegal
-forbidden w s i e = or_else (task_refusal (wired w i) (task s i).part e) (unblocked w.count w s i)
+abbrev pub ranked_refusal : Wiring → State → ℕ → Step → Option Illegal
+ranked_refusal w s i e = or_else (task_refusal (wired w i) (task s i).part e) (blocker_refusal w.count w s i)
 
 -- the first broken condition
 abbrev pub refusal : Wiring → State → Step → Option Illegal
@@ -133,14 +133,14 @@ refusal w s (Seen i) = releaser_refusal w s.releaser (Seen i)
 refusal w s (Aim i slot) = releaser_refusal w s.releaser (Aim i slot)
 refusal w s (Claim k) = releaser_refusal w s.releaser (Claim k)
 refusal w s (OpenGate i) = releaser_refusal w s.releaser (OpenGate i)
-refusal w s (Start i) = or_else (task_refusal (wired w i) (task s i).part (Start i)) (if is_open s i then unblocked w.count w s i else None)
-refusal w s (Hear i) = forbidden w s i (Hear i)
-refusal w s (Look i r) = forbidden w s i (Look i r)
-refusal w s (Take i r) = forbidden w s i (Take i r)
-refusal w s (Shut i) = forbidden w s i (Shut i)
-refusal w s (Put i p) = forbidden w s i (Put i p)
-refusal w s (Done i) = forbidden w s i (Done i)
-refusal w s (End i) = forbidden w s i (End i)
+refusal w s (Start i) = or_else (task_refusal (wired w i) (task s i).part (Start i)) (if is_open s i then blocker_refusal w.count w s i else None)
+refusal w s (Hear i) = ranked_refusal w s i (Hear i)
+refusal w s (Look i r) = ranked_refusal w s i (Look i r)
+refusal w s (Take i r) = ranked_refusal w s i (Take i r)
+refusal w s (Shut i) = ranked_refusal w s i (Shut i)
+refusal w s (Put i p) = ranked_refusal w s i (Put i p)
+refusal w s (Done i) = ranked_refusal w s i (Done i)
+refusal w s (End i) = ranked_refusal w s i (End i)
 
 -- what an allowed step hears
 abbrev pub hears : Wiring → State → Step → Heard
@@ -179,7 +179,7 @@ next p w s (Take i r) = with_task s i (record {
 next p w s (Shut i) = with_task s i (record {
   words = move.with_stamp (task s i).words (move.own_slot (task s i).part) 0;
   part = next_part w s i (Shut i);
-  work = move.worked (declared p i) (sensed p w s i) (task s i).work;
+  work = move.after_compute (declared p i) (sense_values p w s i) (task s i).work;
 })
 next p w s (Put i port) = with_task s i (record {
   words = move.with_word (task s i).words (move.own_slot (task s i).part) port (slice_index_or (task s i).work.row port (pos 0));
@@ -194,7 +194,7 @@ next p w s (Done i) = with_task s i (record {
 next p w s (End i) = with_task s i (record {
   words = move.with_ended (task s i).words ((task s i).part.ended + 1);
   part = next_part w s i (End i);
-  work = move.advanced (task s i).work;
+  work = move.after_advance (task s i).work;
 })
 
 -- a step that is allowed, and one that is refused

@@ -103,15 +103,15 @@ abbrev pub PlaceIn : TaskWiring → Place → Type 0
 PlaceIn t q = place_number q < place_count_at t q
 
 -- 1 where the task has started an instance that hasn't ended
-abbrev pub running : Place → ℕ
-running Idle = 0
-running (Hear n) = 1
-running (Look n) = 1
-running (Take n) = 1
-running Shut = 1
-running (Put p) = 1
-running Done = 1
-running End = 1
+abbrev pub running_count : Place → ℕ
+running_count Idle = 0
+running_count (Hear n) = 1
+running_count (Look n) = 1
+running_count (Take n) = 1
+running_count Shut = 1
+running_count (Put p) = 1
+running_count Done = 1
+running_count End = 1
 
 -- how many of so many orders are heard
 abbrev pub heard_by : ℕ → Place → ℕ
@@ -140,7 +140,7 @@ pub record EntryShape (t : TaskWiring) (e : TaskEntry) : Type 0 where
 
 -- the task's last aimed instance is this one
 pub record TaskShape (w : Wiring) (d : Task) (i last : ℕ) (s : TaskState) : Type 0 where
-  pub gate : s.part.ended + running s.part.place ≤ s.words.gate
+  pub gate : s.part.ended + running_count s.part.place ≤ s.words.gate
   pub aimed : s.words.gate ≤ last
   pub aim : OrderFits (wired w i) s.words.aim
   pub slots : SlotsFit (wired w i) s.words.slots

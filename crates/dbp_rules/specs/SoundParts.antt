@@ -79,8 +79,8 @@ abbrev pub place_of_read : Plan → Wiring → ℕ → ℕ → ℕ
 place_of_read p w i n = length (declared p i).states + length (declared p i).senses + (read_at (wired w i) n).read
 
 -- the word that the meaning gives the read in the instance
-abbrev pub meant : Plan → (ℕ → ℕ → List ℤ) → ℕ → ℕ → Read → ℤ
-meant p rows i n r = word_at p.diagram p.samples p.batches rows (time_of p.batches i n) r
+abbrev pub meant_word : Plan → (ℕ → ℕ → List ℤ) → ℕ → ℕ → Read → ℤ
+meant_word p rows i n r = word_at p.diagram p.samples p.batches rows (time_of p.batches i n) r
 
 -- ---- the parts
 
@@ -111,18 +111,18 @@ pub record TaskSound (p : Plan) (w : Wiring) (rows : ℕ → ℕ → List ℤ) (
   pub kept_apart : 0 < e.aimed → (j : ℕ) → j < (wired w i).kept → slice_index_or e.kept j 0 ≢ e.current
   -- the states are those before the instance, the words taken are those of the meaning, the row is the last computed one
   pub states : take (length (declared p i).states) t.work.now ≡ states_at p.diagram p.samples p.batches rows i (declared p i) t.part.ended
-  pub taken : (n : ℕ) → n < taken_by (length (wired w i).reads) t.part.place → slice_index_or t.work.now (place_of_read p w i n) (pos 0) ≡ meant p rows i (t.part.ended + 1) (read_of p w i n)
+  pub taken : (n : ℕ) → n < taken_by (length (wired w i).reads) t.part.place → slice_index_or t.work.now (place_of_read p w i n) (pos 0) ≡ meant_word p rows i (t.part.ended + 1) (read_of p w i n)
   pub row : t.work.row ≡ rows i (last_shut t)
   pub later : 0 < shut_by t.part.place → t.work.later ≡ states_at p.diagram p.samples p.batches rows i (declared p i) (t.part.ended + 1)
 
 -- up to which instance of the reader a claim no longer stands: where the link is counted the last one known to have ended, else the last one that has
-abbrev pub passed : Bool → ℕ → ℕ → ℕ
-passed true known ended = known
-passed false known ended = ended
+abbrev pub last_passed : Bool → ℕ → ℕ → ℕ
+last_passed true known ended = known
+last_passed false known ended = ended
 
 -- the claim stands: its instance hasn't ended, or, where the link is counted, isn't known to have
 abbrev pub Stands : Wiring → ℕ → LinkEntry → TaskEntry → TaskState → Type 0
-Stands w k c e reader = passed (is_counted w k) e.known reader.words.ended < c.instance
+Stands w k c e reader = last_passed (is_counted w k) e.known reader.words.ended < c.instance
 
 -- a link's last claim, with its writer and its reader, and what the releaser knows of the two
 pub record LinkSound (p : Plan) (w : Wiring) (k : ℕ) (c : LinkEntry) (v : TaskEntry) (writer : TaskState) (e : TaskEntry) (reader : TaskState) : Type 0 where

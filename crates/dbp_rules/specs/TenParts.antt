@@ -10,8 +10,8 @@ use Rattle.sync_meaning.specs.SomeMeaningRows.{states_at}
 use Rattle.dbp_rules.specs.Moves.{heard_order, claim_order}
 use Rattle.dbp_rules.specs.Places.{is_counted, link, link_entry, order, slot_at, task, task_entry, wired}
 use Rattle.dbp_rules.specs.Rules.{order_word}
-use Rattle.dbp_rules.specs.Shapes.{PlaceIn, SlotsFit, heard_by, running}
-use Rattle.dbp_rules.specs.SoundParts.{Stands, last_filled, last_shut, meant, place_of_read, put_by, read_of, shut_by, taken_by}
+use Rattle.dbp_rules.specs.Shapes.{PlaceIn, SlotsFit, heard_by, running_count}
+use Rattle.dbp_rules.specs.SoundParts.{Stands, last_filled, last_shut, meant_word, place_of_read, put_by, read_of, shut_by, taken_by}
 use Rattle.dbp_rules.specs.declared.parts.Place.TheVariants.{Take}
 use Rattle.dbp_rules.specs.declared.parts.TaskEntry.{TaskEntry}
 use Rattle.dbp_rules.specs.declared.state.Slot.{Slot}
@@ -84,7 +84,7 @@ pub record TaskChain (w : Wiring) (s : State) (i : ℕ) (e : TaskEntry) (t : Tas
   pub gate : t.words.gate ≤ e.aimed
   pub aimed : e.aimed ≤ e.known + 1
   pub own : t.words.ended ≡ t.part.ended
-  pub running : running t.part.place ≡ 1 → t.words.gate ≡ t.part.ended + 1
+  pub running : running_count t.part.place ≡ 1 → t.words.gate ≡ t.part.ended + 1
   pub heard : (j : ℕ) → j < length t.part.heard.items → heard_order t.part j ≡ order_word w s i j
 
 abbrev pub Chain : Wiring → State → Type 0
@@ -137,7 +137,7 @@ ClaimsOnCurrent p w s = (k : ℕ) → k < length w.links → IsStanding w s k �
 -- it is about to take, the claimed slot holds the claimed row.
 pub record TaskWork (p : Plan) (w : Wiring) (rows : ℕ → ℕ → List ℤ) (s : State) (i : ℕ) (t : TaskState) : Type 0 where
   pub states : take (length (declared p i).states) t.work.now ≡ states_at p.diagram p.samples p.batches rows i (declared p i) t.part.ended
-  pub taken : (n : ℕ) → n < taken_by (length (wired w i).reads) t.part.place → slice_index_or t.work.now (place_of_read p w i n) (pos 0) ≡ meant p rows i (t.part.ended + 1) (read_of p w i n)
+  pub taken : (n : ℕ) → n < taken_by (length (wired w i).reads) t.part.place → slice_index_or t.work.now (place_of_read p w i n) (pos 0) ≡ meant_word p rows i (t.part.ended + 1) (read_of p w i n)
   pub ready : (n : ℕ) → t.part.place ≡ Take n → (slot_of_claim w s (read_of p w i n).link).stamp ≡ (link_entry s (read_of p w i n).link).number + 1
   pub row : t.work.row ≡ rows i (last_shut t)
   pub later : 0 < shut_by t.part.place → t.work.later ≡ states_at p.diagram p.samples p.batches rows i (declared p i) (t.part.ended + 1)

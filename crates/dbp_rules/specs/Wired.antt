@@ -63,8 +63,8 @@ task_wiring p count (i, task) = record {
 }
 
 -- the task's wiring with the times of these batches behind its own
-abbrev pub timed : List Batch → ℕ × TaskWiring → TaskWiring
-timed batches (i, t) = record t { times = t.times ++ times_of batches i }
+abbrev pub with_times_of : List Batch → ℕ × TaskWiring → TaskWiring
+with_times_of batches (i, t) = record t { times = t.times ++ times_of batches i }
 
 -- the plan under the count
 abbrev pub wiring_of : Plan → Count → Wiring

@@ -63,14 +63,14 @@ impl Work {
         requires closed { IsClosedSomewhere task.now }
         requires now { length self.old.now ≡ place_count task.now }
         requires later { length self.old.later ≡ length task.now.states }
-        ensures { self.new ≡ move.computed task.now (take (let_base task.now) self.old.now) }
+        ensures { self.new ≡ move.work_words_of task.now (take (let_base task.now) self.old.now) }
     {
         work(task, &mut self.env, &mut self.row);
     }
 
     /// The states after the instance become those before the next one.
     pub fn advance(&mut self)
-        ensures { self.new ≡ move.advanced self.old }
+        ensures { self.new ≡ move.after_advance self.old }
     {
         self.env.advance();
     }

@@ -10,16 +10,12 @@ use Rattle.dbp_plan.specs.Limits.{max_delay-le}
 use Rattle.dbp_plan.specs.declared.diagram.Diagram.{Diagram}
 use Rattle.dbp_plan.specs.declared.diagram.Link.{Link}
 use Rattle.dbp_plan.specs.Ranked.{IsRanked}
-use Rattle.dbp_plan.proofs.RankLaws.{length-ranks_of}
+use Rattle.dbp_plan.proofs.RankLaws.{length-ranks}
 use Rattle.dbp_slots.specs.Slots.{longest_delay}
 
--- each task has a rank
-pub rank_count : (d : Diagram) → IsRanked d → length d.ranks ≡ length d.tasks
-rank_count d ranked = ap length ranked.ranks ∙ length-ranks_of d.policy d.tasks
-
--- so has the reader of each link
+-- the reader of each link has a rank
 pub reader_ranked : (d : Diagram) (k : ℕ) (e : Link) → IsRanked d → k < length d.links → (get_or d.links k e).reader < length d.ranks
-reader_ranked d k e ranked below = omega (arith, rank_count d ranked, (ranked.closed.ends k e below).1)
+reader_ranked d k e ranked below = omega (arith, length-ranks d ranked, (ranked.closed.ends k e below).1)
 
 -- the counts are small
 pub links_few : (d : Diagram) (test : Link → Bool) → IsClosed d → count_by test d.links ≤ MAX_READ_LINES

@@ -8,7 +8,7 @@ use Rattle.std.proofs.lemmas.Option.{slice_get-get_or}
 use Rattle.dbp_plan.specs.declared.diagram.Diagram.{Diagram}
 use Rattle.dbp_plan.specs.declared.diagram.Task.{Task}
 use Rattle.dbp_slots.specs.Slots.{counts_of}
-use Rattle.sync_meaning.proofs.Counts.{take_push}
+use Rattle.dbp_plan.proofs.ListParts.{take_push}
 use Rattle.dbp_top.specs.SlotLines.{slot_line, slot_lines}
 
 abbrev pub line_in : Diagram → ℕ × Task → List ℕ

@@ -1,5 +1,6 @@
 pub mod ClosedTasks
 pub mod Closedness
+pub mod DiagramTasks
 pub mod Faultless
 pub mod LetLines
 pub mod LinkLaws

@@ -29,6 +29,8 @@ use Rattle.dia_check.specs.declared.fail.LineFault.TheVariants.{Duplicate, Unkno
 use Rattle.dia_check.specs.Diagrams.{is_same_link, link_of, links_used, links_of, link_number, read_of, out_of, IsDiagramOf}
 use Rattle.dia_check.specs.Faults.{is_repeated, is_unknown, is_self_link, is_past_cost}
 use Rattle.dia_check.specs.Names.{task_names, out_name, env_names, port_names}
+use Rattle.dia_check.proofs.ClosedTasks.{outs-alike}
+use Rattle.dia_check.proofs.DiagramTasks.{raw-at, task-at}
 use Rattle.dia_check.proofs.Faultless.{IsFaultless}
 use Rattle.dia_check.proofs.LinkLists.{same-links, all-firsts, firsts-few, firsts-differ, firsts-have, all-made, all-front, all-behind, made-by-one, any-at, any-made, number-is, same-sums}
 
@@ -108,14 +110,6 @@ read-count tasks reader (part.Read n delay writer port at) = refl
 read-count tasks reader (part.Let n e) = refl
 read-count tasks reader (part.Next n e) = refl
 read-count tasks reader (part.Out n first e) = refl
-
-out-count : (names : List (List ℕ)) (p : Part) → length (out_of names p) ≡ length (out_name p)
-out-count names (part.State n first) = refl
-out-count names (part.Sense n input) = refl
-out-count names (part.Read n delay writer port at) = refl
-out-count names (part.Let n e) = refl
-out-count names (part.Next n e) = refl
-out-count names (part.Out n first e) = refl
 
 -- ---- a read line without faults
 
@@ -215,12 +209,6 @@ module _ (body : Body) (d : Diagram) (printable : IsPrintable body) (faultless :
       subst (All P) (reads-are i raw t at_raw at_t) (all-made P (read_of body.tasks i) raw.parts (λ j p at_p.
       all-of-reads P body.tasks i p (λ n delay writer port at is_read. each j n delay writer port at (at_p ∙ ap (λ (q : Part). Some q) is_read))))
 
-  raw-at : (i : ℕ) (t : Task) → slice_get d.tasks i ≡ Some t → (raw : RawTask) × (slice_get body.tasks i ≡ Some raw)
-  raw-at i t at = at_place body.tasks i (omega (arith, slice_get_within d.tasks i t at, is.count))
-
-  task-at : (i : ℕ) (raw : RawTask) → slice_get body.tasks i ≡ Some raw → (t : Task) × (slice_get d.tasks i ≡ Some t)
-  task-at i raw at = at_place d.tasks i (omega (arith, slice_get_within body.tasks i raw at, is.count))
-
   pub reads : sum_by (λ t. length t.reads) d.tasks ≤ MAX_READ_LINES
   reads =
       let same : sum_by (λ t. length t.reads) d.tasks ≡ sum_by (λ t. count_by is_read_part t.parts) body.tasks =
@@ -258,7 +246,7 @@ module _ (body : Body) (d : Diagram) (printable : IsPrintable body) (faultless :
 
   pub linked : (i : ℕ) (t : Task) → slice_get d.tasks i ≡ Some t → All (λ r. r.link < length d.links) t.reads
   linked i t at_t =
-      let raw = raw-at i t at_t in
+      let raw = raw-at body d is i t at_t in
       all-reads (λ r. r.link < length d.links) i raw.0 t raw.1 at_t (λ j n delay writer port at at_p.
       All-cons (λ r. r.link < length d.links) _ [] (link-there i j raw.0 n delay writer port at raw.1 at_p) (All-nil (λ r. r.link < length d.links)))
 
@@ -268,7 +256,7 @@ module _ (body : Body) (d : Diagram) (printable : IsPrintable body) (faultless :
 
   pub own : (i : ℕ) (t : Task) (r : Read) (l : Link) (j : ℕ) → slice_get d.tasks i ≡ Some t → slice_get t.reads j ≡ Some r → slice_get d.links r.link ≡ Some l → l.reader ≡ i
   own i t r l j at_t at_r at_l =
-      let raw = raw-at i t at_t in
+      let raw = raw-at body d is i t at_t in
       let Owned = λ (q : Read). (m : Link) → slice_get d.links q.link ≡ Some m → m.reader ≡ i in
       let each : All Owned t.reads = all-reads Owned i raw.0 t raw.1 at_t (λ j n delay writer port at at_p.
       All-cons Owned _ [] (λ m at_m. ap (λ k. k.reader) (link-is _ m at_m)) (All-nil Owned)) in
@@ -282,13 +270,13 @@ module _ (body : Body) (d : Diagram) (printable : IsPrintable body) (faultless :
       let ps = line.source.task.parts in
       let outs : length v.outs ≡ length (flat_map (out_of (env_names ps)) ps) = ap (λ u. length u.outs) (is.tasks _ line.source.task v line.source.at at_v).is in
       let same : length (flat_map (out_of (env_names ps)) ps) ≡ length (flat_map out_name ps) =
-      length-flat_map (out_of (env_names ps)) ps ∙ ap (λ f. sum_by f ps) (λ k p. out-count (env_names ps) p k) ∙ sym (length-flat_map out_name ps) in
+      length-flat_map (out_of (env_names ps)) ps ∙ ap (λ f. sum_by f ps) (λ k p. outs-alike (env_names ps) p k) ∙ sym (length-flat_map out_name ps) in
       let below : index_of (port_names body.tasks writer) port < length (port_names body.tasks writer) = first-below (λ m. bytes_eq m port) (port_names body.tasks writer) line.among in
       omega (arith, outs, same, below, ap length line.source.outs)
 
   pub ports : (t w : Task) (r : Read) (l : Link) (i j : ℕ) → slice_get d.tasks i ≡ Some t → slice_get t.reads j ≡ Some r → slice_get d.links r.link ≡ Some l → slice_get d.tasks l.writer ≡ Some w → r.port < length w.outs
   ports t w r l i j at_t at_r at_l at_w =
-      let raw = raw-at i t at_t in
+      let raw = raw-at body d is i t at_t in
       let Ported = λ (q : Read). (m : Link) (v : Task) → slice_get d.links q.link ≡ Some m → slice_get d.tasks m.writer ≡ Some v → q.port < length v.outs in
       let each : All Ported t.reads = all-reads Ported i raw.0 t raw.1 at_t (λ j n delay writer port at at_p.
       All-cons Ported _ [] (λ m v at_m at_v.
@@ -301,7 +289,7 @@ module _ (body : Body) (d : Diagram) (printable : IsPrintable body) (faultless :
   read-used i j t n delay writer port at at_t at_p =
       let number = link_number (links_of body.tasks) (record { writer = index_of (task_names body.tasks) writer; reader = i; delay = delay }) in
       let test = λ (r : Read). r.link == number in
-      let u = task-at i t at_t in
+      let u = task-at body d is i t at_t in
       let one : list_any test (flat_map (read_of body.tasks i) t.parts) ≡ true =
       any-made test (read_of body.tasks i) t.parts j (part.Read n delay writer port at) at_p (or_left (number == number) false (eq-eqb number number refl)) in
       any-at (λ (v : Task). list_any test v.reads) d.tasks i u.0 u.1 (ap (list_any test) (sym (reads-are i t u.0 at_t u.1)) ∙ one)

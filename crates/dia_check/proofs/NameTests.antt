@@ -4,6 +4,7 @@ use Rattle.std.specs.Prelude.{◌||◌}
 use Rattle.std.specs.List.{flat_map, list_any}
 use Rattle.std.specs.Str.{bytes_eq}
 use Rattle.std.proofs.lemmas.List.Folds.{list_any-append}
+use Rattle.std.proofs.Math.Bool.{or-false}
 use Rattle.dbp_plan.specs.NameLists.{is_among}
 use Rattle.dbp_plan.proofs.NameLaws.{among_flat_map, among_map}
 use Rattle.dia_lines.specs.declared.item.Decl.{Decl}
@@ -13,10 +14,6 @@ use Rattle.dia_lines.specs.declared.item.Part.TheVariants.{State, Sense, Read, L
 use Rattle.dia_read.specs.declared.document.RawTask.{RawTask}
 use Rattle.dia_check.specs.Names.{next_name, declared_name, input_name, event_name, decl_name, task_names, state_name, sense_name, read_name, let_name, out_name, env_names}
 use Rattle.dia_check.specs.Tests.{is_input, is_event, is_decl, is_task, is_state, is_out, is_next, is_place, is_declared}
-
-or-false : (b : Bool) → (b || false) ≡ b
-or-false true = refl
-or-false false = refl
 
 among-inputs-each : (n : List ℕ) (d : Decl) → is_among (input_name d) n ≡ is_input n d
 among-inputs-each n (Input m v) = or-false (bytes_eq m n)

@@ -20,7 +20,7 @@ use Rattle.dbp_plan.specs.Ranks.{ranks_of}
 use Rattle.dbp_plan.specs.FirstFault.{faults_behind, first_fault}
 use Rattle.dbp_plan.proofs.RankLaws.{length-ranks_of, ranks-apart}
 use Rattle.dbp_plan.proofs.ListParts.{split-at}
-use Rattle.dbp_plan.proofs.FirstFaults.{first-append, first-front}
+use Rattle.dbp_plan.proofs.FirstFaults.{append-none, cons-none, first-append, first-front}
 use Rattle.dia_check.specs.declared.fail.RankFault.{RankFault}
 use Rattle.dia_check.specs.declared.fail.RankFault.TheVariants.{MissingPrio, MissingDeadline, UndelayedUpward}
 use Rattle.dia_check.specs.declared.shaped.ReadLine.{ReadLine}
@@ -76,15 +76,6 @@ ends-ranked d ranks closed is = λ k e below.
     (omega (arith, size, ends.0), omega (arith, size, ends.1))
 
 -- ---- no fault
-
-cons-none : {F : Type 0} (n : ℕ) (fault : Option F) (rest : List (ℕ × Option F)) → first_fault ((n, fault) ∷ rest) ≡ None → (fault ≡ None) × (first_fault rest ≡ None)
-cons-none n None rest none = (refl, none)
-cons-none n (Some fault) rest none = absurd cc
-
-front-none : {F : Type 0} (xs ys : List (ℕ × Option F)) → first_fault (xs ++ ys) ≡ None → first_fault xs ≡ None
-front-none [] ys none = refl
-front-none ((n, None) ∷ xs) ys none = front-none xs ys none
-front-none ((n, Some fault) ∷ xs) ys none = absurd cc
 
 each-none : {A F : Type 0} (fault : A → Option F) (before xs : List A) (ns : List ℕ) → length xs ≤ length ns
     → first_fault (faults_behind (λ ys x. fault x) before xs ns) ≡ None → All (λ x. fault x ≡ None) xs
@@ -161,7 +152,7 @@ module _ (s : Shaped) (closed : IsClosed s.diagram) (lines : HasLines s) (none :
   ranks = ranks_of s.diagram.policy s.diagram.tasks
 
   front : first_fault (task_lines_faults s) ≡ None
-  front = front-none (task_lines_faults s) (read_lines_faults s) none
+  front = (append-none (task_lines_faults s) (read_lines_faults s) none).0
 
   tasks-none : All (λ t. task_rank_fault s.diagram.policy t ≡ None) s.diagram.tasks
   tasks-none = each-none (task_rank_fault s.diagram.policy) [] s.diagram.tasks s.task_lines (omega (arith, lines.tasks)) front

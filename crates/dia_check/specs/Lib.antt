@@ -1,11 +1,13 @@
+-- Definitions that public clauses cite.
 pub use Rattle.dbp_plan.specs.Ranks
 pub mod Checks
 pub mod Diagrams
 pub mod Faults
-pub mod Kinds
 pub mod Names
 pub mod Placed
 pub mod RankFaults
-pub mod Scopes
 pub mod Shapes
+-- What private functions, the inside of types and proofs cite.
+pub mod Kinds
+pub mod Scopes
 pub mod Tests

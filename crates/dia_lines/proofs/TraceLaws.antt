@@ -85,7 +85,7 @@ alone_allowed text line h a =
     rw (a.4, list_all-append, list_all-append)
     (and_from _ _ (and_from _ _ (spaces_allowed a.0 a.2) h) (spaces_allowed a.1 a.3))
 
-all_allowed : (line : List ℕ) (a : Said) → SaysInTrace line a → list_all is_trace_byte line ≡ true
+pub all_allowed : (line : List ℕ) (a : Said) → SaysInTrace line a → list_all is_trace_byte line ≡ true
 all_allowed line a (an_empty_row l h) = spaces_allowed l h
 all_allowed line a (trace_ends l h) = alone_allowed (codes "done") l refl h
 all_allowed line a (script_begins l h) = alone_allowed (codes "script") l refl h

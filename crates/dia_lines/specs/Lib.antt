@@ -1,15 +1,17 @@
+-- Definitions that public clauses cite.
 pub mod Answers
-pub mod Counting
 pub mod FirstLine
-pub mod FormShapes
-pub mod Forms
 pub mod Held
 pub mod Limits
 pub mod Lines
-pub mod Moves
 pub mod Places
 pub mod Positions
 pub mod Sections
 pub mod Statements
 pub mod Text
+-- What private functions, the inside of types and proofs cite.
+pub mod Counting
+pub mod FormShapes
+pub mod Forms
+pub mod Moves
 pub mod Trimmed

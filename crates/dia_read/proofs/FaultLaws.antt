@@ -2,6 +2,7 @@
 use Rattle.std.proofs.Common.{◌≡◌, ℕ, ◌+◌, Bool, true, false, List, [], ◌∷◌, refl, sym, ap, subst, ◌∙◌}
 use Rattle.std.specs.Prelude.{◌&&◌}
 use Rattle.std.specs.List.{list_all}
+use Rattle.std.proofs.lemmas.Bool.{and_parts}
 use Rattle.dia_tokens.specs.declared.token.Token.{Token}
 use Rattle.dia_tokens.specs.Blanks.{is_blank_line}
 use Rattle.dia_tokens.proofs.BlankLaws.{blank-texts}
@@ -32,14 +33,10 @@ blank-reads before line said here blank (of_the_diagram l s e x) =
 blank-reads before line said here blank (of_the_trace l s e x) = absurd (let n : Header ≡ Trace = sym here ∙ e in cc)
 blank-reads before line said here blank (of_the_script l s e x) = absurd (let n : Header ≡ Script = sym here ∙ e in cc)
 
-both-true : (a b : Bool) → (a && b) ≡ true → (a ≡ true) × (b ≡ true)
-both-true true b e = (refl, e)
-both-true false b e = absurd cc
-
 blank-run : (before after : List Said) (lines : List (List ℕ)) → Run before lines after → place_behind before ≡ Header → list_all is_blank_line lines ≡ true → place_behind after ≡ Header
 blank-run before after lines (no_line b) here blank = here
 blank-run before after lines (a_line b a line ls said r run) here blank =
-    let each = both-true (is_blank_line line) (list_all is_blank_line ls) blank in
+    let each = and_parts (is_blank_line line) (list_all is_blank_line ls) blank in
     blank-run (said ∷ b) a ls run (blank-reads b line said here each.0 r) each.1
 
 -- ---- faults

@@ -33,11 +33,11 @@ use Rattle.dia_read.proofs.Reaching.{Reached, reached-start, reached-more}
 
 -- ---- bytes of a line
 
-all-inside : (p : ℕ → Bool) → ((b : ℕ) → p b ≡ true → is_inside b ≡ true) → (text : List ℕ) → list_all p text ≡ true → list_all is_inside text ≡ true
+pub all-inside : (p : ℕ → Bool) → ((b : ℕ) → p b ≡ true → is_inside b ≡ true) → (text : List ℕ) → list_all p text ≡ true → list_all is_inside text ≡ true
 all-inside p f [] h = refl
 all-inside p f (b ∷ bs) h = let both = and_parts (p b) (list_all p bs) h in and_from _ _ (f b both.0) (all-inside p f bs both.1)
 
-allowed-inside : (b : ℕ) → is_allowed b ≡ true → is_inside b ≡ true
+pub allowed-inside : (b : ℕ) → is_allowed b ≡ true → is_inside b ≡ true
 allowed-inside b e = grind (arith, nat_tests)
 
 row-inside : (b : ℕ) → is_trace_byte b ≡ true → is_inside b ≡ true

@@ -5,6 +5,7 @@ use Rattle.std.specs.List.{list_any}
 use Rattle.std.specs.Option.{option_to_list}
 use Rattle.std.proofs.lemmas.List.{append-nil}
 use Rattle.std.proofs.lemmas.List.Folds.{list_any-append}
+use Rattle.std.proofs.Math.Bool.{or-false, or-true}
 use Rattle.dbp_plan.specs.declared.diagram.Policy.TheVariants.{Fp}
 use Rattle.dia_lines.specs.declared.item.Decl.TheVariants.{Input, Event}
 use Rattle.dia_lines.specs.declared.item.Line.{Line}
@@ -118,14 +119,6 @@ items-with said x d e h one two three four five six = record {
 }
 
 -- ---- one more line
-
-or-false : (b : Bool) → (b || false) ≡ b
-or-false true = refl
-or-false false = refl
-
-or-true : (b : Bool) → (b || true) ≡ true
-or-true true = refl
-or-true false = refl
 
 -- a line that is of no section, where the draft's sections stay
 sections-same : (said : List Said) (x : Said) (d e : Draft) → HoldsSections said d

@@ -12,6 +12,6 @@ pub mod Ending
 pub mod DocumentLaws
 pub mod FaultLaws
 pub mod Outcomes
-mod Following
+pub mod Following
 mod Rooms
 mod RoundTrip

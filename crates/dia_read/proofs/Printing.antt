@@ -2,10 +2,12 @@
 use Rattle.std.proofs.Common.{◌≡◌, ℕ, ℤ, pos, ◌+◌, ◌≤◌, Bool, true, false, cond, All, List, [], ◌∷◌, ◌++◌, length, filter, Option, Some, None, refl, sym, ap, ◌∙◌, subst, append_assoc, arith, length-append}
 use Rattle.std.specs.Prelude.{nat_le, int_le, ◌&&◌, count_by, sum_by}
 use Rattle.std.specs.Option.{IfSome, option_to_list, option_map}
+use Rattle.std.proofs.lemmas.Bool.{and_parts}
 use Rattle.std.proofs.lemmas.Bool.Decides.{nat_tests}
 use Rattle.std.proofs.lemmas.Int.{ints}
 use Rattle.std.proofs.lemmas.List.Elements.{All-push, All-append}
 use Rattle.std.proofs.lemmas.List.Sums.{sum_by-append}
+use Rattle.dbp_plan.proofs.FirstFaults.{test-none}
 use Rattle.dbp_plan.specs.declared.limits.TheConstants.{MAX_TASKS, MAX_INPUTS, MAX_EVENTS, MAX_READS, MAX_READ_LINES, MAX_OUTS, MAX_BODY, MAX_TIME, MAX_PRIO}
 use Rattle.dbp_plan.specs.declared.expr.Expr.{Expr}
 use Rattle.dbp_plan.specs.Limits.{max_delay, max_delay-is}
@@ -69,14 +71,10 @@ pub record IsSound (before : List Statement) (s : Statement) : Type 0 where
   pub counts : passed_count before s ≡ None
   pub delay : HasShortDelay s
 
-both : (a b : Bool) → (a && b) ≡ true → (a ≡ true) × (b ≡ true)
-both true b e = (refl, e)
-both false b e = absurd cc
-
 within : (n least greatest : ℕ) (z : ℤ) → z ≡ pos n → lies_within z least greatest ≡ true → (least ≤ n) × (n ≤ greatest)
 within n least greatest z e h =
     let at : lies_within (pos n) least greatest ≡ true = subst (λ v. lies_within v least greatest ≡ true) e h in
-    let each = both (int_le (pos least) (pos n)) (int_le (pos n) (pos greatest)) at in
+    let each = and_parts (int_le (pos least) (pos n)) (int_le (pos n) (pos greatest)) at in
     (let k = each.0 in grind (arith, ints, nat_tests), let k = each.1 in grind (arith, ints, nat_tests))
 
 decl-prints : (s : Statement) (d : Decl) → IsDecl s d → IsPrintableStatement s → IsPrintableDecl d
@@ -107,7 +105,7 @@ option-within (Some n) z least greatest e h = within n least greatest (pos n) re
 
 clock-prints : (k : Clock) (c : RawClock) → IsClock k c → lines.IsPrintableClock k → clock_fits k ≡ true → IsPrintableClock c
 clock-prints (every p o) (Every r s) (a, b) f h =
-    let each = both (lies_within p 1 MAX_TIME) (lies_within o 0 MAX_TIME) h in
+    let each = and_parts (lies_within p 1 MAX_TIME) (lies_within o 0 MAX_TIME) h in
     let period = within r 1 MAX_TIME p a each.0 in
     (period.0, period.1, (within s 0 MAX_TIME o b each.1).1)
 clock-prints (on e) (On m) a f h = rw (← a) f
@@ -116,9 +114,9 @@ clock-prints (on e) (Every r s) a f h = absurd a
 
 task-prints : (s : Statement) (t : TaskLine) → IsTaskLine s t → IsPrintableStatement s → numbers_fit s ≡ true → IsPrintableTask (task_of t)
 task-prints (task n k q d w) t (a, b, c, e, g) f h =
-    let one = both (clock_fits k && option_lies_within q 0 MAX_PRIO && option_lies_within d 1 MAX_TIME) (lies_within w 1 MAX_TIME) h in
-    let two = both (clock_fits k && option_lies_within q 0 MAX_PRIO) (option_lies_within d 1 MAX_TIME) one.0 in
-    let three = both (clock_fits k) (option_lies_within q 0 MAX_PRIO) two.0 in
+    let one = and_parts (clock_fits k && option_lies_within q 0 MAX_PRIO && option_lies_within d 1 MAX_TIME) (lies_within w 1 MAX_TIME) h in
+    let two = and_parts (clock_fits k && option_lies_within q 0 MAX_PRIO) (option_lies_within d 1 MAX_TIME) one.0 in
+    let three = and_parts (clock_fits k) (option_lies_within q 0 MAX_PRIO) two.0 in
     record {
       line = record {
         named = rw (← a) f.0;
@@ -175,23 +173,18 @@ record HasCounts (before : List Statement) (s : Statement) : Type 0 where
   links : is_read s ≡ true → length (filter is_read before) + 1 ≤ MAX_READ_LINES
   outs : is_out s ≡ true → length (filter is_out (of_this_task before)) + 1 ≤ MAX_OUTS
 
--- a chain of tests that gives none has none that holds
-first-free : (a : Bool) (l : Limit) (rest : Option Limit) → cond a (Some l) rest ≡ None → (a ≡ false) × (rest ≡ None)
-first-free true l rest e = absurd cc
-first-free false l rest e = (refl, e)
-
 room : (a : Bool) (count most : ℕ) → (a && nat_le most count) ≡ false → a ≡ true → count + 1 ≤ most
 room a count most e h = below count most (rw h at e)
 
 counts-of : (before : List Statement) (s : Statement) → passed_count before s ≡ None → HasCounts before s
 counts-of before s e =
-    let one = first-free _ limit.Inputs _ e in
-    let two = first-free _ limit.Events _ one.1 in
-    let three = first-free _ limit.Tasks _ two.1 in
-    let four = first-free _ limit.Body _ three.1 in
-    let five = first-free _ limit.Reads _ four.1 in
-    let six = first-free _ limit.Links _ five.1 in
-    let seven = first-free _ limit.Outs _ six.1 in
+    let one = test-none _ limit.Inputs _ e in
+    let two = test-none _ limit.Events _ one.1 in
+    let three = test-none _ limit.Tasks _ two.1 in
+    let four = test-none _ limit.Body _ three.1 in
+    let five = test-none _ limit.Reads _ four.1 in
+    let six = test-none _ limit.Links _ five.1 in
+    let seven = test-none _ limit.Outs _ six.1 in
     record {
       inputs = room (is_input s) _ MAX_INPUTS one.0;
       events = room (is_event s) _ MAX_EVENTS two.0;

@@ -37,6 +37,7 @@ use Rattle.dia_lines.specs.Text.{is_inside}
 use Rattle.dia_print.specs.ItemTokens.{header_tokens, policy_tokens, until_tokens, decl_tokens, task_tokens, part_tokens}
 use Rattle.dia_print.proofs.ItemStatements.{decl_statement, clock_of, task_statement, part_statement}
 use Rattle.dia_print.proofs.ItemLaws.{IsBehindHeader, header-line, policy-line, until-line, decl-line, task-line, part-line, trace-line, script-line, done-line}
+use Rattle.dia_lines.proofs.TraceLaws.{all_allowed}
 use Rattle.dia_read.specs.declared.document.Body.{Body}
 use Rattle.dia_read.specs.declared.document.Doc.{Doc}
 use Rattle.dia_read.specs.declared.document.RawTask.{RawTask}
@@ -271,9 +272,6 @@ tasks-follow bytes rest p end ds tr sc ts place (u ∷ us) o h few links at =
 section_with : List ℕ → Section → Section
 section_with text s = record s { text = s.text ++ text }
 
-said-row : (line kept : List ℕ) → SaysInTrace line (row kept) → list_all is_trace_byte line ≡ true
-said-row line kept (a_row l h k) = h
-
 kept-line : (s : Section) (line : List ℕ) (lines : List (List ℕ)) → (s.text ++ line ++ 10 ∷ []) ++ ended_lines lines ≡ s.text ++ (line ++ 10 ∷ ended_lines lines)
 kept-line s line lines = append_assoc (s.text ++ line) (10 ∷ []) (ended_lines lines) ∙ append_assoc s.text line (10 ∷ ended_lines lines)
 
@@ -282,7 +280,7 @@ rows-follow : (bytes rest : List ℕ) (p : Policy) (end : ℕ) (ds : List Decl) 
 rows-follow bytes rest p end ds ts tr sc [] h at =
     subst (λ text. At bytes rest Trace (content p end ds ts (record { begun = tr.begun; text = text }) sc)) (sym (append-nil tr.text)) at
 rows-follow bytes rest p end ds ts tr sc (l ∷ lines) h at =
-    let next = next-line bytes l (ended_lines lines ++ rest) Trace Trace (content p end ds ts tr sc) (row l) line.Row (trace-inside l (said-row l l h.0)) tt (λ before here. here)
+    let next = next-line bytes l (ended_lines lines ++ rest) Trace Trace (content p end ds ts tr sc) (row l) line.Row (trace-inside l (all_allowed l (row l) h.0)) tt (λ before here. here)
     (λ before d here holds prints. of_the_trace l (row l) here h.0) (at-same bytes _ _ Trace _ (append_assoc l (10 ∷ ended_lines lines) rest) at) in
     subst (λ text. At bytes rest Trace (content p end ds ts (record { begun = tr.begun; text = text }) sc)) (kept-line tr l lines)
     (rows-follow bytes rest p end ds ts (record { begun = tr.begun; text = tr.text ++ l ++ 10 ∷ [] }) sc lines h.1 next)

@@ -6,10 +6,10 @@ use Rattle.std.proofs.lemmas.List.{length-drop, get_or-drop}
 use Rattle.std.proofs.lemmas.List.Elements.{All-push}
 use Rattle.dbp_plan.specs.declared.diagram.Let.{Let}
 use Rattle.dbp_plan.specs.LetOrder.{IsLetOrder, VariablesBelow}
-use Rattle.dbp_plan.specs.Places.{at_place, front_place, last_place, all_place}
+use Rattle.dbp_plan.specs.Places.{at_place, front_place, last_place, all_place, drop_place, take_inside}
 use Rattle.expr_eval.specs.LetOrders.{Uses, AllWait, IsCycle, IsCycleFrom, LiesOnCycle}
 use Rattle.expr_eval.specs.LetSearch.{AreListed}
-use Rattle.expr_eval.proofs.Listed.{place_of, contains_cases, once_push, listed_none, listed_push, listed_few, listed_all, listed_full, take_place, take_below, drop_place}
+use Rattle.expr_eval.proofs.Listed.{place_of, contains_cases, once_push, listed_none, listed_push, listed_few, listed_all, listed_full}
 use Rattle.expr_eval.proofs.FrontOrders.{IsFront, order_ready}
 
 -- an order holds each let of a cycle behind the next one
@@ -28,8 +28,8 @@ before_next base lets order cycle is loops (suc n) p i m less at placed =
           (0, there.0, there.1, loops.closed p i there.0 end at there.1)
     ] in
     let place = place_of (take m order) next.1 (order_ready base lets order is m i placed next.1 next.3) in
-    let before : place.0 < m = take_below order m place.0 next.1 place.2 in
-    before_next base lets order cycle is loops n next.0 next.1 place.0 (omega arith) next.2 (take_place order m place.0 next.1 place.2)
+    let before : place.0 < m = (take_inside order m place.0 next.1 place.2).0 in
+    before_next base lets order cycle is loops n next.0 next.1 place.0 (omega arith) next.2 ((take_inside order m place.0 next.1 place.2).1)
 
 -- a let that uses one is there
 pub user_below : (base : ℕ) (lets : List Let) (i j : ℕ) → Uses base lets i j → i < length lets

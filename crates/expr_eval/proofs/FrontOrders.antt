@@ -10,10 +10,10 @@ use Rattle.std.proofs.Math.Seq.{take-append_seam}
 use Rattle.dbp_plan.specs.declared.node.Node.TheVariants.{Var}
 use Rattle.dbp_plan.specs.declared.diagram.Let.{Let}
 use Rattle.dbp_plan.specs.LetOrder.{IsLetOrder}
-use Rattle.dbp_plan.specs.Places.{front_place, last_place}
+use Rattle.dbp_plan.specs.Places.{front_place, last_place, take_inside}
 use Rattle.expr_eval.specs.LetOrders.{Uses, IsReady, Waits, IsNextReady, IsFrontOrder}
 use Rattle.expr_eval.specs.LetSearch.{AreListed}
-use Rattle.expr_eval.proofs.Listed.{place_of, contains_at, one_place, listed_none, listed_push, take_place, take_below}
+use Rattle.expr_eval.proofs.Listed.{place_of, contains_at, one_place, listed_none, listed_push}
 
 -- among so many numbers is this one, said of their variables
 from_variables : (base j : ℕ) (xs : List ℕ) → list_any (λ i. eqb (base + i) (base + j)) xs ≡ true → Contains xs j
@@ -91,8 +91,8 @@ not_less : (base : ℕ) (lets : List Let) (one other : List ℕ) (p a b : ℕ) �
 not_less base lets one other p a b is_one is_other same at_one at_other less =
     let fresh : Contains (take p other) a → ⊥ = λ among.
     let place = place_of (take p one) a (subst (λ (l : List ℕ). Contains l a) (sym same) among) in
-    let at : slice_get one place.0 ≡ Some a = take_place one p place.0 a place.2 in
-    let before : place.0 < p = take_below one p place.0 a place.2 in
+    let at : slice_get one place.0 ≡ Some a = (take_inside one p place.0 a place.2).1 in
+    let before : place.0 < p = (take_inside one p place.0 a place.2).0 in
     let one_is : place.0 ≡ p = one_place one is_one.is_order.once place.0 p a at at_one in
     absurd (omega arith) in
     let waits = is_other.earliest p b a at_other less fresh in

@@ -74,27 +74,3 @@ pub listed_full : (n : ℕ) (xs : List ℕ) → AreListed n xs → ((x : ℕ) �
 listed_full n xs listed each =
     let long : n ≤ length xs = le-length_from_below xs n (λ q below. (is_member-Decides Decides-eqb xs q).1 (each q below)) in
     omega (arith, long, listed_few n xs listed)
-
--- the front of a list, by places
-pub take_place : (xs : List ℕ) (p k x : ℕ) → slice_get (take p xs) k ≡ Some x → slice_get xs k ≡ Some x
-take_place xs zero k x at = absurd (none-some x at)
-take_place [] (suc p) k x at = absurd (none-some x at)
-take_place (y ∷ xs) (suc p) zero x at = at
-take_place (y ∷ xs) (suc p) (suc k) x at = take_place xs p k x at
-
-pub take_below : (xs : List ℕ) (p k x : ℕ) → slice_get (take p xs) k ≡ Some x → k < p
-take_below xs zero k x at = absurd (none-some x at)
-take_below [] (suc p) k x at = absurd (none-some x at)
-take_below (y ∷ xs) (suc p) zero x at = omega arith
-take_below (y ∷ xs) (suc p) (suc k) x at = omega (arith, take_below xs p k x at)
-
-pub take_has : (xs : List ℕ) (p k x : ℕ) → k < p → slice_get xs k ≡ Some x → slice_get (take p xs) k ≡ Some x
-take_has xs zero k x below at = absurd (omega arith)
-take_has [] (suc p) k x below at = absurd (none-some x at)
-take_has (y ∷ xs) (suc p) zero x below at = at
-take_has (y ∷ xs) (suc p) (suc k) x below at = take_has xs p k x (omega arith) at
-
-pub drop_place : (xs : List ℕ) (q k : ℕ) → slice_get (drop q xs) k ≡ slice_get xs (q + k)
-drop_place xs zero k = let same : zero + k ≡ k = omega arith in ap (λ (z : ℕ). slice_get xs z) (sym same)
-drop_place [] (suc q) k = let same : suc q + k ≡ suc (q + k) = omega arith in ap (λ (z : ℕ). slice_get [] z) (sym same)
-drop_place (y ∷ xs) (suc q) k = let same : suc q + k ≡ suc (q + k) = omega arith in drop_place xs q k ∙ ap (λ (z : ℕ). slice_get (y ∷ xs) z) (sym same)

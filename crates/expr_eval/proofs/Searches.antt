@@ -5,10 +5,10 @@ use Rattle.std.proofs.lemmas.Bool.{cases_lt}
 use Rattle.std.proofs.lemmas.Option.{slice_get-get_or, slice_get_within, same_Some, MatchOption-at_some, MatchOption-at_none}
 use Rattle.std.proofs.lemmas.List.Elements.{Contains-push_cases}
 use Rattle.dbp_plan.specs.declared.diagram.Let.{Let}
-use Rattle.dbp_plan.specs.Places.{at_place, front_place, last_place, all_place}
+use Rattle.dbp_plan.specs.Places.{at_place, front_place, last_place, all_place, take_place}
 use Rattle.expr_eval.specs.LetOrders.{Uses, IsCycleFrom, IsFirstCycle, LiesOnCycle}
 use Rattle.expr_eval.specs.LetSearch.{AreListed, IsNextUser, UsesOneOf, UsesNoneOf, LeadTo, AreAllLeading}
-use Rattle.expr_eval.proofs.Listed.{place_of, contains_at, one_place, listed_none, listed_push, listed_room, take_has}
+use Rattle.expr_eval.proofs.Listed.{place_of, contains_at, one_place, listed_none, listed_push, listed_room}
 use Rattle.expr_eval.proofs.Cycles.{IsPath, path_one, path_more, path_closed, cycle_listed}
 
 pub lead_one : (base : ℕ) (lets : List Let) (target : ℕ) → target < length lets → LeadTo base lets target (target ∷ [])
@@ -132,9 +132,9 @@ descent_none base lets target found bound path last lead all descent none lies =
       let none_found : UsesNoneOf base lets found target = λ j inside used.
       let place = place_of found j inside in
       let before : place.0 < bound = omega (arith, place.1) in
-      none j (contains_at (take bound found) place.0 j (take_has found bound place.0 j before place.2)) (subst (λ (z : ℕ). Uses base lets z j) (sym same) used) in
+      none j (contains_at (take bound found) place.0 j (take_place found bound place.0 before ∙ place.2)) (subst (λ (z : ℕ). Uses base lets z j) (sym same) used) in
       no_cycle base lets target found lead all none_found lies
-  | inr (m, j, before, at, used) ↦ none j (contains_at (take bound found) m j (take_has found bound m j before at)) used
+  | inr (m, j, before, at, used) ↦ none j (contains_at (take bound found) m j (take_place found bound m before ∙ at)) used
 ]
 
 pub lead_room : (base : ℕ) (lets : List Let) (target : ℕ) (found : List ℕ) (user : ℕ) → LeadTo base lets target found → IsNextUser base lets found user → length found < length lets

@@ -10,10 +10,10 @@ use Rattle.release_list.specs.declared.release.Release.{Release}
 use Rattle.release_list.specs.declared.release.Release.TheVariants.{Aim, Claim, OpenGate}
 use Rattle.release_list.specs.Releases.{links_into, claims_into, claims_of, releases_at}
 use Rattle.release_list.specs.Schedule.{is_aim, is_claim, is_open, aims, claims, opens}
-use Rattle.dbp_plan.proofs.Counts.{count-cons}
-use Rattle.release_list.proofs.Counts.{count-append, count-map, count-never, before_few, none_found, split}
+use Rattle.dbp_plan.proofs.BatchTasks.{often, count-often}
+use Rattle.dbp_plan.proofs.Counts.{before_few, count-append, count-cons, count-map, count-never, none_found}
 use Rattle.release_list.proofs.IntoLinks.{none_into, once_into}
-use Rattle.release_list.proofs.TaskTimes.{often, count-often}
+use Rattle.release_list.proofs.JoinedLists.{split}
 
 -- what has no claims but the claims
 

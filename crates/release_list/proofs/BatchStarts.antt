@@ -2,6 +2,7 @@
 use Rattle.std.proofs.Common.{◌≡◌, ℕ, zero, suc, ◌+◌, ◌<◌, ◌≤◌, List, [], ◌∷◌, ◌++◌, length, take, drop, map, Some, refl, sym, ap, ◌∙◌, arith, append_assoc, length-append}
 use Rattle.std.specs.Prelude.{count_by, slice_get}
 use Rattle.std.specs.List.Sorted.{IsStrictlyIncreasing}
+use Rattle.std.proofs.Math.Seq.{take-append-add}
 use Rattle.std.proofs.lemmas.List.{length-map, length-take-le, take-append-drop, take-append-le, take_all, take_at}
 use Rattle.std.proofs.lemmas.List.Concat.{flat_map-append}
 use Rattle.std.proofs.lemmas.List.Elements.{All-take}
@@ -16,12 +17,6 @@ use Rattle.release_list.specs.declared.release.Release.TheVariants.{Aim, OpenGat
 use Rattle.release_list.specs.Releases.{batch_start, claims_of, releases_at, releases_of}
 use Rattle.release_list.specs.Schedule.{is_aim, is_claim, is_open, aims, claims, opens}
 use Rattle.release_list.proofs.Located.{Located, Once, every_aim, every_claim, every_open}
-
-take_past : {X : Type 0} (xs ys : List X) (n : ℕ) → take (length xs + n) (xs ++ ys) ≡ xs ++ take n ys
-take_past [] ys n = let same : 0 + n ≡ n = omega arith in ap (λ k. take k ys) same
-take_past (x ∷ xs) ys n =
-    let next : length (x ∷ xs) + n ≡ suc (length xs + n) = omega arith in
-    ap (λ k. take k (x ∷ xs ++ ys)) next ∙ ap (λ l. x ∷ l) (take_past xs ys n)
 
 module _ (links : List Link) (bs : List Batch) where
   abbrev list : List Release
@@ -88,7 +83,7 @@ module _ (links : List Link) (bs : List Batch) (number : ℕ) (b : Batch) (there
   pub before_item : (inside : ℕ) → inside ≤ length batch → take (batch_start links bs number + inside) (releases_of links bs) ≡ front ++ take inside batch
   before_item inside within =
       ap (take (batch_start links bs number + inside)) (cut_at links bs number b there)
-      ∙ take_past front (batch ++ rest) inside
+      ∙ take-append-add front (batch ++ rest) inside
       ∙ ap (λ l. front ++ l) (take-append-le inside batch rest within)
 
   -- the other way round of `locate`

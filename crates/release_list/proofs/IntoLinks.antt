@@ -9,8 +9,7 @@ use Rattle.std.proofs.lemmas.List.Sums.{length-filter, count_by-le-length}
 use Rattle.dbp_plan.specs.declared.diagram.Link.{Link}
 use Rattle.dbp_plan.specs.Lookups.{link_at}
 use Rattle.release_list.specs.Releases.{into_among}
-use Rattle.dbp_plan.proofs.Counts.{count-cons}
-use Rattle.release_list.proofs.Counts.{count-append}
+use Rattle.dbp_plan.proofs.Counts.{count-append, count-cons}
 
 -- the numbers that pass, of one number more, and how many there are at most
 pub numbers_more : (test : ℕ → Bool) (n : ℕ) → filter test (range_with_len 0 (n + 1)) ≡ filter test (range_with_len 0 n) ++ cond (test n) (n ∷ []) []

@@ -1,8 +1,7 @@
 pub mod BatchParts
 pub mod BatchStarts
-pub mod Counts
 pub mod IntoLinks
+pub mod JoinedLists
 pub mod Located
 pub mod Room
 pub mod Schedules
-pub mod TaskTimes

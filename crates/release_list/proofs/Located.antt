@@ -7,12 +7,13 @@ use Rattle.dbp_plan.specs.declared.diagram.Link.{Link}
 use Rattle.dbp_plan.specs.declared.schedule.Batch.{Batch}
 use Rattle.dbp_plan.specs.Occurrences.{times_of}
 use Rattle.dbp_plan.specs.Lookups.{link_at}
+use Rattle.dbp_plan.proofs.Counts.{count-append}
+use Rattle.dbp_plan.proofs.TaskTimes.{times_cons}
 use Rattle.release_list.specs.declared.release.Release.{Release}
 use Rattle.release_list.specs.Releases.{releases_at, releases_of}
 use Rattle.release_list.specs.Schedule.{is_aim, is_claim, is_open, aims, claims, opens}
-use Rattle.release_list.proofs.Counts.{count-append, split}
 use Rattle.release_list.proofs.BatchParts.{whole_aims, whole_claims, whole_opens}
-use Rattle.release_list.proofs.TaskTimes.{times_cons}
+use Rattle.release_list.proofs.JoinedLists.{split}
 
 pub record Located (links : List Link) (bs : List Batch) (place : ℕ) (action : Release) : Type 0 where
   pub number : ℕ

@@ -14,16 +14,17 @@ use Rattle.dbp_plan.specs.Places.{all_place, at_place}
 use Rattle.dbp_plan.specs.Plan.{IsPlan}
 use Rattle.dbp_plan.specs.Times.{Rises, times-rise}
 use Rattle.dbp_plan.specs.Lookups.{link_at}
+use Rattle.dbp_plan.proofs.BatchTasks.{often, often_one, often_named}
+use Rattle.dbp_plan.proofs.Counts.{before_few, found}
 use Rattle.dbp_plan.proofs.Numbers.{Rise, rise, number-is}
 use Rattle.dbp_plan.proofs.OccurrenceLemmas.{time_here}
+use Rattle.dbp_plan.proofs.TaskTimes.{times_more, come_before, come_counted, time_of-rises}
 use Rattle.release_list.specs.declared.release.Release.{Release}
 use Rattle.release_list.specs.declared.release.Release.TheVariants.{Aim, Claim, OpenGate}
 use Rattle.release_list.specs.Releases.{releases_at, releases_of}
 use Rattle.release_list.specs.Schedule.{AtAim, AtClaim, AtOpen, IsSchedule, aims, claims, opens, is_aim, is_claim, is_open, seen_by}
 use Rattle.release_list.proofs.BatchParts.{AmongClaims, AmongOpens, InOrder, at_claim_part, at_open_part, claimed_there, in_order, whole_aims, whole_claims, whole_opens}
-use Rattle.release_list.proofs.Counts.{before_few, found}
 use Rattle.release_list.proofs.Located.{Located, locate, every_aim, every_claim, every_open, aims_at, claims_at, opens_at}
-use Rattle.release_list.proofs.TaskTimes.{often, often_one, often_named, times_more, come_before, come_counted}
 
 module _ (d : Diagram) (samples : List Sample) (bs : List Batch) (plan : IsPlan d samples bs) where
   abbrev reader : ℕ → ℕ
@@ -45,14 +46,9 @@ module _ (d : Diagram) (samples : List Sample) (bs : List Batch) (plan : IsPlan 
 
   rising : (i a b : ℕ) → 0 < a → a ≤ b → b ≤ length (times_of bs i) → time_of bs i a ≤ time_of bs i b
   rising i a b some less fits =
-      let times : List ℕ = times_of bs i in
-      let up : Rises times = times-rise bs i plan.rising in
       elim (cases_eq a b) [
         | inl same ↦ rw same (omega arith)
-        | inr apart ↦
-            let before : get_or times (a - 1) 0 < get_or times (b - 1) 0 =
-            up.pairs (a - 1) (b - 1) (get_or times (a - 1) 0) (get_or times (b - 1) 0) (omega arith) (slice_get-get_or times (a - 1) 0 (omega arith)) (slice_get-get_or times (b - 1) 0 (omega arith)) in
-            omega arith
+        | inr apart ↦ omega (arith, time_of-rises bs i a b (times-rise bs i plan.rising) some (omega arith) fits)
       ]
 
   seen_some : (k a : ℕ) → 0 < a → seen_by d.links bs k a ≡ count_until (times_of bs (writer k)) (time_of bs (reader k) a)

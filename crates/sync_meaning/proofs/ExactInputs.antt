@@ -1,9 +1,10 @@
 -- The inputs' values, sample by sample.
 use Rattle.std.proofs.Common.{◌≡◌, ◌≢◌, ℕ, ℤ, zero, suc, ◌+◌, ◌<◌, ◌≤◌, ◌&&◌, Bool, true, false, List, [], ◌∷◌, ◌++◌, length, map, take, drop, get_or, slice_get, set, option_map, Some, All, AllPairs, IsTrue, filter, nat_le, refl, sym, ◌∙◌, ap, arith, inl, inr, eq-eqb, length-drop}
 use Rattle.std.specs.Prelude.{◌==◌}
-use Rattle.std.proofs.lemmas.Bool.{cases_Bool, cases_eq, le-leb, lt-leb}
+use Rattle.std.proofs.Math.Bool.{and-false, and-true}
+use Rattle.std.proofs.lemmas.Bool.{cases_Bool, cases_eq, le-leb, lt-leb, ne_eqb}
 use Rattle.std.proofs.lemmas.Bool.Decides.{nat_tests}
-use Rattle.std.proofs.lemmas.List.{append-nil, length-map, length-set, map-append, take-append-drop}
+use Rattle.std.proofs.lemmas.List.{append-nil, get_or-drop, length-map, length-set, map-append, take-append-drop}
 use Rattle.std.proofs.lemmas.List.Elements.{All-push, filter-append}
 use Rattle.std.proofs.lemmas.List.Sums.{fold-append}
 use Rattle.std.proofs.lemmas.Option.{get_or_from_slice_get, slice_get-map, slice_get_within, same_Some}
@@ -12,7 +13,7 @@ use Rattle.dbp_plan.specs.declared.schedule.Sample.{Sample}
 use Rattle.dbp_plan.specs.Samples.{first_value, is_before, is_given, last_value}
 use Rattle.dbp_plan.specs.Places.{at_place}
 use Rattle.sync_meaning.specs.Taken.{AreTaken, AreValuesAt, HasLastValues}
-use Rattle.sync_meaning.proofs.Counts.{take_push}
+use Rattle.dbp_plan.proofs.ListParts.{take_push}
 use Rattle.sync_meaning.proofs.Sets.{set_cases}
 
 -- the values that the samples give the input
@@ -55,13 +56,10 @@ for_other x samples s isnt =
 last-push : (first : ℤ) (values : List ℤ) (v : ℤ) → last_value first (values ++ v ∷ []) ≡ v
 last-push first values v = fold-append (λ _ w. w) first values (v ∷ [])
 
-no_eqb : (a b : ℕ) → a ≢ b → (a == b) ≡ false
-no_eqb a b apart = grind (arith, nat_tests)
-
 last_more : (inputs : List Input) (samples : List Sample) (s : Sample) (values : List ℤ) → HasLastValues inputs samples values → HasLastValues inputs (samples ++ s ∷ []) (set values s.input s.value)
 last_more inputs samples s values last x word at = elim (set_cases values s.input x s.value word at) [
   | inl here ↦ sym here.1 ∙ sym (ap (last_value (first_value inputs x)) (for_here x samples s (eq-eqb s.input x (sym here.0))) ∙ last-push (first_value inputs x) (values_for x samples) s.value)
-  | inr there ↦ last x word there.1 ∙ ap (last_value (first_value inputs x)) (sym (for_other x samples s (no_eqb s.input x (λ e. there.0 (sym e)))))
+  | inr there ↦ last x word there.1 ∙ ap (last_value (first_value inputs x)) (sym (for_other x samples s (ne_eqb s.input x (λ e. there.0 (sym e)))))
 ]
 
 -- one sample more
@@ -77,14 +75,6 @@ taken_more inputs samples time k s values at come a = record {
 before_le : (a b : Sample) → is_before a b ≡ true → a.time ≤ b.time
 before_le a b before = grind (arith, nat_tests)
 
-get_or_behind : {X : Type 0} (xs : List X) (k j : ℕ) (d : X) → get_or (drop k xs) j d ≡ get_or xs (k + j) d
-get_or_behind [] zero j d = refl
-get_or_behind [] (suc k) j d = refl
-get_or_behind (x ∷ xs) zero j d = ap (λ n. get_or (x ∷ xs) n d) (omega arith)
-get_or_behind (x ∷ xs) (suc k) j d =
-    let one : suc k + j ≡ suc (k + j) = omega arith in
-    get_or_behind xs k j d ∙ ap (λ n. get_or (x ∷ xs) n d) (sym one)
-
 -- samples stand by time, so behind a later one all are later
 pub rest_later : (samples : List Sample) (time k : ℕ) → AllPairs (λ a b. IsTrue (is_before a b)) samples → ((s : Sample) → slice_get samples k ≡ Some s → time < s.time) → All (λ s. time < s.time) (drop k samples)
 rest_later samples time k order next j d below =
@@ -92,7 +82,7 @@ rest_later samples time k order next j d below =
     let first : (s : Sample) × (slice_get samples k ≡ Some s) = at_place samples k (omega arith) in
     let read : get_or samples k d ≡ first.0 = get_or_from_slice_get samples k first.0 d first.1 in
     let less : time < (get_or samples k d).time = rw read (next first.0 first.1) in
-    let place : get_or (drop k samples) j d ≡ get_or samples (k + j) d = get_or_behind samples k j d in
+    let place : get_or (drop k samples) j d ≡ get_or samples (k + j) d = get_or-drop k samples j d in
     rw place (elim (cases_eq j 0) [
       | inl same ↦ let here : k + j ≡ k = omega arith in rw here less
       | inr apart ↦
@@ -100,20 +90,12 @@ rest_later samples time k order next j d below =
           omega (arith, less, le)
     ])
 
-and_true : (b : Bool) → (b && true) ≡ b
-and_true true = refl
-and_true false = refl
-
-and_false : (b : Bool) → (b && false) ≡ false
-and_false true = refl
-and_false false = refl
-
 filter_come : (x time : ℕ) (samples : List Sample) → All (λ s. s.time ≤ time) samples → filter (is_given x time) samples ≡ filter (λ s. s.input == x) samples
 filter_come x time [] come = refl
 filter_come x time (s ∷ samples) come =
     let rest : filter (is_given x time) samples ≡ filter (λ (r : Sample). r.input == x) samples = filter_come x time samples (λ k d below. come (suc k) d (omega arith)) in
     let here : nat_le s.time time ≡ true = le-leb s.time time (come 0 s (omega arith)) in
-    let same : is_given x time s ≡ (s.input == x) = rw here (and_true (s.input == x)) in
+    let same : is_given x time s ≡ (s.input == x) = rw here (and-true (s.input == x)) in
     elim (cases_Bool (s.input == x)) [
       | inl is ↦ rw (same, is) (ap (λ (l : List Sample). s ∷ l) rest)
       | inr isnt ↦ rw (same, isnt) rest
@@ -124,7 +106,7 @@ filter_later x time [] later = refl
 filter_later x time (s ∷ samples) later =
     let rest : filter (is_given x time) samples ≡ [] = filter_later x time samples (λ k d below. later (suc k) d (omega arith)) in
     let here : nat_le s.time time ≡ false = lt-leb s.time time (later 0 s (omega arith)) in
-    let none : is_given x time s ≡ false = rw here (and_false (s.input == x)) in
+    let none : is_given x time s ≡ false = rw here (and-false (s.input == x)) in
     rw none rest
 
 -- with all samples up to the time taken, the values are those of the time

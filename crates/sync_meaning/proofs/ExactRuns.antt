@@ -21,7 +21,7 @@ use Rattle.dbp_plan.specs.Samples.{input_value}
 use Rattle.dbp_plan.specs.Table.{IsRow}
 use Rattle.dbp_plan.proofs.Numbers.{number-is, rise}
 use Rattle.dbp_plan.proofs.OccurrenceLemmas.{time_here}
-use Rattle.dbp_plan.specs.Places.{at_place, same_places, all_place}
+use Rattle.dbp_plan.specs.Places.{at_place, same_places, all_place, take_inside, take_place}
 use Rattle.expr_eval.specs.Values.{value_of}
 use Rattle.sync_meaning.specs.declared.env.Env.{Env}
 use Rattle.sync_meaning.specs.declared.run.Run.{Run}
@@ -34,22 +34,10 @@ use Rattle.sync_meaning.specs.Taken.{AreTaken, AreValuesAt}
 use Rattle.sync_meaning.proofs.Counts.{counted_few, counted_more, one_if}
 use Rattle.sync_meaning.proofs.ExactInputs.{taken_later}
 use Rattle.sync_meaning.proofs.Growing.{env_stays, read_counted, row_pushed, rows_stay, stream_all, stream_more, stream_none, stream_stays}
-use Rattle.sync_meaning.proofs.Ranks.{length-ranks, ranking}
+use Rattle.dbp_plan.proofs.RankLaws.{length-ranks, ranking}
 use Rattle.sync_meaning.proofs.Runs.{IsNext, done_of, named_of}
 use Rattle.sync_meaning.proofs.Sets.{item_at, refill_all, set_cases, zero_of}
 use Rattle.sync_meaning.proofs.Tables.{rows_all, set_old, set_value}
-
-front_same : (n : ℕ) (xs : List ℤ) (k : ℕ) (x : ℤ) → slice_get (take n xs) k ≡ Some x → slice_get xs k ≡ Some x
-front_same zero xs k x at = absurd (cc)
-front_same (suc n) [] k x at = absurd (cc)
-front_same (suc n) (y ∷ xs) zero x at = at
-front_same (suc n) (y ∷ xs) (suc k) x at = front_same n xs k x at
-
-front_there : (n : ℕ) (xs : List ℤ) (k : ℕ) → k < n → slice_get (take n xs) k ≡ slice_get xs k
-front_there zero xs k below = absurd (omega arith)
-front_there (suc n) [] k below = refl
-front_there (suc n) (y ∷ xs) zero below = refl
-front_there (suc n) (y ∷ xs) (suc k) below = front_there n xs k (omega arith)
 
 -- an instance: the senses and then the reads are written over the words that stood there, and then the lets
 pub record IsInstance (d : Diagram) (table : Table) (t : Task) (inputs : List ℤ) (named : List ℕ) (before sensed read env : List ℤ) : Type 0 where
@@ -73,7 +61,7 @@ states_kept d table t inputs named before sensed read env work =
     same_places (take (length t.states) env) (take (length t.states) before) fronts
     (λ k a b at_a at_b.
     let below : k < length t.states = omega (arith, slice_get_within (take (length t.states) env) k a at_a, length-take (length t.states) env) in
-    same_Some _ _ (sym (front_same (length t.states) env k a at_a) ∙ state_kept d table t inputs named before sensed read env k work below ∙ front_same (length t.states) before k b at_b))
+    same_Some _ _ (sym ((take_inside env (length t.states) k a at_a).1) ∙ state_kept d table t inputs named before sensed read env k work below ∙ (take_inside before (length t.states) k b at_b).1))
 
 -- its environment is that of the meaning
 pub env_exact : (d : Diagram) (samples : List Sample) (batches : List Batch) (table : Table) (t : Task) (time : ℕ) (inputs : List ℤ) (named : List ℕ) (before sensed read env : List ℤ)
@@ -83,7 +71,7 @@ env_exact d samples batches table t time inputs named before sensed read env wor
   size = work.size ∙ work.reads.size ∙ work.senses.size ∙ work.places;
   state = λ k word at.
       let below : k < length t.states = omega (arith, slice_get_within (take (length t.states) before) k word at, length-take (length t.states) before) in
-      state_kept d table t inputs named before sensed read env k work below ∙ front_same (length t.states) before k word at;
+      state_kept d table t inputs named before sensed read env k work below ∙ (take_inside before (length t.states) k word at).1;
   sense = λ k s at.
       let below : k < length t.senses = slice_get_within t.senses k s at in
       let there : length t.states + k < length sensed = omega (arith, below, work.senses.size, work.places) in

@@ -3,7 +3,7 @@ use Rattle.std.proofs.Common.{◌≡◌, ◌≢◌, ℕ, ℤ, ◌+◌, ◌-◌, 
 use Rattle.std.specs.Prelude.{◌==◌, if◌then◌else◌}
 use Rattle.std.proofs.Math.Nat.{mul-le-mul_right}
 use Rattle.std.proofs.Math.Seq.{drop-append_seam}
-use Rattle.std.proofs.lemmas.Bool.{cases_eq}
+use Rattle.std.proofs.lemmas.Bool.{cases_eq, ne_eqb}
 use Rattle.std.proofs.lemmas.Bool.Decides.{nat_tests}
 use Rattle.std.proofs.lemmas.List.{drop-append-le, take-append-le, take_all}
 use Rattle.std.proofs.lemmas.Option.{slice_get_within, same_Some}
@@ -20,16 +20,7 @@ use Rattle.dbp_plan.specs.Table.{HasRowsOf, IsRow, row_at}
 use Rattle.sync_meaning.specs.Meaning.{AreStatesAfter, IsEnv, IsRead, IsStream, outs_in}
 use Rattle.sync_meaning.specs.Streams.{HasRowsOfTable, IsStreamTo}
 use Rattle.dbp_plan.specs.Places.{set_here, set_other}
-
-range_front : (xs ys : List ℤ) (a b : ℕ) → a ≤ b → b ≤ length xs → slice_range (xs ++ ys) a b ≡ slice_range xs a b
-range_front xs ys a b le inside =
-    let rest : drop a (xs ++ ys) ≡ drop a xs ++ ys = drop-append-le a xs ys (omega arith) in
-    ap (take (b - a)) rest ∙ take-append-le (b - a) (drop a xs) ys (omega (arith, length-drop a xs))
-
-range_behind : (xs ys : List ℤ) (a b : ℕ) → a ≡ length xs → b ≡ length xs + length ys → slice_range (xs ++ ys) a b ≡ ys
-range_behind xs ys a b first last =
-    let rest : drop a (xs ++ ys) ≡ ys = ap (λ k. drop k (xs ++ ys)) first ∙ drop-append_seam xs ys in
-    ap (take (b - a)) rest ∙ take_all (b - a) ys (omega arith)
+use Rattle.dbp_plan.specs.Ranges.{range_behind, range_front}
 
 -- a row by the words and the number of ports
 row_by : (rows : TaskRows) (n ports : ℕ) (words : List ℤ) → rows.ports ≡ ports → rows.words ≡ words → row_at rows n ≡ slice_range words (n * ports) ((n + 1) * ports)
@@ -134,11 +125,8 @@ put stream place x n = if n == place then x else stream n
 put_here : {X : Type 0} (stream : ℕ → X) (place n : ℕ) (x : X) → n ≡ place → put stream place x n ≡ x
 put_here stream place n x same = rw (eq-eqb n place same) refl
 
-apart_test : (a b : ℕ) → a ≢ b → (a == b) ≡ false
-apart_test a b apart = grind (arith, nat_tests)
-
 put_other : {X : Type 0} (stream : ℕ → X) (place n : ℕ) (x : X) → n ≢ place → put stream place x n ≡ stream n
-put_other stream place n x apart = rw (apart_test n place apart) refl
+put_other stream place n x apart = rw (ne_eqb n place apart) refl
 
 env_as : (d : Diagram) (samples : List Sample) (batches : List Batch) (table : Table) (t : Task) (time later : ℕ) (states others env other : List ℤ) → time ≡ later → states ≡ others → env ≡ other
     → IsEnv d samples batches table t time states env → IsEnv d samples batches table t later others other

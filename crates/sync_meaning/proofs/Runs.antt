@@ -15,11 +15,11 @@ use Rattle.dbp_plan.specs.Ranked.{IsRanked}
 use Rattle.dbp_plan.specs.Table.{HasRowsOf}
 use Rattle.sync_meaning.specs.declared.env.Env.{Env}
 use Rattle.sync_meaning.specs.declared.run.Run.{Run}
-use Rattle.sync_meaning.specs.Ranking.{IsByRank}
+use Rattle.dbp_plan.specs.Ranking.{IsByRank}
 use Rattle.sync_meaning.specs.Run.{IsRun}
 use Rattle.sync_meaning.specs.FirstRows.{first_rows}
 use Rattle.sync_meaning.specs.Shape.{HasEnvs, IsEnvOf, IsMarked, IsReadable}
-use Rattle.sync_meaning.proofs.Ranks.{ranking, length-ranks}
+use Rattle.dbp_plan.proofs.RankLaws.{ranking, length-ranks}
 use Rattle.dbp_plan.specs.Places.{all_place}
 use Rattle.sync_meaning.proofs.Tables.{envs_step, readable, row_fits, rows_none, rows_step}
 use Rattle.sync_meaning.proofs.Sets.{item_at, refill_all}

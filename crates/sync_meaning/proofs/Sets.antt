@@ -33,6 +33,3 @@ item_at xs ys i x same below is = read_place xs i x below (is ∙ ap (λ l. get_
 -- what is written back for a whole list is all of it
 pub refill_all : {X : Type 0} (xs ws : List X) → length ws ≡ length xs → refill (length xs) xs ws ≡ ws
 refill_all xs ws size = grind (arith, common_steps)
-
-pub refilled : {X : Type 0} (n : ℕ) (xs ws : List X) → n ≡ length xs → length ws ≡ length xs → take n (ws ++ drop (length ws) xs) ≡ ws
-refilled n xs ws size same = ap (λ k. take k (ws ++ drop (length ws) xs)) size ∙ refill_all xs ws same

@@ -7,7 +7,7 @@ use Rattle.std.proofs.lemmas.Option.{slice_get_within, same_Some}
 use Rattle.dbp_plan.specs.declared.schedule.Batch.{Batch}
 use Rattle.dbp_plan.specs.Occurrences.{names}
 use Rattle.dbp_plan.specs.Places.{at_place}
-use Rattle.sync_meaning.specs.Ranking.{IsRanking}
+use Rattle.dbp_plan.specs.Ranking.{IsRanking}
 use Rattle.sync_meaning.specs.Run.{IsDoneAbove}
 use Rattle.sync_meaning.specs.Shape.{IsMarked}
 use Rattle.sync_meaning.proofs.Counts.{one_if, one_if_le}

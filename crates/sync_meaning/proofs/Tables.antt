@@ -20,11 +20,11 @@ use Rattle.dbp_plan.specs.Ranked.{IsRanked}
 use Rattle.dbp_plan.specs.Table.{HasRowsOf, HasAllRows, IsRow, row_at}
 use Rattle.dbp_plan.specs.Places.{at_place, front_place, last_place, all_place}
 use Rattle.sync_meaning.specs.declared.env.Env.{Env}
-use Rattle.sync_meaning.specs.Ranking.{IsRanking}
+use Rattle.dbp_plan.specs.Ranking.{IsRanking}
 use Rattle.sync_meaning.specs.Run.{HasRowsUpTo, IsDoneAbove}
 use Rattle.sync_meaning.specs.FirstRows.{first_rows}
 use Rattle.sync_meaning.specs.Shape.{AreCounted, HasEnvs, HasFirstStates, IsEnvOf, IsReadable}
-use Rattle.sync_meaning.proofs.Counts.{take_push}
+use Rattle.dbp_plan.proofs.ListParts.{take_push}
 use Rattle.sync_meaning.proofs.Sets.{set_cases, zero_of}
 
 pub envs_step : (i : ℕ) (t : Task) (e : Env) (tasks : List Task) (envs : List Env) → HasEnvs tasks envs → slice_get tasks i ≡ Some t → IsEnvOf t e → HasEnvs tasks (set envs i e)

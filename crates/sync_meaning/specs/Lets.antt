@@ -16,9 +16,9 @@ use Rattle.dbp_plan.specs.LetOrder.{IsLetOrder}
 use Rattle.dbp_plan.specs.Tree.{Tree, number, variable, unary, binary, choice, size_of, root_of, nodes_of}
 use Rattle.expr_eval.specs.Values.{value_of, tree_value, value_of_unary, value_of_binary, value_of_choice}
 use Rattle.sync_meaning.specs.Meaning.{HasLets}
-use Rattle.sync_meaning.specs.Ranking.{IsRanking}
+use Rattle.dbp_plan.specs.Ranking.{IsRanking}
 use Rattle.dbp_plan.specs.Places.{all_place, behind_place, front_place, pair_at, set_here, set_other}
-use Rattle.sync_meaning.specs.Rankings.{task_of}
+use Rattle.dbp_plan.specs.Rankings.{task_of}
 
 -- both environments have the same words at the variables of the nodes
 pub record AgreeOn (nodes : List (Node ℕ)) (one other : List ℤ) : Type 0 where

@@ -1,15 +1,15 @@
+-- Definitions that public clauses cite.
 pub mod FirstRows
-pub mod Lets
 pub mod Meaning
-pub mod Nexts
-pub mod Ranking
-pub mod Rankings
-pub mod Run
-pub mod Shape
 pub mod SomeMeaning
 pub mod SomeMeaningEnvs
 pub mod SomeMeaningRows
-pub mod SomeMeaningStreams
 pub mod SomeMeaningTables
+-- What private functions, the inside of types and proofs cite.
+pub mod Lets
+pub mod Nexts
+pub mod Run
+pub mod Shape
+pub mod SomeMeaningStreams
 pub mod Streams
 pub mod Taken

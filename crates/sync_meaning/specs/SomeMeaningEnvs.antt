@@ -16,8 +16,8 @@ use Rattle.expr_eval.specs.Values.{value_of}
 use Rattle.sync_meaning.specs.Lets.{AgreeOn, LetsUpTo, lets_all, lets_more, lets_none, order_ranking, same_value}
 use Rattle.sync_meaning.specs.Meaning.{AreStatesAfter, HasLets}
 use Rattle.sync_meaning.specs.Nexts.{NextsUpTo, nexts_all, nexts_more, nexts_none}
-use Rattle.dbp_plan.specs.Places.{all_place, front_place, at_place, same_list}
-use Rattle.sync_meaning.specs.Rankings.{task_of}
+use Rattle.dbp_plan.specs.Places.{all_place, front_place, at_place, same_item, same_list}
+use Rattle.dbp_plan.specs.Rankings.{task_of}
 
 -- the environment begins with the words that are given, and behind them stand the lets
 pub record IsEnvFrom (task : Task) (given env : List ℤ) : Type 0 where
@@ -75,7 +75,7 @@ record AgreeUpTo (n : ℕ) (task : Task) (one other : List ℤ) : Type 0 where
 agree_next : (n k : ℕ) (l : Let) (task : Task) (given one other : List ℤ) → IsLetOrder (let_base task) task.lets task.order → slice_get task.order n ≡ Some k → slice_get task.lets k ≡ Some l
     → IsEnvFrom task given one → IsEnvFrom task given other → AgreeUpTo n task one other → AgreeOn l.expr.nodes one other
 agree_next n k l task given one other order at_k at_l a b agree = record {
-  same = λ place v at_v. same_word one other v (elim (cases_lt v (let_base task)) [
+  same = λ place v at_v. same_item one other v (pos 0) (elim (cases_lt v (let_base task)) [
     | inl below ↦ a.given_words v below ∙ sym (b.given_words v below)
     | inr above ↦
         let used : Any (λ j. (let_base task + j == v) ≡ true) (take n task.order) = Any-from_list_any (λ j. let_base task + j == v) (take n task.order) (order.behind n k place v l at_k at_l at_v above) in
@@ -86,16 +86,6 @@ agree_next n k l task given one other order at_k at_l a b agree = record {
         subst (λ (w : ℕ). slice_get one w ≡ slice_get other w) same (agree.same used.0 used.1 lower there)
   ]);
 }
-  where
-    same_word : (xs ys : List ℤ) (v : ℕ) → slice_get xs v ≡ slice_get ys v → get_or xs v (pos 0) ≡ get_or ys v (pos 0)
-    same_word [] [] v same = refl
-    same_word [] (y ∷ ys) zero same = absurd (cc (same))
-    same_word [] (y ∷ ys) (suc v) same = same_word [] ys v same
-    same_word (x ∷ xs) [] zero same = absurd (cc (same))
-    same_word (x ∷ xs) [] (suc v) same = same_word xs [] v same
-    same_word (x ∷ xs) (y ∷ ys) zero same = same_Some _ _ same
-    same_word (x ∷ xs) (y ∷ ys) (suc v) same = same_word xs ys v same
-
 agree_all : (n : ℕ) (task : Task) (given one other : List ℤ) → IsLetOrder (let_base task) task.lets task.order → n ≤ length task.order → IsEnvFrom task given one → IsEnvFrom task given other → AgreeUpTo n task one other
 agree_all zero task given one other order few a b = record { same = λ p k below. absurd (omega arith) }
 agree_all (suc n) task given one other order few a b =

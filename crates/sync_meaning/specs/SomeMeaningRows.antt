@@ -18,7 +18,7 @@ use Rattle.dbp_plan.specs.Occurrences.{count_until, names, times_of}
 use Rattle.dbp_plan.specs.Plan.{IsPlan}
 use Rattle.dbp_plan.specs.Samples.{input_value}
 use Rattle.sync_meaning.specs.Meaning.{outs_in}
-use Rattle.dbp_plan.specs.Times.{Rises, has_come, times-rise}
+use Rattle.dbp_plan.specs.Times.{Rises, has_come, times-rise, times_all}
 use Rattle.dbp_plan.specs.Places.{all_place, at_place}
 use Rattle.sync_meaning.specs.SomeMeaningEnvs.{env_from, states_after}
 
@@ -236,7 +236,7 @@ module _ (d : Diagram) (samples : List Sample) (batches : List Batch) where
     last_turn : (i n : ℕ) → n ≤ length (times_of batches i) → turn i n < d.until * (sum_by (λ r. r) d.ranks + 1) + 1
     last_turn i zero few = omega arith
     last_turn i (suc n) few =
-        let ends : All (λ t. t < d.until) (times_of batches i) = All-map (λ t. t < d.until) (λ (b : Batch). b.time) (filter (names i) batches) (All-filter (names i) (λ (b : Batch). b.time < d.until) batches plan.ends) in
+        let ends : All (λ t. t < d.until) (times_of batches i) = times_all (λ t. t < d.until) batches i plan.ends in
         let end : get_or (times_of batches i) n 0 < d.until = ends n 0 (omega arith) in
         omega (arith, earlier (get_or (times_of batches i) n 0) d.until (get_or d.ranks i 0) 0 end (omega (arith, rank_le d.ranks i)))
 

@@ -14,15 +14,7 @@ use Rattle.dbp_plan.specs.declared.table.TaskRows.{TaskRows}
 use Rattle.dbp_plan.specs.Occurrences.{times_of}
 use Rattle.dbp_plan.specs.Table.{HasAllRows, HasRowsOf, IsRow, row_at}
 use Rattle.dbp_plan.specs.Places.{at_place, same_list}
-
-range_front : (xs ys : List ℤ) (a b : ℕ) → a ≤ b → b ≤ length xs → slice_range (xs ++ ys) a b ≡ slice_range xs a b
-range_front xs ys a b less inside =
-    let few : b - a ≤ length (drop a xs) = omega (arith, length-drop a xs) in
-    ap (take (b - a)) (drop-append-le a xs ys (omega arith)) ∙ take-append-le (b - a) (drop a xs) ys few
-
-range_last : (xs ys : List ℤ) (a b : ℕ) → a ≡ length xs → b ≡ length xs + length ys → slice_range (xs ++ ys) a b ≡ ys
-range_last xs ys a b first last =
-    ap (λ (k : ℕ). take (b - a) (drop k (xs ++ ys))) first ∙ ap (take (b - a)) (drop-append_seam xs ys) ∙ take_all (b - a) ys (omega arith)
+use Rattle.dbp_plan.specs.Ranges.{range_behind, range_front}
 
 -- the words of the rows up to this number
 words_to : (ℕ → List ℤ) → ℕ → List ℤ
@@ -40,7 +32,7 @@ length-words_to outs (suc n) row each =
 
 range_of : (outs n k : ℕ) (row : ℕ → List ℤ) → ((j : ℕ) → j ≤ n → length (row j) ≡ outs) → k ≤ n → slice_range (words_to row n) (k * outs) ((k + 1) * outs) ≡ row k
 unfolding words_to
-range_of outs zero zero row each few = range_last [] (row 0) (0 * outs) ((0 + 1) * outs) (omega arith) (omega (arith, each 0 few))
+range_of outs zero zero row each few = range_behind [] (row 0) (0 * outs) ((0 + 1) * outs) (omega arith) (omega (arith, each 0 few))
 range_of outs zero (suc k) row each few = absurd (omega arith)
 range_of outs (suc n) k row each few =
     let size : length (words_to row n) ≡ (n + 1) * outs = length-words_to outs n row (λ j less. each j (omega arith)) in
@@ -53,7 +45,7 @@ range_of outs (suc n) k row each few =
           let one : k ≡ n + 1 = omega arith in
           let first : k * outs ≡ length (words_to row n) = ap (λ (j : ℕ). j * outs) one ∙ sym size in
           let end : length (row (suc n)) ≡ outs = each (suc n) (omega arith) in
-          range_last (words_to row n) (row (suc n)) (k * outs) ((k + 1) * outs) first (omega arith) ∙ ap row (sym here)
+          range_behind (words_to row n) (row (suc n)) (k * outs) ((k + 1) * outs) first (omega arith) ∙ ap row (sym here)
     ]
 
 -- the first rows of two lists of words

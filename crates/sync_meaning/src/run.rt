@@ -5,7 +5,7 @@ ghost use Rattle.std.specs.List.Sorted.{IsStrictlyIncreasing};
 ghost use Rattle.dbp_plan.specs.declared.limits.TheConstants.{MAX_OCCURRENCES, MAX_BODY};
 ghost use Rattle.dbp_plan.specs.Closed.{place_count};
 ghost use Rattle.sync_meaning.specs.Meaning.{IsMeaning};
-ghost use Rattle.sync_meaning.specs.Ranking.{IsByRank};
+ghost use Rattle.dbp_plan.specs.Ranking.{IsByRank};
 ghost use Rattle.sync_meaning.specs.SomeMeaning.{meaning_of};
 ghost use Rattle.sync_meaning.specs.Shape.{HasEnvs, HasFirstStates, IsMarked, IsNextBatch};
 ghost use Rattle.sync_meaning.specs.Taken.{AreTaken};

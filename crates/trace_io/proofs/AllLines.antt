@@ -17,9 +17,9 @@ use Rattle.dbp_plan.specs.Table.{HasRow, HasRows}
 use Rattle.trace_io.specs.Lines.{line_of, number_of, numbered_line}
 use Rattle.trace_io.specs.Printing.{CanPrint, Counts, numbered_lines}
 use Rattle.trace_io.proofs.BatchLines.{same-all}
-use Rattle.trace_io.proofs.Due.{or-true}
+use Rattle.std.proofs.Math.Bool.{or-true}
 use Rattle.dbp_plan.proofs.Numbers.{Rise, rise, number-is}
-use Rattle.trace_io.proofs.Numbers.{more-named, more-other, some-of, of-all}
+use Rattle.dbp_plan.proofs.TaskTimes.{more-named, more-other, some-of, times_few}
 
 -- the lines of the batches before place k stand, and each task is counted up to there
 pub record PrintedTo (d : Diagram) (batches : List Batch) (table : Table) (k : ℕ) (counts text : List ℕ) : Type 0 where
@@ -58,7 +58,7 @@ can-print d samples batches table k counts text b plan all p fits same =
     let named : All (λ i. i < length d.tasks) b.tasks = subst (λ (a : Batch). All (λ i. i < length d.tasks) a.tasks) same (plan.named k b fits) in
     record {
       places = p.places;
-      few = All-from_get_or (λ n. n ≤ MAX_OCCURRENCES) counts 0 (λ i less. omega (arith, p.counted i (rw (sym p.places) less), some-of batches i k, of-all batches i, plan.few));
+      few = All-from_get_or (λ n. n ≤ MAX_OCCURRENCES) counts 0 (λ i less. omega (arith, p.counted i (rw (sym p.places) less), some-of batches i k, times_few batches i, plan.few));
       in_order = subst (λ (a : Batch). IsStrictlyIncreasing a.tasks) same (plan.in_order k b fits);
       there = named;
       rows = All-from_get_or (λ i. HasRow table i (get_or counts i 0 + 1)) b.tasks 0 (λ j less.

@@ -2,25 +2,16 @@
 use Rattle.std.proofs.Common.{◌≡◌, ℕ, ℤ, suc, ◌+◌, ◌<◌, false, All, List, [], ◌∷◌, ◌++◌, length, take, get_or, set, slice_get, Some, arith, refl, sym, ap, ◌∙◌, inl, inr}
 use Rattle.std.specs.Prelude.{◌==◌}
 use Rattle.std.specs.List.{flat_map, list_any}
-use Rattle.std.specs.List.Sorted.{IsStrictlyIncreasing}
+use Rattle.std.proofs.Math.Bool.{or-false, or-true}
 use Rattle.std.proofs.lemmas.Bool.{cases_eq}
-use Rattle.std.proofs.lemmas.List.{flat_map_more, get_or-set_other, get_or-set_same, get_or-take, length-set, length-take, take_more}
-use Rattle.std.proofs.lemmas.List.Kept.{AllPairs-from_increasing}
-use Rattle.std.proofs.lemmas.List.Elements.{All-from_get_or}
+use Rattle.std.proofs.lemmas.List.{flat_map_more, get_or-set_other, get_or-set_same, length-set, take_more}
 use Rattle.dbp_plan.specs.declared.diagram.Task.{Task}
 use Rattle.dbp_plan.specs.declared.table.Table.{Table}
 use Rattle.dbp_plan.specs.Table.{HasRow, IsRow}
 use Rattle.trace_io.specs.Lines.{line_text, numbered_line}
 use Rattle.trace_io.specs.Printing.{CanPrint, Counts, numbered_lines}
-use Rattle.trace_io.proofs.Due.{named-below, named-push, one-name, own-name, or-false, or-true}
-
--- in a rising list a number doesn't stand before its place
-pub not-before : (xs : List ℕ) (k : ℕ) → IsStrictlyIncreasing xs → k < length xs → list_any (λ n. n == get_or xs k 0) (take k xs) ≡ false
-not-before xs k up fits =
-    named-below (take k xs) (get_or xs k 0)
-    (All-from_get_or (λ x. x < get_or xs k 0) (take k xs) 0 (λ j less.
-    let before : j < k = omega (arith, length-take k xs) in
-    rw (get_or-take k xs j 0 before) (AllPairs-from_increasing xs up j k 0 before fits)))
+use Rattle.dbp_plan.proofs.BatchTasks.{not_before}
+use Rattle.trace_io.proofs.Due.{named-push, one-name, own-name}
 
 -- one more task is counted
 pub counts-more : (before after named : List ℕ) (i : ℕ) → Counts before after named → i < length before → list_any (λ n. n == i) named ≡ false → Counts before (set after i (get_or after i 0 + 1)) (named ++ i ∷ [])
@@ -56,7 +47,7 @@ pub record LinesTo (tasks : List Task) (table : Table) (time : ℕ) (before name
 pub same-count : (tasks : List Task) (table : Table) (time : ℕ) (before named start text after : List ℕ) (k : ℕ) → CanPrint tasks table before named
     → LinesTo tasks table time before named start text after k → k < length named → get_or after (get_or named k 0) 0 ≡ get_or before (get_or named k 0) 0
 same-count tasks table time before named start text after k can l fits =
-    not-counted before after (take k named) (get_or named k 0) l.counted (rw can.places (can.there k 0 fits)) (not-before named k can.in_order fits)
+    not-counted before after (take k named) (get_or named k 0) l.counted (rw can.places (can.there k 0 fits)) (not_before named k can.in_order fits)
 
 pub has-next : (tasks : List Task) (table : Table) (time : ℕ) (before named start text after : List ℕ) (k : ℕ) → CanPrint tasks table before named
     → LinesTo tasks table time before named start text after k → k < length named → HasRow table (get_or named k 0) (get_or after (get_or named k 0) 0 + 1)
@@ -73,5 +64,5 @@ lines-more tasks table time before named start text after more k n task row can 
     let line : line_text time task.name n row ≡ numbered_line tasks table time i (get_or before i 0 + 1) = rw (sym number, is_task, is_row.has_rows, is_row.is) refl in
     record {
       lines = rw (take_more named k 0 fits, told, l.lines, line) (flat_map_more (λ j. numbered_line tasks table time j (get_or before j 0 + 1)) start (take k named) i);
-      counted = rw (take_more named k 0 fits, is_number) (counts-more before after (take k named) i l.counted room (not-before named k can.in_order fits));
+      counted = rw (take_more named k 0 fits, is_number) (counts-more before after (take k named) i l.counted room (not_before named k can.in_order fits));
     }

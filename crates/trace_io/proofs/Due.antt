@@ -1,14 +1,16 @@
 -- Steps of the two loops over the clocks.
-use Rattle.std.proofs.Common.{◌≡◌, ◌≢◌, ℕ, suc, ◌+◌, ◌<◌, Bool, true, false, All, List, [], ◌∷◌, ◌++◌, length, get_or, set, arith, rules, refl, ap, ◌∙◌, sym, inl, inr}
+use Rattle.std.proofs.Common.{◌≡◌, ◌≢◌, ℕ, ◌+◌, ◌<◌, true, false, All, List, [], ◌∷◌, ◌++◌, length, get_or, set, arith, refl, ap, ◌∙◌, sym, inl, inr}
 use Rattle.std.specs.Prelude.{◌==◌, ◌||◌}
 use Rattle.std.specs.List.{list_any}
 use Rattle.std.specs.List.Sorted.{IsStrictlyIncreasing}
-use Rattle.std.proofs.lemmas.Bool.{cases_lt, ne_eqb}
+use Rattle.std.proofs.Math.Bool.{or-false, or-true}
+use Rattle.std.proofs.lemmas.Bool.{cases_lt, eq-eqb, ne_eqb}
 use Rattle.std.proofs.lemmas.List.{length_push, length-set, get_or-set_other, get_or-set_same}
 use Rattle.std.proofs.lemmas.List.Elements.{All-push, All-weaker}
 use Rattle.std.proofs.lemmas.List.Folds.{list_any-append}
 use Rattle.std.proofs.lemmas.List.Sums.{sum_by-set}
 use Rattle.dbp_plan.specs.declared.diagram.Clock.{Clock}
+use Rattle.dbp_plan.proofs.BatchTasks.{named_below}
 use Rattle.trace_io.specs.Merging.{TakesDue, is_at, next_of}
 use Rattle.std.proofs.lemmas.Grind.{common_steps}
 
@@ -24,23 +26,7 @@ pub one-name : (x i : ℕ) → x ≢ i → list_any (λ t. t == i) (x ∷ []) �
 one-name x i other = let no : (x == i) ≡ false = ne_eqb x i other in rw no refl
 
 pub own-name : (x : ℕ) → list_any (λ t. t == x) (x ∷ []) ≡ true
-own-name x = let here : (x == x) ≡ true = search rules in rw here refl
-
--- numbers below n name nothing from n on
-pub named-below : (xs : List ℕ) (i : ℕ) → All (λ x. x < i) xs → list_any (λ t. t == i) xs ≡ false
-named-below [] i below = refl
-named-below (x ∷ xs) i below =
-    let less : x < i = below 0 0 (omega arith) in
-    let no : (x == i) ≡ false = ne_eqb x i (λ e. absurd (omega arith)) in
-    rw no (named-below xs i (λ k d fits. below (suc k) d (omega arith)))
-
-pub or-false : (a : Bool) → (a || false) ≡ a
-or-false true = refl
-or-false false = refl
-
-pub or-true : (a : Bool) → (a || true) ≡ true
-or-true true = refl
-or-true false = refl
+own-name x = rw (eq-eqb x x refl) refl
 
 -- clock n is due
 pub take-one : (until : ℕ) (events : List (List ℕ)) (clocks : List Clock) (before after : List ℕ) (time n : ℕ) (tasks : List ℕ)
@@ -79,7 +65,7 @@ pass-one until events clocks before after time n tasks t here = record {
   named = All-weaker (λ i. i < n) (λ i. i < n + 1) (λ i less. omega arith) tasks t.named;
   due = λ i d less. elim (cases_lt i n) [
     | inl below ↦ t.due i d below
-    | inr above ↦ let same : i ≡ n = omega arith in rw same (named-below tasks n t.named ∙ sym (here d))
+    | inr above ↦ let same : i ≡ n = omega arith in rw same (named_below tasks n t.named ∙ sym (here d))
   ];
   places = t.places;
   moved = λ i d less. elim (cases_lt i n) [

@@ -1,11 +1,11 @@
 -- Batch by batch, all clocks are taken to their ends.
-use Rattle.std.proofs.Common.{◌≡◌, ◌≢◌, ℕ, zero, suc, ◌+◌, ◌*◌, ◌-◌, ◌<◌, ◌≤◌, true, false, All, List, [], ◌∷◌, ◌++◌, length, map, replicate, take, drop, get_or, sum, arith, rules, refl, ap, ◌∙◌, sym, inl, inr, Option, Some, None}
-use Rattle.std.specs.Prelude.{◌==◌, nat_lt, max, IfSome, slice_index, slice_index_or, slice_get, sum_by, filter}
+use Rattle.std.proofs.Common.{◌≡◌, ◌≢◌, ℕ, zero, suc, ◌+◌, ◌*◌, ◌-◌, ◌<◌, ◌≤◌, true, false, All, List, [], ◌∷◌, ◌++◌, length, map, replicate, get_or, sum, arith, refl, ap, ◌∙◌, sym, inl, inr, Option, Some, None}
+use Rattle.std.specs.Prelude.{◌==◌, nat_lt, max, IfSome, slice_index, slice_index_or, slice_get, sum_by}
 use Rattle.std.specs.List.{list_any}
 use Rattle.std.specs.List.Sorted.{IsStrictlyIncreasing}
-use Rattle.std.proofs.lemmas.Bool.{cases_Bool, cases_lt, eqb-true, false≢true}
-use Rattle.std.proofs.lemmas.List.{length_push, map-append, append-nil, length-replicate, drop_all, take_all}
-use Rattle.std.proofs.lemmas.List.Elements.{All-push, All-get_or, All-map, filter-append}
+use Rattle.std.proofs.lemmas.Bool.{cases_Bool, cases_lt, eq-eqb, eqb-true, false≢true}
+use Rattle.std.proofs.lemmas.List.{length_push, map-append, length-replicate}
+use Rattle.std.proofs.lemmas.List.Elements.{All-push, All-get_or, All-map}
 use Rattle.std.proofs.lemmas.List.Sums.{sum_by-cons, sum_by_push, get_or-le-sum_by}
 use Rattle.std.proofs.lemmas.Option.{slice_get-get_or, slice_get_past, slice_get_within, cond_some, IfSome_then, gets}
 use Rattle.std.proofs.Math.Nat.{le-div_iff_mul-le}
@@ -17,6 +17,9 @@ use Rattle.dbp_plan.specs.declared.diagram.Clock.{Clock}
 use Rattle.dbp_plan.specs.declared.diagram.Clock.TheVariants.{Every, On}
 use Rattle.dbp_plan.specs.declared.limits.TheConstants.{MAX_OCCURRENCES}
 use Rattle.dbp_plan.specs.Clocks.{time_at}
+use Rattle.dbp_plan.specs.Places.{front_place, last_place}
+use Rattle.dbp_plan.proofs.BatchTasks.{some_item}
+use Rattle.dbp_plan.proofs.TaskTimes.{times-named, times-other}
 use Rattle.trace_io.specs.Batches.{AreBatches, IsClockOf, IsTimetable, count_of}
 use Rattle.trace_io.specs.Merging.{IsLeastNext, TakesDue, is_at, next_of}
 use Rattle.trace_io.proofs.Due.{rising-push}
@@ -58,13 +61,6 @@ after-all (b ∷ bs) (suc k) d fits = let more = after-all bs k d (omega arith) 
 pub after-push : (bs : List Batch) (b : Batch) → after bs ≤ b.time → after (bs ++ b ∷ []) ≡ b.time + 1
 after-push [] b less = omega arith
 after-push (a ∷ bs) b less = let more = after-push bs b (omega arith) in omega arith
-
--- the times of a task, with one more batch
-pub times-named : (bs : List Batch) (b : Batch) (i : ℕ) → names i b ≡ true → times_of (bs ++ b ∷ []) i ≡ times_of bs i ++ b.time ∷ []
-times-named bs b i here = rw (filter-append (names i) bs (b ∷ []), map-append (λ (a : Batch). a.time) (filter (names i) bs) (filter (names i) (b ∷ [])), here) refl
-
-pub times-other : (bs : List Batch) (b : Batch) (i : ℕ) → names i b ≡ false → times_of (bs ++ b ∷ []) i ≡ times_of bs i
-times-other bs b i here = rw (filter-append (names i) bs (b ∷ []), map-append (λ (a : Batch). a.time) (filter (names i) bs) (filter (names i) (b ∷ [])), here) (append-nil (times_of bs i))
 
 -- the occurrences that were taken stand in the batches that were made, and all others are later
 pub record Merged (until : ℕ) (events : List (List ℕ)) (clocks : List Clock) (taken : List ℕ) (made : List Batch) : Type 0 where
@@ -147,11 +143,8 @@ not-at : (o : Option ℕ) (time : ℕ) → is_at time o ≡ false → IfSome o (
 not-at None time isnt least = tt
 not-at (Some t) time isnt least = elim (cases_lt time t) [
   | inl less ↦ omega arith
-  | inr above ↦ let same : t ≡ time = omega arith in let is : (t == time) ≡ true = rw same (own time) in absurd (false≢true (sym isnt ∙ is))
+  | inr above ↦ let same : t ≡ time = omega arith in let is : (t == time) ≡ true = rw same (eq-eqb time time refl) in absurd (false≢true (sym isnt ∙ is))
 ]
-  where
-    own : (x : ℕ) → (x == x) ≡ true
-    own x = search rules
 
 is-at : (o : Option ℕ) (time : ℕ) → is_at time o ≡ true → o ≡ Some time
 is-at None time is = absurd (false≢true is)
@@ -160,15 +153,6 @@ is-at (Some t) time is = ap Some (eqb-true t time is)
 named-some : (tasks : List ℕ) (i : ℕ) → list_any (λ t. t == i) tasks ≡ true → tasks ≢ []
 named-some [] i is = absurd (false≢true is)
 named-some (t ∷ tasks) i is = λ e. cc e
-
-get-before : (xs : List ℕ) (y k : ℕ) → k < length xs → slice_get (xs ++ y ∷ []) k ≡ slice_get xs k
-get-before [] y k fits = absurd (omega arith)
-get-before (x ∷ xs) y zero fits = refl
-get-before (x ∷ xs) y (suc k) fits = get-before xs y k (omega arith)
-
-get-last : (xs : List ℕ) (y : ℕ) → slice_get (xs ++ y ∷ []) (length xs) ≡ Some y
-get-last [] y = refl
-get-last (x ∷ xs) y = get-last xs y
 
 -- what the step does for one task
 record StepsOne (until : ℕ) (events : List (List ℕ)) (clock : Clock) (bound count : ℕ) (times : List ℕ) : Type 0 where
@@ -182,8 +166,8 @@ step-due : (until : ℕ) (events : List (List ℕ)) (clock : Clock) (count time 
     → StepsOne until events clock (time + 1) (count + 1) (times ++ time ∷ [])
 step-due until events clock count time times table closed each many here = record {
   each = λ k fits. elim (cases_lt k count) [
-    | inl below ↦ get-before times time k (omega arith) ∙ each k below
-    | inr above ↦ let same : k ≡ count = omega arith in rw same (rw (sym many) (get-last times time) ∙ sym here)
+    | inl below ↦ front_place times (time ∷ []) k (omega arith) ∙ each k below
+    | inr above ↦ let same : k ≡ count = omega arith in rw same (rw (sym many) (last_place times time (length times) refl) ∙ sym here)
   ];
   so_many = length_push times time ∙ ap (λ n. n + 1) many;
   ahead = IfSome_then (time_at until events clock (count + 1)) (clock-rises until events clock count time table closed here) (λ t less. omega arith);
@@ -202,7 +186,7 @@ merge-step until events clocks taken next made time tasks table closed m least t
     let anyone = Every 0 0 in
     let past : after made ≤ time = rw (w_next anyone) at (m.ahead w anyone w_fits) in
     let push = after-push made b past in
-    let w_due : list_any (λ t. t == w) tasks ≡ true = t.due w anyone w_fits ∙ rw (w_next anyone) (own time) in
+    let w_due : list_any (λ t. t == w) tasks ≡ true = t.due w anyone w_fits ∙ rw (w_next anyone) (eq-eqb time time refl) in
     let times : All (λ x. x < time) (map (λ (a : Batch). a.time) made) = All-map (λ x. x < time) (λ (a : Batch). a.time) made (λ k d fits. let below = after-all made k d fits in omega (arith, below, past)) in
     let one : (i : ℕ) (d : Clock) → i < length clocks → StepsOne until events (get_or clocks i d) (after (made ++ b ∷ [])) (get_or next i 0) (times_of (made ++ b ∷ []) i) = λ i d fits.
     let o = next_of until events clocks taken i d in
@@ -232,9 +216,6 @@ merge-step until events clocks taken next made time tasks table closed m least t
       past,
       in_time,
     )
-  where
-    own : (x : ℕ) → (x == x) ≡ true
-    own x = search rules
 
 -- where no clock has a next time, the batches are those of the clocks
 pub merge-end : (until : ℕ) (events : List (List ℕ)) (clocks : List Clock) (taken : List ℕ) (made : List Batch)
@@ -264,17 +245,9 @@ batches-few : (made : List Batch) → All (λ b. b.tasks ≢ []) made → length
 batches-few [] some = omega arith
 batches-few (b ∷ made) some =
     let more = batches-few made (λ k d fits. some (suc k) d (omega arith)) in
-    let one = not-empty b.tasks (some 0 b (omega arith)) in
+    let one = some_item b.tasks (some 0 b (omega arith)) in
     omega (arith, more, one, sum_by-cons (λ (a : Batch). length a.tasks) b made)
-  where
-    not-empty : (xs : List ℕ) → xs ≢ [] → 1 ≤ length xs
-    not-empty [] h = absurd (h refl)
-    not-empty (x ∷ xs) h = omega arith
 
 pub made-few : (until : ℕ) (events : List (List ℕ)) (clocks : List Clock) (taken : List ℕ) (made : List Batch) → All (IsClockOf (length events)) clocks
     → Merged until events clocks taken made → sum_by (count_of until events) clocks ≤ MAX_OCCURRENCES → length made ≤ MAX_OCCURRENCES
 made-few until events clocks taken made closed m few = omega (arith, batches-few made m.some, m.counted, taken-sum until events clocks taken made closed m)
-
--- a slice that was written through is the whole of the vector
-pub whole : (old new : List ℕ) (n : ℕ) → length new ≡ length old → n ≡ length old → take n (new ++ drop (length new) old) ≡ new
-whole old new n e f = rw (drop_all (length new) old (omega arith), append-nil new) (take_all n new (omega arith))

@@ -1,21 +1,18 @@
 -- Clocks have one list of batches.
-use Rattle.std.proofs.Common.{◌≡◌, ◌≢◌, ℕ, zero, suc, ◌<◌, ◌≤◌, true, false, All, List, [], ◌∷◌, length, get_or, slice_get, arith, rules, refl, sym, subst, ◌∙◌, inl, inr}
-use Rattle.std.specs.Prelude.{◌==◌, AllPairs, filter}
+use Rattle.std.proofs.Common.{◌≡◌, ◌≢◌, ℕ, zero, suc, ◌<◌, ◌≤◌, true, false, All, List, [], ◌∷◌, length, get_or, slice_get, arith, refl, sym, subst, ◌∙◌, inl, inr}
+use Rattle.std.specs.Prelude.{◌==◌, AllPairs}
 use Rattle.std.specs.List.{list_any}
 use Rattle.std.specs.List.Sorted.{IsStrictlyIncreasing}
-use Rattle.std.proofs.lemmas.Bool.{cases_Bool, cases_eq, cases_lt, false≢true, ne_eqb}
-use Rattle.std.proofs.lemmas.List.Elements.{All-filter, All-map}
+use Rattle.std.proofs.lemmas.Bool.{cases_Bool, cases_eq, cases_lt, eq-eqb, false≢true, ne_eqb}
 use Rattle.std.proofs.lemmas.List.Kept.{AllPairs-from_increasing}
 use Rattle.dbp_plan.specs.declared.diagram.Clock.{Clock}
 use Rattle.dbp_plan.specs.declared.schedule.Batch.{Batch}
 use Rattle.dbp_plan.specs.Occurrences.{names, times_of}
 use Rattle.dbp_plan.specs.Places.{at_place}
+use Rattle.dbp_plan.specs.Times.{times_all}
 use Rattle.trace_io.specs.Batches.{AreBatches}
-use Rattle.trace_io.proofs.Due.{named-below}
+use Rattle.dbp_plan.proofs.BatchTasks.{named_below}
 use Rattle.dbp_plan.proofs.Numbers.{Rise, rise, rise-rest}
-
-own : (x : ℕ) → (x == x) ≡ true
-own x = search rules
 
 -- numbers of which each is below all later ones
 record Up (xs : List ℕ) : Type 0 where
@@ -48,11 +45,11 @@ first-below x xs up (suc k) d fits = let less : x < get_or xs k d = up-first x x
 -- the same numbers in order are one list
 one-order : (xs ys : List ℕ) → Up xs → Up ys → ((i : ℕ) → list_any (λ n. n == i) xs ≡ list_any (λ n. n == i) ys) → xs ≡ ys
 one-order [] [] ux uy same = refl
-one-order [] (y ∷ ys) ux uy same = absurd (false≢true (rw (own y) at (same y)))
-one-order (x ∷ xs) [] ux uy same = absurd (false≢true (sym (rw (own x) at (same x))))
+one-order [] (y ∷ ys) ux uy same = absurd (false≢true (rw (eq-eqb y y refl) at (same y)))
+one-order (x ∷ xs) [] ux uy same = absurd (false≢true (sym (rw (eq-eqb x x refl) at (same x))))
 one-order (x ∷ xs) (y ∷ ys) ux uy same =
-    let below_x : y ≤ x = above (y ∷ ys) y x (first-below y ys uy) (sym (rw (own x) at (same x))) in
-    let below_y : x ≤ y = above (x ∷ xs) x y (first-below x xs ux) (rw (own y) at (same y)) in
+    let below_x : y ≤ x = above (y ∷ ys) y x (first-below y ys uy) (sym (rw (eq-eqb x x refl) at (same x))) in
+    let below_y : x ≤ y = above (x ∷ xs) x y (first-below x xs ux) (rw (eq-eqb y y refl) at (same y)) in
     let first : x ≡ y = omega arith in
     let rest : (i : ℕ) → list_any (λ n. n == i) xs ≡ list_any (λ n. n == i) ys = λ i. elim (cases_eq x i) [
       | inl is ↦ rw (sym is) (not-later x xs ux ∙ sym (rw first (not-later y ys uy)))
@@ -60,10 +57,6 @@ one-order (x ∷ xs) (y ∷ ys) ux uy same =
     ] in
     let tail : xs ≡ ys = one-order xs ys (up-rest x xs ux) (up-rest y ys uy) rest in
     cc
-
--- what holds of all batches' times holds of a task's
-all-times : (P : ℕ → Type 0) (bs : List Batch) (i : ℕ) → All (λ b. P b.time) bs → All P (times_of bs i)
-all-times P bs i all = All-map P (λ (b : Batch). b.time) (filter (names i) bs) (All-filter (names i) (λ (b : Batch). P b.time) bs all)
 
 later : (b : Batch) (bs : List Batch) → Rise (b ∷ bs) → All (λ a. b.time < a.time) bs
 later b bs up = λ k d fits. up.pairs 0 (suc k) d (omega arith) (omega arith)
@@ -82,7 +75,7 @@ a-name b some = go b.tasks some
   where
     go : (xs : List ℕ) → xs ≢ [] → (i : ℕ) × (list_any (λ n. n == i) xs ≡ true)
     go [] h = absurd (h refl)
-    go (x ∷ xs) h = (x, rw (own x) refl)
+    go (x ∷ xs) h = (x, rw (eq-eqb x x refl) refl)
 
 -- what of a list of batches is needed
 record Ordered (bs : List Batch) : Type 0 where
@@ -102,7 +95,7 @@ no-later : (x y : Batch) (xs ys : List Batch) → Ordered (x ∷ xs) → Ordered
 no-later x y xs ys ox oy same =
     let (i, is) = a-name x (ox.some 0 x (omega arith)) in
     let begins : times_of (y ∷ ys) i ≡ x.time ∷ times_of xs i = rw is at (sym (same i)) in
-    first-holds (λ t. y.time ≤ t) (times_of (y ∷ ys) i) (times_of xs i) x.time (all-times (λ t. y.time ≤ t) (y ∷ ys) i (not-earlier y ys oy.up)) begins
+    first-holds (λ t. y.time ≤ t) (times_of (y ∷ ys) i) (times_of xs i) x.time (times_all (λ t. y.time ≤ t) (y ∷ ys) i (not-earlier y ys oy.up)) begins
 
 -- of equal times the names of both first batches are those whose times begin there
 not-missing : (x y : Batch) (xs ys : List Batch) (i : ℕ) → Ordered (y ∷ ys) → x.time ≡ y.time → times_of (x ∷ xs) i ≡ times_of (y ∷ ys) i → names i x ≡ true → names i y ≡ true
@@ -110,7 +103,7 @@ not-missing x y xs ys i oy time same is = elim (cases_Bool (names i y)) [
   | inl here ↦ here
   | inr not ↦
       let begins : times_of ys i ≡ x.time ∷ times_of xs i = rw (is, not) at (sym same) in
-      let less : y.time < x.time = first-holds (λ t. y.time < t) (times_of ys i) (times_of xs i) x.time (all-times (λ t. y.time < t) ys i (later y ys oy.up)) begins in
+      let less : y.time < x.time = first-holds (λ t. y.time < t) (times_of ys i) (times_of xs i) x.time (times_all (λ t. y.time < t) ys i (later y ys oy.up)) begins in
       absurd (omega arith)
 ]
 
@@ -148,7 +141,7 @@ one-list (x ∷ xs) (y ∷ ys) ox oy same =
 unnamed : (n : ℕ) (bs : List Batch) (i : ℕ) → All (λ b. All (λ k. k < n) b.tasks) bs → n ≤ i → times_of bs i ≡ []
 unnamed n [] i named past = refl
 unnamed n (b ∷ bs) i named past =
-    let no : names i b ≡ false = named-below b.tasks i (λ k d fits. let less : get_or b.tasks k d < n = named 0 b (omega arith) k d fits in omega arith) in
+    let no : names i b ≡ false = named_below b.tasks i (λ k d fits. let less : get_or b.tasks k d < n = named 0 b (omega arith) k d fits in omega arith) in
     rw no (unnamed n bs i (λ k d fits. named (suc k) d (omega arith)) past)
 
 -- lists with the same items at all places

@@ -1,5 +1,5 @@
 -- What the trace of a document gives to its clocks and inputs, where no line has a fault.
-use Rattle.std.proofs.Common.{◌≡◌, ℕ, ◌<◌, ◌≤◌, All, AllPairs, List, [], ◌∷◌, ◌++◌, length, map, drop, Option, Some, None, sym, ap, ◌∙◌, subst, arith}
+use Rattle.std.proofs.Common.{◌≡◌, ℕ, ◌<◌, ◌≤◌, All, AllPairs, List, length, map, drop, None, sym, ap, ◌∙◌, subst, arith}
 use Rattle.std.specs.Prelude.{IsTrue}
 use Rattle.std.specs.List.Sorted.{IsStrictlyIncreasing}
 use Rattle.std.proofs.lemmas.List.{length-drop}
@@ -10,6 +10,7 @@ use Rattle.dbp_plan.specs.Samples.{is_before}
 use Rattle.dbp_plan.specs.FirstFault.{first_fault}
 use Rattle.dia_read.specs.declared.document.Doc.{Doc}
 use Rattle.dia_read.specs.Printable.{IsPrintable, HasItemLines}
+use Rattle.dbp_plan.proofs.FirstFaults.{append-none}
 use Rattle.trace_rows.specs.Records.{records_of}
 use Rattle.trace_rows.specs.Headers.{kind_of_column}
 use Rattle.trace_rows.specs.Rows.{row_faults}
@@ -17,11 +18,6 @@ use Rattle.trace_rows.proofs.Timetable.{event-times-count, event-times-rise, eve
 use Rattle.trace_io.specs.Batches.{IsTimetable}
 use Rattle.trace_io.specs.Traces.{columns_of, rows_of, header_faults, IsTraceOf}
 use Rattle.trace_io.proofs.TraceLines.{record-lines}
-
-behind-none : {F : Type 0} (xs ys : List (ℕ × Option F)) → first_fault (xs ++ ys) ≡ None → first_fault ys ≡ None
-behind-none [] ys none = none
-behind-none ((n, None) ∷ xs) ys none = behind-none xs ys none
-behind-none ((n, Some fault) ∷ xs) ys none = absurd cc
 
 module _ (doc : Doc) (d : Diagram) (events : List (List ℕ)) (samples : List Sample) (trace : IsTraceOf doc d events samples) where
   pub events-count : length events ≡ length d.events
@@ -35,7 +31,7 @@ module _ (doc : Doc) (d : Diagram) (events : List (List ℕ)) (samples : List Sa
     lines-there = omega (arith, record-lines doc printable items, length-drop 1 doc.lines.trace, length-drop 1 (records_of doc.body.trace))
 
     rows-faultless : first_fault (row_faults d.until (map (kind_of_column d.inputs) (columns_of doc)) (rows_of doc) (drop 1 doc.lines.trace)) ≡ None
-    rows-faultless = behind-none (header_faults doc d doc.body.trace) (row_faults d.until (map (kind_of_column d.inputs) (columns_of doc)) (rows_of doc) (drop 1 doc.lines.trace)) trace.faultless
+    rows-faultless = (append-none (header_faults doc d doc.body.trace) (row_faults d.until (map (kind_of_column d.inputs) (columns_of doc)) (rows_of doc) (drop 1 doc.lines.trace)) trace.faultless).1
 
     pub timetable : IsRanked d → IsTimetable d.until events
     timetable ranked = record {

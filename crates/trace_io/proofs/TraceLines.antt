@@ -10,7 +10,8 @@ use Rattle.dia_read.proofs.Paired.{feeds, row-has-no-feed}
 use Rattle.dia_read.specs.declared.document.Doc.{Doc}
 use Rattle.dia_read.specs.Printable.{IsPrintable, HasItemLines, KeepsItself, ended_lines, line_count}
 use Rattle.trace_rows.specs.Records.{records_of, cells_of}
-use Rattle.trace_rows.proofs.LineRecords.{bytes-kept, lines-back}
+use Rattle.dia_lines.proofs.TraceLaws.{all_allowed}
+use Rattle.trace_rows.proofs.LineRecords.{lines-back}
 
 is_feed : ℕ → ℕ
 is_feed b = cond (b == 10) 1 0
@@ -18,7 +19,7 @@ is_feed b = cond (b == 10) 1 0
 -- a line has no line feed inside
 feeds-line : (line after : List ℕ) → SaysInTrace line (row line) → feeds (line ++ 10 ∷ after) ≡ 1 + feeds after
 unfolding is_feed
-feeds-line line after kept = omega (arith, sum_by-append is_feed line (10 ∷ after), sum_by-append is_feed (10 ∷ []) after, row-has-no-feed line (bytes-kept line line kept))
+feeds-line line after kept = omega (arith, sum_by-append is_feed line (10 ∷ after), sum_by-append is_feed (10 ∷ []) after, row-has-no-feed line (all_allowed line (row line) kept))
 
 ended-count : (lines : List (List ℕ)) → All (λ line. SaysInTrace line (row line)) lines → feeds (ended_lines lines) ≡ length lines
 ended-count [] kept = refl

@@ -1,6 +1,8 @@
+-- Definitions that public clauses cite.
 pub mod Batches
+pub mod Lines
 pub mod Texts
 pub mod Traces
+-- What private functions, the inside of types and proofs cite.
 pub mod Merging
-pub mod Lines
 pub mod Printing

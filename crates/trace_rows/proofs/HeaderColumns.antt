@@ -1,10 +1,11 @@
 -- The columns of a header, place by place.
 use Rattle.std.proofs.Common.{◌≡◌, ℕ, zero, suc, ◌+◌, ◌-◌, ◌<◌, ◌≤◌, Bool, true, false, List, [], ◌∷◌, ◌++◌, length, take, drop, get_or, Some, refl, sym, ap, ◌∙◌, append_assoc, arith, inl, inr}
-use Rattle.std.specs.Prelude.{not, ◌&&◌, ◌||◌, codes}
+use Rattle.std.specs.Prelude.{not, ◌&&◌, codes}
 use Rattle.std.specs.List.{list_all, list_any}
 use Rattle.std.specs.Option.{option_map_or}
 use Rattle.std.specs.Str.{bytes_eq}
-use Rattle.std.proofs.lemmas.Bool.{cases_Bool, and_parts, or_parts, both_ways, not-true, false_from_ne_true}
+use Rattle.std.proofs.Math.Bool.{and-false, or-true}
+use Rattle.std.proofs.lemmas.Bool.{cases_Bool, and_parts, or_from, or_parts, both_ways, not-true, false_from_ne_true}
 use Rattle.std.proofs.lemmas.Grind.{get_or_after_one}
 use Rattle.std.proofs.lemmas.List.{append-nil, get_or-take, length-drop, length-take-le, take_more}
 use Rattle.std.proofs.lemmas.List.Folds.{list_any_at}
@@ -102,19 +103,12 @@ columns_fit names before (column ∷ columns) = is_among names column && not (is
 swapped : (a b : List ℕ) → bytes_eq a b ≡ false → bytes_eq b a ≡ false
 swapped a b h = false_from_ne_true _ (λ y. both_ways _ h ((bytes_eq-Decides a b).1 (sym ((bytes_eq-Decides b a).0 y))))
 
-or-nothing : (x y : Bool) → x ≡ false → y ≡ false → (x || y) ≡ false
-or-nothing x y e f = rw (e, f) refl
-
-and-false : (x : Bool) → (x && false) ≡ false
-and-false true = refl
-and-false false = refl
-
 distinct-more : (before : List (List ℕ)) (column : List ℕ) → are_distinct before ≡ true → is_among before column ≡ false → are_distinct (before ++ column ∷ []) ≡ true
 distinct-more [] column h new = refl
 distinct-more (b ∷ before) column h new =
     let here = and_parts (not (is_among before b)) (are_distinct before) h in
     let none = or_parts (bytes_eq b column) (is_among before column) new in
-    let other : is_among (before ++ column ∷ []) b ≡ false = among_append before (column ∷ []) b ∙ or-nothing (is_among before b) (is_among (column ∷ []) b) (not-true _ here.0) (or-nothing (bytes_eq column b) false (swapped b column none.0) refl) in
+    let other : is_among (before ++ column ∷ []) b ≡ false = among_append before (column ∷ []) b ∙ or_from (is_among before b) (is_among (column ∷ []) b) (not-true _ here.0) (or_from (bytes_eq column b) false (swapped b column none.0) refl) in
     rw (other, distinct-more before column here.1 none.1) refl
 
 not-distinct : (before columns : List (List ℕ)) (column : List ℕ) → is_among before column ≡ true → are_distinct (before ++ column ∷ columns) ≡ false
@@ -127,10 +121,6 @@ not-distinct (b ∷ before) columns column there =
           rw found refl
       | inr n ↦ rw (not-distinct before columns column (rw n at there)) (and-false (not (is_among (before ++ column ∷ columns) b)))
     ]
-  where
-    or-true : (x : Bool) → (x || true) ≡ true
-    or-true true = refl
-    or-true false = refl
 
 fit-is : (names before columns : List (List ℕ)) → are_distinct before ≡ true → columns_fit names before columns ≡ (list_all (is_among names) columns && are_distinct (before ++ columns))
 fit-is names before [] h = rw (append-nil before) (sym h)

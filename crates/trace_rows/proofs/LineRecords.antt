@@ -13,18 +13,17 @@ use Rattle.csv.specs.declared.parser.State.TheVariants as st
 use Rattle.csv.proofs.RoundTrip.{record-same, start-same}
 use Rattle.dia_lines.specs.Sections.{is_space, is_trace_byte}
 use Rattle.dia_lines.specs.Lines.{row, SaysInTrace, a_row}
-use Rattle.dia_lines.specs.Text.{is_inside, lines_of}
+use Rattle.dia_lines.specs.Text.{lines_of}
 use Rattle.dia_lines.proofs.TextLaws.{lines_of-nil, lines_of-line}
 use Rattle.dia_read.specs.Printable.{ended_lines}
+use Rattle.dia_lines.proofs.TraceLaws.{all_allowed}
+use Rattle.dia_read.proofs.Following.{trace-inside}
 use Rattle.trace_rows.specs.Records.{cells_of}
 
 -- ---- a kept line
 
 abbrev IsKept : List ℕ → Type 0
 IsKept line = SaysInTrace line (row line)
-
-pub bytes-kept : (line kept : List ℕ) → SaysInTrace line (row kept) → list_all is_trace_byte line ≡ true
-bytes-kept line kept (a_row l h k) = h
 
 some-kept : (line kept : List ℕ) → SaysInTrace line (row kept) → line ≢ []
 some-kept line kept (a_row l h k) e = both_ways _ k.full (ap (list_all is_space) e)
@@ -37,17 +36,11 @@ other-byte x b none h =
       | inr n ↦ n
     ]
 
-inside-kept : (line : List ℕ) → list_all is_trace_byte line ≡ true → list_all is_inside line ≡ true
-inside-kept [] h = refl
-inside-kept (b ∷ line) h =
-    let both = and_parts (is_trace_byte b) (list_all is_trace_byte line) h in
-    rw (other-byte 10 b refl both.0, other-byte 13 b refl both.0) (inside-kept line both.1)
-
 -- the text has the lines that it is made of
 pub lines-back : (lines : List (List ℕ)) → All (λ line. SaysInTrace line (row line)) lines → lines_of (ended_lines lines) ≡ lines
 lines-back [] kept = lines_of-nil
 lines-back (line ∷ lines) kept =
-    lines_of-line line (ended_lines lines) (inside-kept line (bytes-kept line line (All-head IsKept line lines kept)))
+    lines_of-line line (ended_lines lines) (trace-inside line (all_allowed line (row line) (All-head IsKept line lines kept)))
     ∙ ap (λ (ls : List (List ℕ)). line ∷ ls) (lines-back lines (All-tail IsKept line lines kept))
 
 -- ---- its record
@@ -119,7 +112,7 @@ first-line (b ∷ line) rest kept some =
     ∙ rw (no-more (b ∷ line)) refl
 
 line-record : (line rest : List ℕ) → IsKept line → next_record default_config st.StartRecord [] [] (line ++ 10 ∷ rest) ≡ Some (parts line, st.StartRecord, rest)
-line-record line rest kept = first-line line rest (bytes-kept line line kept) (some-kept line line kept)
+line-record line rest kept = first-line line rest (all_allowed line (row line) kept) (some-kept line line kept)
 
 -- ---- the records of the text
 
@@ -156,7 +149,7 @@ unfolding strip_bom
 no-bom [] kept = refl
 no-bom (line ∷ lines) kept =
     let first = All-head IsKept line lines kept in
-    no-mark line (ended_lines lines) (bytes-kept line line first) (some-kept line line first)
+    no-mark line (ended_lines lines) (all_allowed line (row line) first) (some-kept line line first)
 
 trimmed-parts : (lines : List (List ℕ)) → map (map trimmed) (map parts lines) ≡ map cells_of lines
 trimmed-parts [] = refl

@@ -1,14 +1,14 @@
 -- The times of rows without a fault rise, and stay below the end, also where only some of the rows are taken.
-use Rattle.std.proofs.Common.{◌≡◌, ℕ, zero, suc, ◌+◌, ◌<◌, ◌≤◌, Bool, true, false, All, List, [], ◌∷◌, ◌++◌, length, map, Option, Some, None, refl, inl, inr, arith}
+use Rattle.std.proofs.Common.{◌≡◌, ℕ, zero, suc, ◌+◌, ◌<◌, ◌≤◌, Bool, false, All, List, [], ◌∷◌, ◌++◌, length, map, Option, Some, None, refl, inl, inr, arith}
 use native.Mathlib.Numerals.{unary_clauses}
-use Rattle.std.specs.Prelude.{filter, nat_le, nat_lt, not, ◌==◌, if◌then◌else◌, ⊤}
+use Rattle.std.specs.Prelude.{filter, nat_le, nat_lt, not, ◌==◌, ⊤}
 use Rattle.std.specs.List.Sorted.{IsStrictlyIncreasing}
 use Rattle.std.proofs.lemmas.Bool.{cases_Bool, leb-false}
 use Rattle.std.proofs.lemmas.List.{length_push}
 use Rattle.dbp_plan.specs.FirstFault.{faults_behind, first_fault}
+use Rattle.dbp_plan.proofs.FirstFaults.{cons-none, test-none}
 use Rattle.trace_rows.specs.Cells.{time_of}
 use Rattle.trace_rows.specs.Rows.{fault_behind, is_not_after, last_time, row_fault, row_fits}
-use Rattle.trace_rows.specs.declared.fail.TraceCode.{TraceCode}
 use Rattle.trace_rows.specs.declared.fail.TraceCode.TheVariants.{BadRow, BadCell, TimeNotRising, TimePastEnd, TooManyRows}
 use Rattle.trace_rows.specs.declared.cell.Kind.{Kind}
 use Rattle.trace_rows.specs.declared.rows.TheConstants.{MAX_ROWS}
@@ -57,10 +57,6 @@ not-before : (before : Option ℕ) (time : ℕ) → is_not_after before time ≡
 not-before None time rises = omega arith
 not-before (Some before) time rises = omega (arith, leb-false time before rises)
 
-not-first : (b : Bool) (code : TraceCode) (others : Option TraceCode) → (if b then Some code else others) ≡ None → (b ≡ false) × (others ≡ None)
-not-first true code others none = absurd cc
-not-first false code others none = (refl, none)
-
 -- what a row without a fault keeps
 record IsTimed (until : ℕ) (before : Option ℕ) (row : List (List ℕ)) : Type 0 where
   pub low : least_behind before ≤ time_of row
@@ -68,16 +64,12 @@ record IsTimed (until : ℕ) (before : Option ℕ) (row : List (List ℕ)) : Typ
 
 row-timed : (until : ℕ) (kinds : List Kind) (number : ℕ) (before : Option ℕ) (row : List (List ℕ)) → row_fault until kinds number before row ≡ None → IsTimed until before row
 row-timed until kinds number before row none =
-    let few = not-first (nat_lt MAX_ROWS number) TooManyRows _ none in
-    let whole = not-first (not (length row == length kinds + 1)) BadRow _ few.1 in
-    let fits = not-first (not (row_fits kinds row)) BadCell _ whole.1 in
-    let rising = not-first (is_not_after before (time_of row)) TimeNotRising _ fits.1 in
-    let within = not-first (nat_le until (time_of row)) TimePastEnd None rising.1 in
+    let few = test-none (nat_lt MAX_ROWS number) TooManyRows _ none in
+    let whole = test-none (not (length row == length kinds + 1)) BadRow _ few.1 in
+    let fits = test-none (not (row_fits kinds row)) BadCell _ whole.1 in
+    let rising = test-none (is_not_after before (time_of row)) TimeNotRising _ fits.1 in
+    let within = test-none (nat_le until (time_of row)) TimePastEnd None rising.1 in
     record { low = not-before before (time_of row) rising.0; ends = leb-false until (time_of row) within.0 }
-
-cons-none : {F : Type 0} (n : ℕ) (fault : Option F) (rest : List (ℕ × Option F)) → first_fault ((n, fault) ∷ rest) ≡ None → (fault ≡ None) × (first_fault rest ≡ None)
-cons-none n None rest none = (refl, none)
-cons-none n (Some code) rest none = absurd cc
 
 module _ (until : ℕ) (kinds : List Kind) where
   NoFaultFrom : List (List (List ℕ)) → List (List (List ℕ)) → List ℕ → Type 0

@@ -1,7 +1,9 @@
+-- Definitions that public clauses cite.
 pub mod Cells
-pub mod Columns
 pub mod Headers
-pub mod ReaderErrors
 pub mod Records
 pub mod Rows
 pub mod Values
+-- What private functions, the inside of types and proofs cite.
+pub mod Columns
+pub mod ReaderErrors

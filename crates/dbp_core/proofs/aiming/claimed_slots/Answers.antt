@@ -3,18 +3,19 @@ use Rattle.std.proofs.lemmas.List.{length-take-le, take_all}
 use Rattle.dbp_rules.specs.Wired.{links_at}
 use Rattle.dbp_rules.specs.declared.parts.LinkEntry.{LinkEntry}
 use Rattle.dbp_rules.specs.declared.wiring.LinkEnd.TheVariants.{Writer}
-use Rattle.dbp_core.proofs.ClaimedSlots.{all_claimed, claimed_few, claimed_more, claimed_over, leaving_below, leaving_few, leaving_is, unclaimed_more}
-use Rattle.dbp_core.proofs.aiming.claimed_slots.Goals.{then-has_claim, else-has_claim}
+use Rattle.dbp_rules.proofs.IntoTask.{leaving_below}
+use Rattle.dbp_core.proofs.ClaimedSlots.{all_claimed, claimed_few, claimed_more, claimed_over, leaving_few, leaving_is, unclaimed_more}
+use Rattle.dbp_core.proofs.aiming.claimed_slots.Goals.{then-has_claim_in, else-has_claim_in}
 use Rattle.dbp_core.proofs.aiming.claimed_slots.Goals as goal
 
-pub has_claim-requires-clause-link : goal.has_claim-requires-clause-link
-has_claim-requires-clause-link c =
+pub has_claim_in-requires-clause-link : goal.has_claim_in-requires-clause-link
+has_claim_in-requires-clause-link c =
     let is : c.items-k-items.result.now ≡ links_at Writer c.args.wiring.now.links c.args.i =
     leaving_is c.args.plan.now c.args.wiring.now c.args.state.now c.args.i c.wired_at.result.now c.items-k-items.result.now c.requires.shape c.requires.task c.items-k-items.ensures.value c.wired_at.ensures in
     leaving_below c.args.wiring.now c.args.i c.loop-k.k-index c.items-k-items.result.now is c.loop-k-test.true
 
-pub has_claim-requires-clause-claim : goal.has_claim-requires-clause-claim
-has_claim-requires-clause-claim c =
+pub has_claim_in-requires-clause-claim : goal.has_claim_in-requires-clause-claim
+has_claim_in-requires-clause-claim c =
     let is : c.items-k-items.result.now ≡ links_at Writer c.args.wiring.now.links c.args.i =
     leaving_is c.args.plan.now c.args.wiring.now c.args.state.now c.args.i c.wired_at.result.now c.items-k-items.result.now c.requires.shape c.requires.task c.items-k-items.ensures.value c.wired_at.ensures in
     omega (arith, leaving_below c.args.wiring.now c.args.i c.loop-k.k-index c.items-k-items.result.now is c.loop-k-test.true, c.requires.shape.claims)
@@ -32,14 +33,14 @@ push-requires c =
 
 pub loop-k-preserved : goal.loop-k-preserved
 loop-k-preserved c =
-    elim c.if-has_claim.branch [
-      | then-has_claim b ↦
+    elim c.if-has_claim_in.branch [
+      | then-has_claim_in b ↦
           ap (λ v. v.items) b.claimed-is ∙ b.push.ensures.items ∙ ap (λ xs. xs ++ b.claim_over.result.slot ∷ []) c.loop-k.invariant
           ∙ ap (λ (e : LinkEntry). claimed_over c.args.wiring.now c.args.state.now c.args.i (take c.loop-k.k-index c.items-k-items.result.now) ++ e.slot ∷ []) b.claim_over.ensures
-          ∙ sym (claimed_more c.args.wiring.now c.args.state.now c.args.i c.loop-k.k-index c.items-k-items.result.now c.loop-k-test.true (sym c.has_claim.ensures ∙ b.if-has_claim.true))
-      | else-has_claim b ↦
+          ∙ sym (claimed_more c.args.wiring.now c.args.state.now c.args.i c.loop-k.k-index c.items-k-items.result.now c.loop-k-test.true (sym c.has_claim_in.ensures ∙ b.if-has_claim_in.true))
+      | else-has_claim_in b ↦
           ap (λ v. v.items) b.claimed-is ∙ c.loop-k.invariant
-          ∙ sym (unclaimed_more c.args.wiring.now c.args.state.now c.args.i c.loop-k.k-index c.items-k-items.result.now c.loop-k-test.true (sym c.has_claim.ensures ∙ b.if-has_claim.false))
+          ∙ sym (unclaimed_more c.args.wiring.now c.args.state.now c.args.i c.loop-k.k-index c.items-k-items.result.now c.loop-k-test.true (sym c.has_claim_in.ensures ∙ b.if-has_claim_in.false))
     ]
 
 pub returns-clause-slots : goal.returns-clause-slots

@@ -36,11 +36,11 @@ loop-place-preserved c =
     let here : slice_get steps c.loop-place.place ≡ Some e = slice_get-get_or steps c.loop-place.place (Seen 0) c.loop-place-test.true in
     let named : IsNamed p.diagram e = (all_place (IsThere p.diagram) steps c.loop-place.place e c.requires.there here).named in
     let plan : c.plan.result.now ≡ p = c.plan.ensures ∙ c.in-Ok.ensures.plan ∙ i.plan in
-    let told : c.push_line.new.text.items ≡ c.loop-place.text.items ++ heard_line p.diagram e h =
+    let line : c.push_line.new.text.items ≡ c.loop-place.text.items ++ heard_line p.diagram e h =
     c.in_ok-push_line-in-Ok.ensures ∙ ap (λ (q : Plan). c.loop-place.text.items ++ heard_line q.diagram e h) plan in
     record {
       plan = c.in-Ok.ensures.plan ∙ i.plan;
       count = c.in-Ok.ensures.count ∙ i.count;
       so_far = taken-more p (count_in c.args.core.now) steps c.loop-place.place (state_in c.loop-place.core) (state_in c.step.new.self) c.loop-place.text.items c.push_line.new.text.items e h i.so_far here named
-          (same-step (plan_in c.loop-place.core) (plan_in c.args.core.now) (count_in c.loop-place.core) (count_in c.args.core.now) (state_in c.loop-place.core) (state_in c.step.new.self) e (Ok h) i.plan i.count c.in-Ok.ensures.step) told;
+          (same-step (plan_in c.loop-place.core) (plan_in c.args.core.now) (count_in c.loop-place.core) (count_in c.args.core.now) (state_in c.loop-place.core) (state_in c.step.new.self) e (Ok h) i.plan i.count c.in-Ok.ensures.step) line;
     }

@@ -11,16 +11,13 @@ use Rattle.dbp_rules.specs.declared.parts.ReleaserPart.{ReleaserPart}
 use Rattle.dbp_rules.specs.declared.wiring.LinkEnd.TheVariants.{Writer}
 use Rattle.dbp_rules.specs.declared.wiring.TaskWiring.{TaskWiring}
 use Rattle.dbp_rules.specs.declared.wiring.Wiring.{Wiring}
-use Rattle.dbp_rules.proofs.IntoTask.{links_below}
+use Rattle.dbp_rules.proofs.IntoTask.{leaving_below}
 use Rattle.dbp_rules.proofs.Searches.{find_among, find_at, find_past}
 use Rattle.dbp_rules.proofs.releaser_steps.claiming_link.Goals as goal
 
 -- the items of the loop are the links that leave the task
 leaving : (w : Wiring) (i : ℕ) (t : TaskWiring) (items : List ℕ) → items ≡ t.leaving → t ≡ wired w i → (wired w i).leaving ≡ links_at Writer w.links i → items ≡ links_at Writer w.links i
 leaving w i t items own is all = own ∙ ap (λ (x : TaskWiring). x.leaving) is ∙ all
-
-below : (w : Wiring) (i n : ℕ) (items : List ℕ) → items ≡ links_at Writer w.links i → n < length items → get_or items n 0 < length w.links
-below w i n items is inside = subst (λ (xs : List ℕ). All (λ k. k < length w.links) xs) (sym is) (links_below Writer w.links i) n 0 inside
 
 -- the first of them that claims the slot is the least link that does
 least : (w : Wiring) (r : ReleaserPart) (i slot : ℕ) (items : List ℕ) → items ≡ links_at Writer w.links i → find (rule.claims_slot_in w r i slot) items ≡ rule.least (rule.claims_slot_in w r i slot) (length w.links)
@@ -33,7 +30,7 @@ loop-k-init c = refl
 
 pub claims_slot-requires-clause-link : goal.claims_slot-requires-clause-link
 claims_slot-requires-clause-link c =
-    below c.args.wiring.now c.args.i c.loop-k.k-index c.items-k-items.result.now (leaving c.args.wiring.now c.args.i c.task.result.now c.items-k-items.result.now c.items-k-items.ensures.value c.task.ensures (c.requires.links.leaving c.args.i c.requires.task)) c.loop-k-test.true
+    leaving_below c.args.wiring.now c.args.i c.loop-k.k-index c.items-k-items.result.now (leaving c.args.wiring.now c.args.i c.task.result.now c.items-k-items.result.now c.items-k-items.ensures.value c.task.ensures (c.requires.links.leaving c.args.i c.requires.task)) c.loop-k-test.true
 
 pub returns-then-claims_slot : goal.returns-then-claims_slot
 returns-then-claims_slot c =

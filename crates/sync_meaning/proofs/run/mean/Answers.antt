@@ -7,7 +7,7 @@ use Rattle.sync_meaning.specs.SomeMeaning.{meaning_of, meaning_of-is}
 use Rattle.sync_meaning.proofs.OneMeaning.{one_meaning}
 use Rattle.sync_meaning.proofs.Counts.{counted_more, counted_none}
 use Rattle.sync_meaning.proofs.ExactRuns.{meaning_all, ready_more, ready_none}
-use Rattle.sync_meaning.proofs.Ranks.{ranking}
+use Rattle.dbp_plan.proofs.RankLaws.{ranking}
 use Rattle.sync_meaning.proofs.Sets.{item_at}
 use Rattle.sync_meaning.proofs.run.mean.Goals as goal
 

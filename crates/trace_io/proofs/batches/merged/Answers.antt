@@ -1,7 +1,8 @@
 use Rattle.std.proofs.Common.{◌≡◌, ◌<◌, ◌≤◌, ◌++◌, ◌∷◌, [], length, rules, arith, sym, ◌∙◌, Some, None}
 use Rattle.dbp_plan.specs.declared.schedule.Batch.{Batch}
+use Rattle.dbp_plan.proofs.ListParts.{refilled}
 use Rattle.trace_io.specs.Merging.{IsLeastNext, TakesDue}
-use Rattle.trace_io.proofs.Merges.{Merged, after, after-push, merged-none, merge-step, merge-end, made-few, taken-small, whole}
+use Rattle.trace_io.proofs.Merges.{Merged, after, after-push, merged-none, merge-step, merge-end, made-few, taken-small}
 use Rattle.trace_io.proofs.batches.merged.Goals as goal
 
 pub loop-time-init : goal.loop-time-init
@@ -45,7 +46,7 @@ loop-time-preserved c =
     let t = turn c in
     let same : length c.take_due.new.taken ≡ length c.loop-time.taken.items = t.0.places ∙ sym c.loop-time.invariant.places in
     let len : c.loop-time.taken.len ≡ length c.loop-time.taken.items = search rules in
-    rw (c.in_ok-push.ensures.ok, whole c.loop-time.taken.items c.take_due.new.taken c.loop-time.taken.len same len) t.0
+    rw (c.in_ok-push.ensures.ok, refilled c.loop-time.taken.len c.loop-time.taken.items c.take_due.new.taken len same) t.0
 
 pub returns : goal.returns
 returns c =

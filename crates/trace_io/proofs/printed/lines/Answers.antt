@@ -1,7 +1,7 @@
 use Rattle.std.proofs.Common.{◌≡◌, ◌<◌, ◌++◌, get_or, length, rules, sym}
 use Rattle.trace_io.specs.Printing.{Counts, numbered_lines}
 use Rattle.trace_io.proofs.AllLines.{can-print, printed-more}
-use Rattle.trace_io.proofs.Merges.{whole}
+use Rattle.dbp_plan.proofs.ListParts.{refilled}
 use Rattle.trace_io.proofs.printed.lines.Goals as goal
 
 pub push_batch-requires : goal.push_batch-requires
@@ -21,5 +21,5 @@ loop-batch-preserved c =
     let lines : c.push_batch.new.text.items ≡ c.loop-batch.text.items ++ numbered_lines plan.diagram.tasks c.args.table.now c.batch-item.result.time c.loop-batch.counts.items c.batch-item.result.tasks =
     rw (c.deref_mut.ensures.value, c.items-tasks.ensures.value) at c.in_ok-push_batch.ensures.lines in
     let len : c.loop-batch.counts.len ≡ length c.loop-batch.counts.items = search rules in
-    rw (whole c.loop-batch.counts.items c.push_batch.new.counts c.loop-batch.counts.len counts.places len, lines)
+    rw (refilled c.loop-batch.counts.len c.loop-batch.counts.items c.push_batch.new.counts len counts.places, lines)
     (printed-more plan.diagram plan.samples plan.batches c.args.table.now c.loop-batch.batch-index c.loop-batch.counts.items c.push_batch.new.counts c.loop-batch.text.items c.batch-item.result plan.rules c.loop-batch.invariant fits same counts)

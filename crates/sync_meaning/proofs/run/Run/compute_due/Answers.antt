@@ -5,7 +5,7 @@ use Rattle.dbp_plan.specs.declared.diagram.Diagram.{Diagram}
 use Rattle.sync_meaning.specs.declared.run.Run.{Run}
 use Rattle.std.proofs.lemmas.Option.{slice_get_within}
 use Rattle.sync_meaning.specs.Run.{HasStreams, IsAtTime, IsRun}
-use Rattle.sync_meaning.proofs.Ranks.{length-ranks}
+use Rattle.dbp_plan.proofs.RankLaws.{length-ranks}
 use Rattle.sync_meaning.proofs.Runs.{has_counts, next_skip, rank_read, ranked_at}
 use Rattle.sync_meaning.proofs.run.Run.compute_due.Goals as goal
 use Rattle.sync_meaning.proofs.run.Run.compute_due.Goals.{then-is_due+in_ok-compute, else-is_due}

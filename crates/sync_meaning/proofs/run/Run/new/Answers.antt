@@ -4,7 +4,7 @@ use Rattle.sync_meaning.specs.FirstRows.{first_rows}
 use Rattle.sync_meaning.specs.Shape.{HasEnvs, HasFirstStates}
 use Rattle.sync_meaning.proofs.ExactInputs.{taken_none}
 use Rattle.sync_meaning.proofs.ExactRuns.{streams_none}
-use Rattle.sync_meaning.proofs.Ranks.{length-ranks}
+use Rattle.dbp_plan.proofs.RankLaws.{length-ranks}
 use Rattle.sync_meaning.proofs.Runs.{run_none}
 use Rattle.sync_meaning.proofs.run.Run.new.Goals as goal
 

@@ -3,9 +3,9 @@ use Rattle.std.specs.List.Sorted.{IsStrictlyIncreasing}
 use Rattle.sync_meaning.specs.Shape.{IsMarked}
 use Rattle.sync_meaning.proofs.Counts.{marked_few}
 use Rattle.sync_meaning.proofs.ExactRuns.{at_batch, next_at, next_few, streams_same}
-use Rattle.sync_meaning.proofs.Ranks.{length-ranks}
+use Rattle.dbp_plan.proofs.RankLaws.{length-ranks}
 use Rattle.sync_meaning.proofs.Runs.{run_marked}
-use Rattle.sync_meaning.proofs.Sets.{refilled}
+use Rattle.dbp_plan.proofs.ListParts.{refilled}
 use Rattle.sync_meaning.proofs.run.Run.take_batch.Goals as goal
 
 pub mark-requires-clause-tasks : goal.mark-requires-clause-tasks

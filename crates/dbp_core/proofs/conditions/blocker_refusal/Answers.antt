@@ -4,7 +4,7 @@ use Rattle.dbp_rules.specs.Rules as rule
 use Rattle.dbp_rules.specs.declared.wiring.TaskWiring.{TaskWiring}
 use Rattle.dbp_core.specs.Unfinished.{has_rank}
 use Rattle.dbp_core.proofs.RankMasks.{none_blocks}
-use Rattle.dbp_core.proofs.conditions.blocked.Goals as goal
+use Rattle.dbp_core.proofs.conditions.blocker_refusal.Goals as goal
 
 pub returns-then-not-has_above : goal.returns-then-not-has_above
 returns-then-not-has_above c =
