@@ -1,5 +1,6 @@
 -- A command has one status and one text at most for an input.
-use Rattle.std.proofs.Common.{◌≡◌, ℕ, List, Bool, refl, ap, subst}
+use Rattle.std.proofs.Common.{◌≡◌, ℕ, List, Bool, true, refl, ap, subst}
+use Rattle.std.proofs.lemmas.Bool.{false≢true}
 use Rattle.dbp_rules.specs.declared.step.Illegal.{Illegal as Broken}
 use Rattle.dbp_rules.specs.declared.step.Step.{Step}
 use Rattle.dbp_plan.specs.declared.plan.Plan.{Plan}
@@ -20,10 +21,11 @@ use Rattle.trace_io.specs.declared.code.Code.{Code}
 use Rattle.trace_io.specs.declared.code.Code.TheVariants.{Reading, Checking, Tracing}
 use Rattle.trace_io.specs.Lines.{lines_of}
 use Rattle.trace_io.specs.Texts.{Accepts, Refuses, IsSameCode}
-use Rattle.dbp_top.specs.Answer.{Answers, Makes, IsRefused, Scripts, canonical, count_of, illegal, made, meaning, no_document, no_meaning, no_plan, no_script, no_slots, refused, replay, slots}
+use Rattle.dbp_top.specs.Answer.{Answers, IsRefused, Makes, PlanRefusal, PlanText, canonical, count_of, illegal, made, meaning, needs_plan, no_plan, no_script, no_text, of_plan, of_plan_refused, refused, replay, slots}
 use Rattle.dbp_top.specs.Refusals.{check_name, code_text, refusal_line}
 use Rattle.dbp_top.specs.SlotLines.{slot_lines}
 use Rattle.dbp_top.specs.declared.command.Command.{Command}
+use Rattle.dbp_top.specs.declared.command.Command.TheVariants.{Form}
 use Rattle.dbp_top.specs.declared.refusal.Refusal.{Refusal}
 use Rattle.dbp_top.specs.declared.refusal.Refusal.TheVariants.{Document, Script, Illegal}
 use Rattle.dbp_top.specs.declared.status.Status.{Status}
@@ -47,91 +49,91 @@ same-text (Tracing a) (Tracing b) same = ap (λ c. code_text (Tracing c)) same
 same-line : (line other : ℕ) (a b : Code) → line ≡ other → code_text a ≡ code_text b → refusal_line (Document line a) ≡ refusal_line (Document other b)
 same-line line other a b lines texts = rw (lines, texts) refl
 
+-- ---- what a command makes of a plan
+
+-- a command that makes something of a plan, or refuses it, checks the whole document
+text-of-plan : (doc : Doc) (p : Plan) (command : Command) (text : List ℕ) → PlanText doc p command text → needs_plan command ≡ true
+text-of-plan doc p command text (meaning y here) = refl
+text-of-plan doc p command text slots = refl
+text-of-plan doc p command text (replay ranked es a script is) = refl
+
+refusal-of-plan : (doc : Doc) (p : Plan) (command : Command) (r : Refusal) → PlanRefusal doc p command r → needs_plan command ≡ true
+refusal-of-plan doc p command r (no_script ranked l c fault) = refl
+refusal-of-plan doc p command r (illegal ranked es k why script broken) = refl
+
+-- a document and its plan have one text of a command, or one refusal, and never both
+one-plan-text : (one_meaning : (p : Plan) (y z : Table) → IsMeaning p.diagram p.samples p.batches y → IsMeaning p.diagram p.samples p.batches z → y ≡ z)
+    (doc : Doc) (p : Plan) (command : Command) (text other : List ℕ) → PlanText doc p command text → PlanText doc p command other → text ≡ other
+one-plan-text one doc p command text other (meaning y here) (meaning z there) = ap (λ (t : Table). lines_of p.diagram p.batches t) (one p y z here there)
+one-plan-text one doc p command text other slots slots = refl
+one-plan-text one doc p command text other (replay ranked es a script is) (replay ranked' fs b also was) =
+    let same : es ≡ fs = script-once p.diagram doc es fs script also in
+    text-once p (count_of ranked') fs a b (subst (λ (gs : List Step). IsReplay p (count_of ranked') gs a) same is) was
+
+no-plan-refusal : (doc : Doc) (p : Plan) (command : Command) (text : List ℕ) (r : Refusal) → PlanText doc p command text → PlanRefusal doc p command r → ⊥
+no-plan-refusal doc p command text r (meaning y here) refuses = elim refuses [ ]
+no-plan-refusal doc p command text r slots refuses = elim refuses [ ]
+no-plan-refusal doc p command text r (replay ranked es a script is) (no_script ranked' l c fault) = script-no-fault p.diagram doc es l c script fault
+no-plan-refusal doc p command text r (replay ranked es a script is) (illegal ranked' fs k why also broken) =
+    let same : es ≡ fs = script-once p.diagram doc es fs script also in
+    text-not-refused p (count_of ranked') fs a k why (subst (λ (gs : List Step). IsReplay p (count_of ranked') gs a) same is) broken
+
+one-plan-refusal : (doc : Doc) (p : Plan) (command : Command) (r s : Refusal) → PlanRefusal doc p command r → PlanRefusal doc p command s → r ≡ s
+one-plan-refusal doc p command r s (no_script ranked l c fault) (no_script ranked' m d again) =
+    let same = fault-once p.diagram doc l m c d fault again in
+    λ i. Script (same.0 i) (same.1 i)
+one-plan-refusal doc p command r s (no_script ranked l c fault) (illegal ranked' fs k why also broken) = absurd (script-no-fault p.diagram doc fs l c also fault)
+one-plan-refusal doc p command r s (illegal ranked es k why script broken) (no_script ranked' m d again) = absurd (script-no-fault p.diagram doc es m d script again)
+one-plan-refusal doc p command r s (illegal ranked es k why script broken) (illegal ranked' fs l other also again) =
+    let same : es ≡ fs = script-once p.diagram doc es fs script also in
+    let both = refused-once p (count_of ranked') fs k l why other (subst (λ (gs : List Step). IsIllegal p (count_of ranked') gs k why) same broken) again in
+    λ i. Illegal (both.0 i) (both.1 i)
+
+-- ---- what a command makes of an input
+
 module _
     (one_plan : (text : List ℕ) (p q : Plan) → Accepts text p → Accepts text q → p ≡ q)
     (no_fault : (text : List ℕ) (p : Plan) (line : ℕ) (code : Code) → Accepts text p → Refuses text line code → ⊥)
     (one_fault : (text : List ℕ) (line other : ℕ) (code another : Code) → Refuses text line code → Refuses text other another → (line ≡ other) × IsSameCode code another)
     (one_meaning : (p : Plan) (y z : Table) → IsMeaning p.diagram p.samples p.batches y → IsMeaning p.diagram p.samples p.batches z → y ≡ z)
   where
-    same-lines : (p q : Plan) (y z : Table) → p ≡ q → IsMeaning p.diagram p.samples p.batches y → IsMeaning q.diagram q.samples q.batches z → lines_of p.diagram p.batches y ≡ lines_of q.diagram q.batches z
-    same-lines p q y z same here there =
-        let tables : y ≡ z = one_meaning q y z (rw same at here) there in
-        λ i. lines_of (same i).diagram (same i).batches (tables i)
-
-    same-fault : (input : List ℕ) (line other : ℕ) (a b : Code) → Refuses input line a → Refuses input other b → refusal_line (Document line a) ≡ refusal_line (Document other b)
-    same-fault input line other a b fault again =
-        let same = one_fault input line other a b fault again in
-        same-line line other a b same.0 (same-text a b same.1)
-
-    -- a text's document is the one that it is accepted with
-    same-doc : (input : List ℕ) (p q : Plan) (a : Accepts input p) (b : Accepts input q) → a.doc ≡ b.doc
-    same-doc input p q a b = one-document input a.doc b.doc a.spelled b.spelled
-
-    same-steps : (input : List ℕ) (p q : Plan) (es fs : List Step) → Scripts input p es → Scripts input q fs → (p ≡ q) × (es ≡ fs)
-    same-steps input p q es fs x y =
-        let plan = one_plan input p q x.accepted y.accepted in
-        let doc = same-doc input p q x.accepted y.accepted in
-        let script : IsScript q.diagram y.accepted.doc es = subst (λ (d : Doc). IsScript q.diagram d es) doc (subst (λ (r : Plan). IsScript r.diagram x.accepted.doc es) plan x.script) in
-        (plan, script-once q.diagram y.accepted.doc es fs script y.script)
-
-    no-script-fault : (input : List ℕ) (p q : Plan) (es : List Step) (line : ℕ) (code : ScriptCode) → Scripts input p es → (b : Accepts input q) → IsScriptFault q.diagram b.doc line code → ⊥
-    no-script-fault input p q es line code x b fault =
-        let plan = one_plan input p q x.accepted b in
-        let doc = same-doc input p q x.accepted b in
-        let script : IsScript q.diagram b.doc es = subst (λ (d : Doc). IsScript q.diagram d es) doc (subst (λ (r : Plan). IsScript r.diagram x.accepted.doc es) plan x.script) in
-        script-no-fault q.diagram b.doc es line code script fault
+    -- a text's document and plan are those that it is accepted with
+    same-accepted : (input : List ℕ) (p q : Plan) (a : Accepts input p) (b : Accepts input q) (P : Doc → Plan → Type 0) → P a.doc p → P b.doc q
+    same-accepted input p q a b P holds =
+        let doc : a.doc ≡ b.doc = one-document input a.doc b.doc a.spelled b.spelled in
+        subst (λ (d : Doc). P d q) doc (subst (λ (r : Plan). P a.doc r) (one_plan input p q a b) holds)
 
     one-text : (input : List ℕ) (command : Command) (text other : List ℕ) → Makes input command text → Makes input command other → text ≡ other
-    one-text input command text other (meaning p y accepted here) (meaning q z also there) = same-lines p q y z (one_plan input p q accepted also) here there
     one-text input command text other (canonical d spelled) (canonical e again) = ap (λ (x : Doc). canonical_text x.body) (one-document input d e spelled again)
-    one-text input command text other (slots p accepted) (slots q also) = ap (λ (x : Plan). slot_lines x.diagram) (one_plan input p q accepted also)
-    one-text input command text other (replay ranked p es a x is) (replay ranked' q fs b y was) =
-        let same = same-steps input p q es fs x y in
-        let there : IsReplay q (count_of ranked') fs a = subst (λ (gs : List Step). IsReplay q (count_of ranked') gs a) same.1 (subst (λ (r : Plan). IsReplay r (count_of ranked') es a) same.0 is) in
-        text-once q (count_of ranked') fs a b there was
+    one-text input command text other (canonical d spelled) (of_plan c q b y makes) = absurd (false≢true (text-of-plan y.doc q Form other makes))
+    one-text input command text other (of_plan c p a x makes) (canonical e again) = absurd (false≢true (text-of-plan x.doc p Form text makes))
+    one-text input command text other (of_plan c p a x here) (of_plan d q b y there) =
+        one-plan-text one_meaning y.doc q command text other (same-accepted input p q x y (λ doc plan. PlanText doc plan command text) here) there
 
-    no-refusal : (input : List ℕ) (command : Command) (text : List ℕ) (refusal : Refusal) → Makes input command text → IsRefused input command refusal → ⊥
-    no-refusal input command text r (meaning p y accepted here) (no_meaning l c fault) = no_fault input p l c accepted fault
-    no-refusal input command text r (canonical d spelled) (no_document l c fault) = no-fault-of-a-document input d l c spelled fault
-    no-refusal input command text r (slots p accepted) (no_slots l c fault) = no_fault input p l c accepted fault
-    no-refusal input command text r (replay ranked p es a x is) (no_plan ranked' l c fault) = no_fault input p l c x.accepted fault
-    no-refusal input command text r (replay ranked p es a x is) (no_script ranked' l c q accepted fault) = no-script-fault input p q es l c x accepted fault
-    no-refusal input command text r (replay ranked p es a x is) (illegal ranked' k why q fs y broken) =
-        let same = same-steps input p q es fs x y in
-        let there : IsReplay q (count_of ranked') fs a = subst (λ (gs : List Step). IsReplay q (count_of ranked') gs a) same.1 (subst (λ (r : Plan). IsReplay r (count_of ranked') es a) same.0 is) in
-        text-not-refused q (count_of ranked') fs a k why there broken
-
-    one-script-fault : (input : List ℕ) (p q : Plan) (l m : ℕ) (c e : ScriptCode) (a : Accepts input p) (b : Accepts input q) → IsScriptFault p.diagram a.doc l c → IsScriptFault q.diagram b.doc m e → refusal_line (Script l c) ≡ refusal_line (Script m e)
-    one-script-fault input p q l m c e a b fault again =
-        let plan = one_plan input p q a b in
-        let doc = same-doc input p q a b in
-        let there : IsScriptFault q.diagram b.doc l c = subst (λ (d : Doc). IsScriptFault q.diagram d l c) doc (subst (λ (r : Plan). IsScriptFault r.diagram a.doc l c) plan fault) in
-        let same = fault-once q.diagram b.doc l m c e there again in
-        λ i. refusal_line (Script (same.0 i) (same.1 i))
-
-    one-illegal : (input : List ℕ) (ranked : Bool) (p q : Plan) (es fs : List Step) (k l : ℕ) (why other : Broken) → Scripts input p es → Scripts input q fs → IsIllegal p (count_of ranked) es k why → IsIllegal q (count_of ranked) fs l other
-        → refusal_line (Illegal k why) ≡ refusal_line (Illegal l other)
-    one-illegal input ranked p q es fs k l why other x y broken again =
-        let same = same-steps input p q es fs x y in
-        let there : IsIllegal q (count_of ranked) fs k why = subst (λ (gs : List Step). IsIllegal q (count_of ranked) gs k why) same.1 (subst (λ (r : Plan). IsIllegal r (count_of ranked) es k why) same.0 broken) in
-        let both = refused-once q (count_of ranked) fs k l why other there again in
-        λ i. refusal_line (Illegal (both.0 i) (both.1 i))
+    no-refusal : (input : List ℕ) (command : Command) (text : List ℕ) (r : Refusal) → Makes input command text → IsRefused input command r → ⊥
+    no-refusal input command text r (canonical d spelled) (no_text l c fault) = no-fault-of-a-document input d l c spelled fault
+    no-refusal input command text r (canonical d spelled) (no_plan e l c checks fault) = false≢true checks
+    no-refusal input command text r (canonical d spelled) (of_plan_refused e q s y refuses) = false≢true (refusal-of-plan y.doc q Form r refuses)
+    no-refusal input command text r (of_plan e p a x makes) (no_text l c fault) = false≢true (text-of-plan x.doc p Form text makes)
+    no-refusal input command text r (of_plan e p a x makes) (no_plan f l c checks fault) = no_fault input p l c x fault
+    no-refusal input command text r (of_plan e p a x makes) (of_plan_refused f q s y refuses) =
+        no-plan-refusal y.doc q command text r (same-accepted input p q x y (λ doc plan. PlanText doc plan command text) makes) refuses
 
     one-refusal : (input : List ℕ) (command : Command) (r s : Refusal) → IsRefused input command r → IsRefused input command s → refusal_line r ≡ refusal_line s
-    one-refusal input command r s (no_meaning k c fault) (no_meaning l d again) = same-fault input k l c d fault again
-    one-refusal input command r s (no_document k c fault) (no_document l d again) =
+    one-refusal input command r s (no_text k c fault) (no_text l d again) =
         let same = one-first-fault input k l c d fault again in
         λ i. refusal_line (Document (same.0 i) (Reading (same.1 i)))
-    one-refusal input command r s (no_slots k c fault) (no_slots l d again) = same-fault input k l c d fault again
-    one-refusal input command r s (no_plan ranked k c fault) (no_plan ranked' l d again) = same-fault input k l c d fault again
-    one-refusal input command r s (no_plan ranked k c fault) (no_script ranked' l d q accepted again) = absurd (no_fault input q k c accepted fault)
-    one-refusal input command r s (no_plan ranked k c fault) (illegal ranked' l why q fs y broken) = absurd (no_fault input q k c y.accepted fault)
-    one-refusal input command r s (no_script ranked l d p accepted fault) (no_plan ranked' k c again) = absurd (no_fault input p k c accepted again)
-    one-refusal input command r s (no_script ranked l d p accepted fault) (no_script ranked' k c q also again) = one-script-fault input p q l k d c accepted also fault again
-    one-refusal input command r s (no_script ranked l d p accepted fault) (illegal ranked' k why q fs y broken) = absurd (no-script-fault input q p fs l d y accepted fault)
-    one-refusal input command r s (illegal ranked k why p es x broken) (no_plan ranked' l c again) = absurd (no_fault input p l c x.accepted again)
-    one-refusal input command r s (illegal ranked k why p es x broken) (no_script ranked' l d q accepted again) = absurd (no-script-fault input p q es l d x accepted again)
-    one-refusal input command r s (illegal ranked k why p es x broken) (illegal ranked' l other q fs y again) = one-illegal input ranked' p q es fs k l why other x y broken again
+    one-refusal input command r s (no_text k c fault) (no_plan e l d checks again) = absurd (false≢true checks)
+    one-refusal input command r s (no_text k c fault) (of_plan_refused e q t y refuses) = absurd (false≢true (refusal-of-plan y.doc q Form s refuses))
+    one-refusal input command r s (no_plan e k c checks fault) (no_text l d again) = absurd (false≢true checks)
+    one-refusal input command r s (no_plan e k c checks fault) (no_plan f l d also again) =
+        let same = one_fault input k l c d fault again in
+        same-line k l c d same.0 (same-text c d same.1)
+    one-refusal input command r s (no_plan e k c checks fault) (of_plan_refused f q t y refuses) = absurd (no_fault input q k c y fault)
+    one-refusal input command r s (of_plan_refused e p t x refuses) (no_text l d again) = absurd (false≢true (refusal-of-plan x.doc p Form r refuses))
+    one-refusal input command r s (of_plan_refused e p t x refuses) (no_plan f l d checks again) = absurd (no_fault input p l d x again)
+    one-refusal input command r s (of_plan_refused e p t x here) (of_plan_refused f q u y there) =
+        ap (λ (w : Refusal). refusal_line w) (one-plan-refusal y.doc q command r s (same-accepted input p q x y (λ doc plan. PlanRefusal doc plan command r) here) there)
 
     pub one-answer : (input : List ℕ) (command : Command) (s t : Status) (text other : List ℕ) → Answers input command s text → Answers input command t other → (s ≡ t) × (text ≡ other)
     one-answer input command s t text other (made a makes) (made b again) = (refl, one-text input command a b makes again)

@@ -1,10 +1,10 @@
 -- What stops tell of an input and a command.
-use Rattle.std.proofs.Common.{ℕ, List, Bool}
+use Rattle.std.proofs.Common.{◌≡◌, ℕ, List, Bool, true}
 use Rattle.dbp_rules.specs.declared.step.Step.{Step}
 use Rattle.dbp_plan.specs.declared.diagram.Diagram.{Diagram}
 use Rattle.dbp_plan.specs.declared.plan.Plan.{Plan}
 use Rattle.dbp_replay.specs.Replays.{IsReplayRefusal}
-use Rattle.dbp_replay.specs.Scripts.{IsScriptRefusal}
+use Rattle.dbp_replay.specs.Scripts.{IsScript, IsScriptRefusal}
 use Rattle.dbp_replay.specs.declared.fail.ReplayFail.{ReplayFail}
 use Rattle.dbp_replay.specs.declared.fail.ReplayFail.TheVariants as replay
 use Rattle.dbp_replay.specs.declared.fail.ScriptFail.{ScriptFail}
@@ -23,9 +23,10 @@ use Rattle.dia_read.specs.Documents.{Spells}
 use Rattle.trace_io.specs.Texts.{Accepts, of_reading, of_checking, of_the_trace}
 use Rattle.trace_io.specs.Traces.{TraceFail, IsTraceRefusal}
 use Rattle.trace_io.specs.Traces as trace
-use Rattle.dbp_top.specs.Answer.{Scripts, count_of, illegal, no_document, no_meaning, no_plan, no_script, no_slots}
+use Rattle.dbp_top.specs.Answer.{count_of, illegal, needs_plan, no_plan, no_script, no_text, of_plan_refused}
 use Rattle.dbp_top.specs.Stops.{IsFaultOf, IsStopOf, stop_of_checking, stop_of_reading, stop_of_replay, stop_of_script, stop_of_tracing}
-use Rattle.dbp_top.specs.declared.command.Command.TheVariants.{Mean, Form, Plan as Slots, Replay}
+use Rattle.dbp_top.specs.declared.command.Command.{Command}
+use Rattle.dbp_top.specs.declared.command.Command.TheVariants.{Form, Replay}
 use Rattle.dbp_top.specs.declared.refusal.Refusal.TheVariants.{Document, Script, Illegal}
 use Rattle.dbp_top.specs.declared.stop.Stop.{Stop}
 use Rattle.dbp_top.specs.declared.stop.Stop.TheVariants.{Refused, NoMemory}
@@ -48,34 +49,24 @@ pub trace-stop : (input : List ℕ) (doc : Doc) (d : Diagram) (fail : TraceFail)
 trace-stop input doc d (trace.Refused line code) spelled checked fault = of_the_trace doc d line code spelled checked fault
 trace-stop input doc d trace.NoMemory spelled checked fault = tt
 
--- ---- why each command makes no text
+-- ---- why a command makes no text
 
-pub meaning-stop : (input : List ℕ) (stop : Stop) → IsFaultOf input stop → IsStopOf input Mean stop
-meaning-stop input (Refused (Document line code)) fault = no_meaning line code fault
-meaning-stop input (Refused (Script line code)) fault = absurd fault
-meaning-stop input (Refused (Illegal step why)) fault = absurd fault
-meaning-stop input NoMemory fault = tt
+-- a command that checks the whole document stops at the document's first fault
+pub document-stop : (input : List ℕ) (command : Command) (stop : Stop) → needs_plan command ≡ true → IsFaultOf input stop → IsStopOf input command stop
+document-stop input command (Refused (Document line code)) checks fault = no_plan command line code checks fault
+document-stop input command (Refused (Script line code)) checks fault = absurd fault
+document-stop input command (Refused (Illegal step why)) checks fault = absurd fault
+document-stop input command NoMemory checks fault = tt
 
 pub form-stop : (input : List ℕ) (fail : ReadFail) → Refuses input fail → IsStopOf input Form (stop_of_reading fail)
-form-stop input (read.Refused line code) fault = no_document line code fault
+form-stop input (read.Refused line code) fault = no_text line code fault
 form-stop input read.NoMemory fault = tt
 
-pub slots-stop : (input : List ℕ) (stop : Stop) → IsFaultOf input stop → IsStopOf input Slots stop
-slots-stop input (Refused (Document line code)) fault = no_slots line code fault
-slots-stop input (Refused (Script line code)) fault = absurd fault
-slots-stop input (Refused (Illegal step why)) fault = absurd fault
-slots-stop input NoMemory fault = tt
-
-pub plan-stop : (input : List ℕ) (ranked : Bool) (stop : Stop) → IsFaultOf input stop → IsStopOf input (Replay ranked) stop
-plan-stop input ranked (Refused (Document line code)) fault = no_plan ranked line code fault
-plan-stop input ranked (Refused (Script line code)) fault = absurd fault
-plan-stop input ranked (Refused (Illegal step why)) fault = absurd fault
-plan-stop input ranked NoMemory fault = tt
-
 pub script-stop : (input : List ℕ) (ranked : Bool) (p : Plan) (a : Accepts input p) (fail : ScriptFail) → IsScriptRefusal p.diagram a.doc fail → IsStopOf input (Replay ranked) (stop_of_script fail)
-script-stop input ranked p a (script.Refused line code) fault = no_script ranked line code p a fault
+script-stop input ranked p a (script.Refused line code) fault = of_plan_refused (Replay ranked) p (Script line code) a (no_script ranked line code fault)
 script-stop input ranked p a script.NoMemory fault = tt
 
-pub replay-stop : (input : List ℕ) (ranked : Bool) (p : Plan) (es : List Step) (fail : ReplayFail) → Scripts input p es → IsReplayRefusal p (count_of ranked) es fail → IsStopOf input (Replay ranked) (stop_of_replay fail)
-replay-stop input ranked p es (replay.Illegal step why) scripts broken = illegal ranked step why p es scripts broken
-replay-stop input ranked p es replay.NoMemory scripts broken = tt
+pub replay-stop : (input : List ℕ) (ranked : Bool) (p : Plan) (a : Accepts input p) (es : List Step) (fail : ReplayFail) → IsScript p.diagram a.doc es → IsReplayRefusal p (count_of ranked) es fail
+    → IsStopOf input (Replay ranked) (stop_of_replay fail)
+replay-stop input ranked p a es (replay.Illegal step why) script broken = of_plan_refused (Replay ranked) p (Illegal step why) a (illegal ranked es step why script broken)
+replay-stop input ranked p a es replay.NoMemory script broken = tt

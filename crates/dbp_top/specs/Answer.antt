@@ -1,5 +1,5 @@
 -- What is answered where no read and no write fails.
-use Rattle.std.specs.Prelude.{ℕ, Bool, true, false, List}
+use Rattle.std.specs.Prelude.{◌≡◌, ℕ, Bool, true, false, List}
 use Rattle.dbp_rules.specs.declared.step.Count.{Count}
 use Rattle.dbp_rules.specs.declared.step.Count.TheVariants.{Ranked, All}
 use Rattle.dbp_rules.specs.declared.step.Illegal.{Illegal as Broken}
@@ -27,33 +27,48 @@ use Rattle.dbp_top.specs.declared.status.Status.TheVariants.{Ok, Refused}
 use Rattle.dbp_top.specs.Refusals.{refusal_line}
 use Rattle.dbp_top.specs.SlotLines.{slot_lines}
 
--- the text is accepted, and its script names these steps
-pub record Scripts (input : List ℕ) (plan : Plan) (steps : List Step) : Type 0 where
-  pub accepted : Accepts input plan
-  pub script : IsScript plan.diagram accepted.doc steps
-
 -- by which slots and in which order steps are taken
 abbrev pub count_of : Bool → Count
 count_of true = Ranked
 count_of false = All
 
--- the text that a command makes of an input: the lines of the one table that meets the equations of the input's plan,
--- its canonical text, the slots of its plan's tasks, or the steps of its script with what they hear
-pub data Makes (input : List ℕ) : Command → List ℕ → Type 0 where
-  meaning : (plan : Plan) (table : Table) → Accepts input plan → IsMeaning plan.diagram plan.samples plan.batches table → Makes input Mean (lines_of plan.diagram plan.batches table)
-  canonical : (doc : Doc) → Spells input doc → Makes input Form (canonical_text doc.body)
-  slots : (plan : Plan) → Accepts input plan → Makes input Slots (slot_lines plan.diagram)
-  replay : (ranked : Bool) (plan : Plan) (steps : List Step) (text : List ℕ) → Scripts input plan steps → IsReplay plan (count_of ranked) steps text → Makes input (Replay ranked) text
+-- the text that a command makes of an accepted document and its plan: the lines of the one table that meets the plan's
+-- equations, the slots of its tasks, or the steps of the document's script with what they hear
+pub data PlanText (doc : Doc) (plan : Plan) : Command → List ℕ → Type 0 where
+  meaning : (table : Table) → IsMeaning plan.diagram plan.samples plan.batches table
+      → PlanText doc plan Mean (lines_of plan.diagram plan.batches table)
+  slots : PlanText doc plan Slots (slot_lines plan.diagram)
+  replay : (ranked : Bool) (steps : List Step) (text : List ℕ) → IsScript plan.diagram doc steps
+      → IsReplay plan (count_of ranked) steps text → PlanText doc plan (Replay ranked) text
 
--- why a command refuses an input: for `form` a fault of reading, for all others the first fault of the document, and
--- for a replay behind it the first fault of the script, and behind that the first step that isn't allowed
+-- why a command refuses an accepted document: a replay for the first fault of the script, and after that for the first
+-- step that isn't allowed
+pub data PlanRefusal (doc : Doc) (plan : Plan) : Command → Refusal → Type 0 where
+  no_script : (ranked : Bool) (line : ℕ) (code : ScriptCode) → IsScriptFault plan.diagram doc line code
+      → PlanRefusal doc plan (Replay ranked) (Script line code)
+  illegal : (ranked : Bool) (steps : List Step) (step : ℕ) (why : Broken) → IsScript plan.diagram doc steps
+      → IsIllegal plan (count_of ranked) steps step why → PlanRefusal doc plan (Replay ranked) (Illegal step why)
+
+-- whether the command checks the whole document; `form` reads it alone
+abbrev pub needs_plan : Command → Bool
+needs_plan Form = false
+needs_plan _ = true
+
+-- the text that a command makes of an input: for `form` the canonical text of its document, for all others what they make
+-- of the plan of an accepted input
+pub data Makes (input : List ℕ) : Command → List ℕ → Type 0 where
+  canonical : (doc : Doc) → Spells input doc → Makes input Form (canonical_text doc.body)
+  of_plan : (command : Command) (plan : Plan) (text : List ℕ) (accepted : Accepts input plan)
+      → PlanText accepted.doc plan command text → Makes input command text
+
+-- why a command refuses an input: for `form` a fault of reading, for all others the first fault of the document, and of an
+-- accepted one what the command itself refuses
 pub data IsRefused (input : List ℕ) : Command → Refusal → Type 0 where
-  no_meaning : (line : ℕ) (code : Code) → Refuses input line code → IsRefused input Mean (Document line code)
-  no_document : (line : ℕ) (code : ReadCode) → IsFirstFault input line code → IsRefused input Form (Document line (Reading code))
-  no_slots : (line : ℕ) (code : Code) → Refuses input line code → IsRefused input Slots (Document line code)
-  no_plan : (ranked : Bool) (line : ℕ) (code : Code) → Refuses input line code → IsRefused input (Replay ranked) (Document line code)
-  no_script : (ranked : Bool) (line : ℕ) (code : ScriptCode) (plan : Plan) (accepted : Accepts input plan) → IsScriptFault plan.diagram accepted.doc line code → IsRefused input (Replay ranked) (Script line code)
-  illegal : (ranked : Bool) (step : ℕ) (why : Broken) (plan : Plan) (steps : List Step) → Scripts input plan steps → IsIllegal plan (count_of ranked) steps step why → IsRefused input (Replay ranked) (Illegal step why)
+  no_text : (line : ℕ) (code : ReadCode) → IsFirstFault input line code → IsRefused input Form (Document line (Reading code))
+  no_plan : (command : Command) (line : ℕ) (code : Code) → needs_plan command ≡ true → Refuses input line code
+      → IsRefused input command (Document line code)
+  of_plan_refused : (command : Command) (plan : Plan) (refusal : Refusal) (accepted : Accepts input plan)
+      → PlanRefusal accepted.doc plan command refusal → IsRefused input command refusal
 
 -- the status and the text that a command gives to an input
 pub data Answers (input : List ℕ) (command : Command) : Status → List ℕ → Type 0 where

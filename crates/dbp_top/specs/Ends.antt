@@ -12,6 +12,11 @@ use Rattle.dbp_top.specs.declared.status.Status.{Status}
 use Rattle.dbp_top.specs.declared.status.Status.TheVariants.{Ok, Refused, Usage, ReadFault, WriteFault, NoMemory, TooLarge}
 use Rattle.dbp_top.specs.declared.top.TheConstants.{MAX_DOCUMENT}
 
+-- the statuses with which a command's answer is written
+pub data TellsAnswer : Status → Type 0 where
+  text : TellsAnswer Ok
+  refusal : TellsAnswer Refused
+
 module _ {S K : Type 0} (left : S → Option (List ℕ)) (source_faults : S → ℕ) (written : K → Option (List ℕ)) (sink_faults : K → ℕ) where
   -- the source was read to its end, which is within the limit, and no read failed
   pub record ReadWhole (source new_source : S) : Type 0 where
@@ -69,4 +74,4 @@ module _ {S K : Type 0} (left : S → Option (List ℕ)) (source_faults : S → 
     no_command : NamesNone words → new_source ≡ source → new_sink ≡ sink → Answered words source new_source sink new_sink Usage
     too_large : (command : Command) → Names words command → ReadTooMuch source new_source sink new_sink → Answered words source new_source sink new_sink TooLarge
     no_memory : (command : Command) → Names words command → RanOut source new_source sink new_sink → Answered words source new_source sink new_sink NoMemory
-    whole : (command : Command) (status : Status) → Names words command → WroteWhole source new_source sink new_sink command status → Answered words source new_source sink new_sink status
+    whole : (command : Command) (status : Status) → TellsAnswer status → Names words command → WroteWhole source new_source sink new_sink command status → Answered words source new_source sink new_sink status

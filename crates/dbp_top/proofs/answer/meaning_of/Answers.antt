@@ -1,18 +1,18 @@
-use Rattle.std.proofs.Common.{ℕ, List, ◌∙◌, ap, sym, subst}
+use Rattle.std.proofs.Common.{ℕ, List, ◌∙◌, ap, refl, sym, subst}
 use Rattle.std.proofs.lemmas.Result.{err_from_is_err_and}
 use Rattle.dbp_plan.specs.declared.table.Table.{Table}
 use Rattle.dbp_plan.proofs.TableRows.{has_rows}
 use Rattle.sync_meaning.specs.SomeMeaning.{meaning_of, meaning_of-is}
 use Rattle.trace_io.specs.Lines.{lines_of}
-use Rattle.dbp_top.specs.Answer.{Makes, meaning}
+use Rattle.dbp_top.specs.Answer.{Makes, meaning, of_plan}
 use Rattle.dbp_top.specs.declared.command.Command.TheVariants.{Mean}
-use Rattle.dbp_top.proofs.StopLaws.{meaning-stop}
+use Rattle.dbp_top.proofs.StopLaws.{document-stop}
 use Rattle.dbp_top.proofs.answer.meaning_of.Goals as goal
 
 pub returns-in_err-plan-clause-stop : goal.returns-in_err-plan-clause-stop
 returns-in_err-plan-clause-stop c =
     let p = err_from_is_err_and c.from_residual.result c.from_residual.ensures.1 in
-    rw (p.1, p.2) (meaning-stop c.args.input.now c.in_err-plan.field-0.0 c.in_err-plan.ensures.fault)
+    rw (p.1, p.2) (document-stop c.args.input.now Mean c.in_err-plan.field-0.0 refl c.in_err-plan.ensures.fault)
 
 pub lines-requires : goal.lines-requires
 lines-requires c = has_rows c.in_ok-plan.plan.diagram.tasks c.in_ok-plan.plan.batches c.in_ok-table.table c.in_ok-table.ensures.meaning.rows
@@ -21,4 +21,4 @@ pub returns-clause-text : goal.returns-clause-text
 returns-clause-text c =
     let plan = c.in_ok-plan.plan in
     subst (λ (text : List ℕ). Makes c.args.input.now Mean text) (sym (c.in_ok-lines.ensures ∙ ap (λ (t : Table). lines_of plan.diagram plan.batches t) c.in_ok-table.ensures.table))
-    (meaning plan (meaning_of plan) c.in_ok-plan.ensures.plan (meaning_of-is plan))
+    (of_plan Mean plan (lines_of plan.diagram plan.batches (meaning_of plan)) c.in_ok-plan.ensures.plan (meaning (meaning_of plan) (meaning_of-is plan)))
