@@ -1,0 +1,5 @@
+pub mod Ends
+pub mod Instances
+pub mod Order
+pub mod Service
+pub mod ServiceOf
