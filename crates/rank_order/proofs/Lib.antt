@@ -1,8 +1,10 @@
 pub mod Choices
+pub mod EditedItems
 pub mod Jump
 pub mod Keys
 pub mod OneService
 pub mod Overruns
 pub mod PlanNumbers
+pub mod Queues
 pub mod ServedTicks
 pub mod SomeService

@@ -16,17 +16,8 @@ use Rattle.rank_order.specs.ServiceOf.{earlier, first_of_those, instances_of, in
 use Rattle.rank_order.proofs.Choices.{first_like, same_instance, tick_of}
 use Rattle.rank_order.proofs.Keys.{before-neither, before-trans}
 use Rattle.rank_order.proofs.Overruns.{same_release}
-use Rattle.rank_order.proofs.PlanNumbers.{task-of-rank}
+use Rattle.rank_order.proofs.PlanNumbers.{one_key}
 use Rattle.rank_order.proofs.ServedTicks.{served_next, served_none}
-
--- instances of one key have one rank and one release
-same_key : (policy : Policy) (d : Diagram) (i j a b : ℕ) → (slice_index d.ranks i ≡ slice_index d.ranks j → i ≡ j)
-    → (key_by policy d i a).first ≡ (key_by policy d j b).first → (key_by policy d i a).second ≡ (key_by policy d j b).second → (i ≡ j) × (a ≡ b)
-same_key Fp d i j a b one first second = (one first, second)
-same_key Edf d i j a b one first second =
-    let task : i ≡ j = one second in
-    let deadline : unwrap_or (slice_index_or d.tasks i no_declared).deadline 0 ≡ unwrap_or (slice_index_or d.tasks j no_declared).deadline 0 = ap (λ k. unwrap_or (slice_index_or d.tasks k no_declared).deadline 0) task in
-    (task, omega (arith, first, deadline))
 
 -- the key of an instance of the plan
 abbrev key : Plan → Instance → Key
@@ -47,7 +38,7 @@ module _ (p : Plan) where
     | inl second ↦ inr second
     | inr not_second ↦
         let keys = before-neither (key p x) (key p y) not_first not_second in
-        let same = same_key p.diagram.policy p.diagram x.task y.task (release_of p x) (release_of p y) (task-of-rank p.diagram p.rules.ranked x.task y.task x_is.task y_is.task) keys.0 keys.1 in
+        let same = one_key p.diagram p.rules.ranked x.task y.task (release_of p x) (release_of p y) x_is.task y_is.task keys.0 keys.1 in
         inl (same_release p x y x_is y_is same.0 same.1)
   ]
 
