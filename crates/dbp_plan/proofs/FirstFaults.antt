@@ -1,5 +1,5 @@
 -- Going over items in order, to the first that has a fault.
-use Rattle.std.proofs.Common.{◌≡◌, ℕ, ◌+◌, ◌<◌, ◌≤◌, List, [], ◌∷◌, ◌++◌, length, take, drop, get_or, Option, Some, None, refl, sym, ap, ◌∙◌, arith}
+use Rattle.std.proofs.Common.{◌≡◌, ℕ, ◌+◌, ◌<◌, ◌≤◌, List, [], ◌∷◌, ◌++◌, length, take, drop, get_or, Bool, true, false, cond, Option, Some, None, refl, sym, ap, ◌∙◌, arith}
 use Rattle.dbp_plan.specs.FirstFault.{faults_behind, first_fault}
 use Rattle.dbp_plan.proofs.ListParts.{at-any, nothing-behind, split-at, take-next}
 
@@ -40,3 +40,19 @@ pub first-front : {F : Type 0} (xs ys : List (ℕ × Option F)) (f : ℕ × F) �
 first-front [] ys f e = absurd cc
 first-front ((n, None) ∷ xs) ys f e = first-front xs ys f e
 first-front ((n, Some code) ∷ xs) ys f e = e
+
+-- ---- no fault
+
+pub cons-none : {F : Type 0} (n : ℕ) (fault : Option F) (rest : List (ℕ × Option F)) → first_fault ((n, fault) ∷ rest) ≡ None → (fault ≡ None) × (first_fault rest ≡ None)
+cons-none n None rest none = (refl, none)
+cons-none n (Some fault) rest none = absurd cc
+
+pub append-none : {F : Type 0} (xs ys : List (ℕ × Option F)) → first_fault (xs ++ ys) ≡ None → (first_fault xs ≡ None) × (first_fault ys ≡ None)
+append-none [] ys none = (refl, none)
+append-none ((n, None) ∷ xs) ys none = append-none xs ys none
+append-none ((n, Some fault) ∷ xs) ys none = absurd cc
+
+-- a chain of tests that gives no fault has no test that holds
+pub test-none : {F : Type 0} (test : Bool) (fault : F) (rest : Option F) → cond test (Some fault) rest ≡ None → (test ≡ false) × (rest ≡ None)
+test-none true fault rest none = absurd cc
+test-none false fault rest none = (refl, none)

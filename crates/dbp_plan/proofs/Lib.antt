@@ -1,11 +1,16 @@
+pub mod BatchTasks
 pub mod Counts
 pub mod FirstFaults
 pub mod FirstIndexes
 pub mod ListEdits
 pub mod ListParts
 pub mod NameLaws
+pub mod NumberedItems
 pub mod Numbers
+pub mod OccurrenceBatches
 pub mod OccurrenceLemmas
 pub mod RankLaws
+pub mod Searches
 pub mod TableRows
+pub mod TaskTimes
 pub mod TreeNodes

@@ -1,14 +1,13 @@
 -- An occurrence's number: how many batches up to its own name the task.
 use Rattle.std.proofs.Common.{◌≡◌, ℕ, zero, suc, ◌+◌, ◌<◌, All, List, [], ◌∷◌, length, map, take, get_or, arith, sym, ap, ◌∙◌, inl, inr}
-use Rattle.std.specs.Prelude.{AllPairs, filter}
+use Rattle.std.specs.Prelude.{AllPairs}
 use Rattle.std.specs.List.Sorted.{IsStrictlyIncreasing}
 use Rattle.std.proofs.lemmas.Bool.{cases_Bool}
 use Rattle.std.proofs.lemmas.List.{length-map}
-use Rattle.std.proofs.lemmas.List.Elements.{All-filter, All-map}
 use Rattle.std.proofs.lemmas.List.Kept.{AllPairs-from_increasing}
 use Rattle.std.proofs.Math.ListN.{get_or-map}
 use Rattle.dbp_plan.specs.declared.schedule.Batch.{Batch}
-use Rattle.dbp_plan.specs.Times.{count-come, none-come}
+use Rattle.dbp_plan.specs.Times.{count-come, none-come, times_all}
 use Rattle.dbp_plan.specs.Occurrences.{count_until, names, times_of}
 
 -- each batch is before all later ones
@@ -32,7 +31,7 @@ come-by [] i k d up fits = absurd (omega arith)
 come-by (b ∷ bs) i zero d up fits =
     let later : All (λ (a : Batch). b.time < a.time) bs = λ j e less. up.pairs 0 (suc j) e (omega arith) (omega arith) in
     let none : count_until (times_of bs i) b.time ≡ 0 =
-    none-come (times_of bs i) b.time (All-map (λ t. b.time < t) (λ (a : Batch). a.time) (filter (names i) bs) (All-filter (names i) (λ (a : Batch). b.time < a.time) bs later)) in
+    none-come (times_of bs i) b.time (times_all (λ t. b.time < t) bs i later) in
     elim (cases_Bool (names i b)) [
       | inl is ↦ rw is (count-come b.time (times_of bs i) b.time (omega arith) ∙ omega (arith, none))
       | inr not ↦ rw not none

@@ -1,3 +1,4 @@
+-- Definitions that public clauses cite.
 pub mod Calls
 pub mod Clocks
 pub mod Closed
@@ -11,11 +12,8 @@ pub mod Lookups
 pub mod MemSink
 pub mod MemSource
 pub mod Name
-pub mod NameInside
 pub mod NameLists
 pub mod Occurrences
-pub mod Operands
-pub mod Places
 pub mod Plan
 pub mod Ranked
 pub mod Ranks
@@ -24,7 +22,14 @@ pub mod Samples
 pub mod Sink
 pub mod Source
 pub mod Table
-pub mod Times
 pub mod Tree
-pub mod TreeLaws
 pub mod WriteSink
+-- What private functions, the inside of types and proofs cite.
+pub mod NameInside
+pub mod Operands
+pub mod Places
+pub mod Ranges
+pub mod Ranking
+pub mod Rankings
+pub mod Times
+pub mod TreeLaws

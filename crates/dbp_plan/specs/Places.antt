@@ -1,7 +1,7 @@
 -- Places of lists.
-use Rattle.std.proofs.Common.{◌≡◌, ◌≢◌, ℕ, zero, suc, ◌<◌, ◌+◌, All, List, [], ◌∷◌, ◌++◌, length, get_or, slice_get, set, Some, refl, sym, ◌∙◌, ap, subst, arith}
-use Rattle.std.specs.Prelude.{AllPairs}
-use Rattle.std.proofs.lemmas.Option.{get_or_from_slice_get, slice_get-get_or, slice_get_within, same_Some}
+use Rattle.std.proofs.Common.{◌≡◌, ◌≢◌, ℕ, zero, suc, ◌<◌, ◌+◌, All, List, [], ◌∷◌, ◌++◌, length, take, drop, get_or, slice_get, set, Some, refl, sym, ◌∙◌, ap, subst, arith}
+use Rattle.std.specs.Prelude.{AllPairs, unwrap_or}
+use Rattle.std.proofs.lemmas.Option.{get_or_from_slice_get, none-some, slice_get-get_or, slice_get_within, same_Some, unwrap_or-slice_get}
 
 -- a place below the length has an item
 pub at_place : {X : Type 0} (xs : List X) (i : ℕ) → i < length xs → (x : X) × (slice_get xs i ≡ Some x)
@@ -74,3 +74,26 @@ set_other (x ∷ xs) zero zero y apart = absurd (apart refl)
 set_other (x ∷ xs) zero (suc j) y apart = refl
 set_other (x ∷ xs) (suc i) zero y apart = refl
 set_other (x ∷ xs) (suc i) (suc j) y apart = set_other xs i j y (λ e. apart (ap suc e))
+
+-- two lists that have the same at a place give the same there, whatever stands in for none
+pub same_item : {X : Type 0} (xs ys : List X) (i : ℕ) (d : X) → slice_get xs i ≡ slice_get ys i → get_or xs i d ≡ get_or ys i d
+same_item xs ys i d same = sym (unwrap_or-slice_get xs i d) ∙ ap (λ o. unwrap_or o d) same ∙ unwrap_or-slice_get ys i d
+
+-- ---- in front of a cut, and behind it
+
+pub take_place : {X : Type 0} (xs : List X) (n i : ℕ) → i < n → slice_get (take n xs) i ≡ slice_get xs i
+take_place xs zero i below = absurd (omega arith)
+take_place [] (suc n) i below = refl
+take_place (x ∷ xs) (suc n) zero below = refl
+take_place (x ∷ xs) (suc n) (suc i) below = take_place xs n i (omega arith)
+
+pub take_inside : {X : Type 0} (xs : List X) (n i : ℕ) (x : X) → slice_get (take n xs) i ≡ Some x → (i < n) × (slice_get xs i ≡ Some x)
+take_inside xs zero i x at = absurd (none-some x at)
+take_inside [] (suc n) i x at = absurd (none-some x at)
+take_inside (y ∷ xs) (suc n) zero x at = (omega arith, at)
+take_inside (y ∷ xs) (suc n) (suc i) x at = let rest = take_inside xs n i x at in (omega (arith, rest.0), rest.1)
+
+pub drop_place : {X : Type 0} (xs : List X) (n i : ℕ) → slice_get (drop n xs) i ≡ slice_get xs (n + i)
+drop_place xs zero i = let same : zero + i ≡ i = omega arith in ap (λ j. slice_get xs j) (sym same)
+drop_place [] (suc n) i = let same : suc n + i ≡ suc (n + i) = omega arith in ap (λ j. slice_get [] j) (sym same)
+drop_place (x ∷ xs) (suc n) i = let same : suc n + i ≡ suc (n + i) = omega arith in drop_place xs n i ∙ ap (λ j. slice_get (x ∷ xs) j) (sym same)

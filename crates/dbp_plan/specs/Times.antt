@@ -39,12 +39,15 @@ rises_first : (t : ℕ) (ts : List ℕ) → Rises (t ∷ ts) → All (λ u. t < 
 rises_first t ts rises k d below = rises.pairs 0 (suc k) t (get_or ts k d) (omega arith) refl (slice_get-get_or ts k d below)
 
 -- a task's times are some of the batches'
+pub times_all : (P : ℕ → Type 0) (bs : List Batch) (i : ℕ) → All (λ b. P b.time) bs → All P (times_of bs i)
+times_all P bs i each = All-map P (λ (b : Batch). b.time) (filter (names i) bs) (All-filter (names i) (λ (b : Batch). P b.time) bs each)
+
 times_rise : (bs : List Batch) (i : ℕ) → Rises (map (λ b. b.time) bs) → Rises (times_of bs i)
 times_rise [] i rises = rises_none
 times_rise (b ∷ bs) i rises =
     let rest : Rises (times_of bs i) = times_rise bs i (rises_rest b.time (map (λ a. a.time) bs) rises) in
     let later : All (λ (a : Batch). b.time < a.time) bs = each_later bs (rises_first b.time (map (λ a. a.time) bs) rises) in
-    let all : All (λ t. b.time < t) (times_of bs i) = All-map (λ t. b.time < t) (λ (a : Batch). a.time) (filter (names i) bs) (All-filter (names i) (λ (a : Batch). b.time < a.time) bs later) in
+    let all : All (λ t. b.time < t) (times_of bs i) = times_all (λ t. b.time < t) bs i later in
     elim (cases_Bool (names i b)) [
       | inl is ↦ rw is (rises_more b.time (times_of bs i) all rest)
       | inr isnt ↦ rw isnt rest
