@@ -1,5 +1,5 @@
 -- Between two events the service stays as it is.
-use Rattle.std.proofs.Common.{◌≡◌, ◌≢◌, ℕ, zero, suc, ◌+◌, ◌-◌, ◌<◌, ◌≤◌, Option, Some, None, refl, sym, ap, inl, inr, arith}
+use Rattle.std.proofs.Common.{◌≡◌, ◌≢◌, ℕ, zero, suc, ◌+◌, ◌<◌, ◌≤◌, Option, Some, None, refl, sym, inl, inr, arith}
 use Rattle.dbp_plan.specs.declared.plan.Plan.{Plan}
 use Rattle.rank_order.specs.Instances.{Instance, IsInstance, release_of}
 use Rattle.rank_order.specs.Service.{GoesBefore, IsFirst, IsService, Waits, served_ticks, left_of}

@@ -6,5 +6,6 @@ pub mod OneService
 pub mod Overruns
 pub mod PlanNumbers
 pub mod Queues
+pub mod Releases
 pub mod ServedTicks
 pub mod SomeService

@@ -1,12 +1,12 @@
 -- A plan has one overrun at most.
-use Rattle.std.proofs.Common.{◌≡◌, ℕ, ◌+◌, ◌-◌, ◌<◌, ◌≤◌, length, slice_index, refl, sym, ap, ◌∙◌, subst, inl, inr, arith}
+use Rattle.std.proofs.Common.{◌≡◌, ℕ, ◌≤◌, length, sym, ap, ◌∙◌, subst, inl, inr, arith}
 use Rattle.std.proofs.lemmas.Bool.{cases_lt}
 use Rattle.dbp_plan.specs.declared.plan.Plan.{Plan}
 use Rattle.dbp_plan.specs.Occurrences.{times_of, time_of}
 use Rattle.rank_order.specs.Instances.{Instance, IsInstance, release_of}
 use Rattle.rank_order.specs.Ends.{IsOverrun, Late}
 use Rattle.rank_order.proofs.Choices.{same_instance}
-use Rattle.rank_order.proofs.PlanNumbers.{releases-rise, task-of-rank}
+use Rattle.rank_order.proofs.PlanNumbers.{releases-rise, one-task}
 
 pub one_time : (p : Plan) (left : Instance → ℕ → ℕ) (t u : ℕ) (x y : Instance) → IsOverrun p left t x → IsOverrun p left u y → t ≡ u
 one_time p left t u x y h k = elim (cases_lt t u) [
@@ -33,5 +33,5 @@ one_overrun p left t u x y h k =
     let there : Late p left t y = subst (λ v. Late p left v y) (sym time) k.late in
     let back : Late p left u x = subst (λ v. Late p left v x) time h.late in
     let task : x.task ≡ y.task =
-    task-of-rank p.diagram p.rules.ranked x.task y.task h.late.instance.task k.late.instance.task (omega (arith, h.highest y there, k.highest x back)) in
+    one-task p.diagram p.rules.ranked x.task y.task h.late.instance.task k.late.instance.task (omega (arith, h.highest y there, k.highest x back)) in
     same_release p x y h.late.instance k.late.instance task (h.late.at ∙ sym there.at)

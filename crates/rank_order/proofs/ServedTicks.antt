@@ -1,5 +1,5 @@
 -- The served ticks of an instance, where whoever is served waits.
-use Rattle.std.proofs.Common.{◌≡◌, ◌≢◌, ℕ, zero, suc, ◌+◌, ◌-◌, ◌<◌, ◌≤◌, Option, Some, refl, sym, ap, inl, inr, arith}
+use Rattle.std.proofs.Common.{◌≡◌, ◌≢◌, ℕ, zero, suc, ◌+◌, ◌-◌, ◌≤◌, Option, Some, refl, ap, inl, inr, arith}
 use Rattle.dbp_plan.specs.declared.plan.Plan.{Plan}
 use Rattle.dbp_plan.specs.Lookups.{declared}
 use Rattle.rank_order.specs.Instances.{Instance, release_of}
@@ -20,6 +20,13 @@ served_grows serve x t zero = let same : t + 0 ≡ t = omega arith in rw same (o
 served_grows serve x t (suc k) =
     let next : t + suc k ≡ suc (t + k) = omega arith in
     rw next (omega (arith, served_grows serve x t k, served_next serve x (t + k)))
+
+-- less is left later
+pub left_falls : (p : Plan) (serve : ℕ → Option Instance) (x : Instance) (t u : ℕ) → t ≤ u → left_of p serve x u ≤ left_of p serve x t
+left_falls p serve x t u later =
+    let same : t + (u - t) ≡ u = omega (arith, later) in
+    let moved = ap (λ (n : ℕ). served_ticks serve x n) same in
+    omega (arith, served_grows serve x t (u - t), moved)
 
 -- each tick is given to one that waits, if to any
 abbrev pub ServesWaiting : Plan → (ℕ → Option Instance) → Type 0

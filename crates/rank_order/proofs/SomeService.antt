@@ -1,16 +1,12 @@
 -- The function `service` is a service.
-use Rattle.std.proofs.Common.{◌≡◌, ℕ, zero, suc, ◌+◌, ◌-◌, ◌<◌, ◌≤◌, ◌⊎◌, ◌&&◌, Bool, true, false, ltb, leb, List, [], ◌∷◌, ◌++◌, length, slice_index, slice_index_or, Option, Some, None, refl, sym, ap, ◌∙◌, subst, inl, inr, ⊎_elim, arith}
-use Rattle.std.specs.Prelude.{unwrap_or}
-use Rattle.std.proofs.lemmas.Bool.{cases_Bool, cases_lt, cases_eq, ltb-true, leb-true, lt-ltb, le-leb, and_parts, and_from, false≢true}
-use Rattle.dbp_plan.specs.declared.diagram.Diagram.{Diagram}
-use Rattle.dbp_plan.specs.declared.diagram.Policy.{Policy}
-use Rattle.dbp_plan.specs.declared.diagram.Policy.TheVariants.{Fp, Edf}
+use Rattle.std.proofs.Common.{◌≡◌, ℕ, zero, suc, ◌+◌, ◌<◌, ◌≤◌, ◌⊎◌, Bool, true, false, ltb, leb, List, [], ◌∷◌, ◌++◌, length, Option, Some, None, refl, sym, ap, ◌∙◌, subst, inl, inr, ⊎_elim, arith}
+use Rattle.std.proofs.lemmas.Bool.{cases_Bool, cases_eq, ltb-true, leb-true, lt-ltb, le-leb, and_parts, and_from, false≢true}
 use Rattle.dbp_plan.specs.declared.plan.Plan.{Plan}
-use Rattle.dbp_plan.specs.Lookups.{declared, no_declared}
-use Rattle.dbp_plan.specs.Occurrences.{times_of, time_of}
+use Rattle.dbp_plan.specs.Lookups.{declared}
+use Rattle.dbp_plan.specs.Occurrences.{times_of}
 use Rattle.rank_order.specs.declared.key.Key.{Key}
 use Rattle.rank_order.specs.Instances.{Instance, IsInstance, release_of}
-use Rattle.rank_order.specs.Order.{deadline_of, goes_before, key_by, key_of}
+use Rattle.rank_order.specs.Order.{goes_before, key_of}
 use Rattle.rank_order.specs.Service.{GoesBefore, IsFirst, IsService, Waits, served_ticks, left_of}
 use Rattle.rank_order.specs.ServiceOf.{earlier, first_of_those, instances_of, instances_below, is_waiting, choice_of, given_before, service}
 use Rattle.rank_order.proofs.Choices.{first_like, same_instance, tick_of}

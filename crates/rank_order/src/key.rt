@@ -1,8 +1,9 @@
 // What the policy compares.
-ghost use Rattle.std.specs.Prelude.{◌≡◌, ◌<◌, ◌≤◌, length};
+ghost use Rattle.std.specs.Prelude.{◌≡◌, ◌<◌, ◌≤◌, length, slice_index_or, unwrap_or};
+ghost use Rattle.dbp_plan.specs.Lookups.{no_declared};
 ghost use Rattle.dbp_plan.specs.Ranked.{IsRanked};
 ghost use Rattle.dbp_plan.specs.declared.limits.TheConstants.{MAX_TIME};
-ghost use Rattle.rank_order.specs.Order.{is_before as is_key_before, key_of as key_in};
+ghost use Rattle.rank_order.specs.Order.{is_before, key_of};
 
 use dbp_plan::{Diagram, Policy};
 
@@ -18,7 +19,7 @@ pub(crate) fn key_of(diagram: &Diagram, task: u32, release: u64) -> Key
     requires ranked { IsRanked diagram.now }
     requires task { task < length diagram.now.tasks }
     requires release { release ≤ MAX_TIME }
-    ensures { result ≡ key_in diagram.now task release }
+    ensures { result ≡ key_of diagram.now task release }
 {
     let rank = diagram.ranks.items()[task as usize] as u64;
     match diagram.policy {
@@ -45,10 +46,7 @@ fn relative_deadline(diagram: &Diagram, task: u32) -> u64
 
 // Whether the one key is smaller.
 pub(crate) fn is_before(key: Key, other: Key) -> bool
-    ensures { result ≡ is_key_before key other }
+    ensures { result ≡ is_before key other }
 {
     key.first < other.first || (key.first == other.first && key.second < other.second)
 }
-
-ghost use Rattle.std.specs.Prelude.{slice_index_or, unwrap_or};
-ghost use Rattle.dbp_plan.specs.Lookups.{no_declared};

@@ -1,5 +1,5 @@
-use Rattle.std.proofs.Common.{length, ◌<◌, ℕ, ap, arith}
-use Rattle.rank_order.proofs.PlanNumbers.{length-ranks}
+use Rattle.std.proofs.Common.{length, ℕ, ap, arith}
+use Rattle.dbp_plan.proofs.RankLaws.{length-ranks}
 use Rattle.rank_order.proofs.key.key_of.Goals as goal
 
 pub bounds-items-task : goal.bounds-items-task
