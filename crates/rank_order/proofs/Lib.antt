@@ -1,0 +1,11 @@
+pub mod Choices
+pub mod EditedItems
+pub mod Jump
+pub mod Keys
+pub mod OneService
+pub mod Overruns
+pub mod PlanNumbers
+pub mod Queues
+pub mod Releases
+pub mod ServedTicks
+pub mod SomeService
