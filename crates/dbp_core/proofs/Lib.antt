@@ -1,2 +1,1 @@
 pub mod RankMasks
-pub mod ClaimedSlots

@@ -2,7 +2,6 @@
 //! step, exactly by the rules of `dbp_rules`.
 #![tactic(auto)]
 
-mod aiming;
 mod arms;
 mod conditions;
 mod look_up;

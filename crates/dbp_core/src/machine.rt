@@ -8,7 +8,6 @@ ghost use Rattle.dbp_rules.specs.Sound.{Sound};
 ghost use Rattle.dbp_rules.specs.Wired.{wiring_of};
 ghost use Rattle.dbp_core.specs.Unfinished.{HasUnfinished};
 
-use crate::aiming::least_free;
 use crate::arms::advance;
 use crate::rank_mask::RankMask;
 use dbp_plan::{NoMemory, Plan, Row};
@@ -86,7 +85,7 @@ impl Core {
         requires ended { (task_entry (state_in self.now) task).aimed ≡ (task_entry (state_in self.now) task).known }
         ensures { IsLeastAim (wiring_in self.now) (state_in self.now) task result }
     {
-        least_free(&self.plan, &self.wiring, &self.state, task)
+        self.state.releaser.least_aim(&self.wiring, task)
     }
 
     /// The plan.

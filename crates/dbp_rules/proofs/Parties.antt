@@ -4,6 +4,8 @@ use Rattle.std.proofs.lemmas.Bool.{cases_Bool}
 use Rattle.std.proofs.lemmas.Option.{same_Some}
 use Rattle.dbp_plan.specs.declared.plan.Plan.{Plan}
 use Rattle.dbp_plan.specs.Lookups.{declared}
+use Rattle.sync_meaning.specs.SomeMeaning.{meaning_of}
+use Rattle.sync_meaning.specs.SomeMeaningTables.{rows_in}
 use Rattle.dbp_rules.specs.PartyRules as party
 use Rattle.dbp_rules.specs.PartyShapes.{LinksFit, ReleaserLoads, ReleaserShape, TaskLoads, TaskPartShape}
 use Rattle.dbp_rules.specs.Places.{no_task, task, task_entry, wired}
@@ -11,6 +13,8 @@ use Rattle.dbp_rules.specs.Rules as rule
 use Rattle.dbp_rules.specs.SharedWords.{made_by}
 use Rattle.dbp_rules.specs.Shapes.{IsTaskWired, IsWired, OrderFits, PlaceIn, TaskShape, place_number, slot_owner}
 use Rattle.dbp_rules.specs.Sound.{Sound}
+use Rattle.dbp_rules.specs.Start.{start_of, start_releaser}
+use Rattle.dbp_rules.specs.Wired.{wiring_of}
 use Rattle.dbp_rules.specs.declared.parts.Place.{Place}
 use Rattle.dbp_rules.specs.declared.parts.Place.TheVariants as place
 use Rattle.dbp_rules.specs.declared.state.State.{State}
@@ -24,6 +28,7 @@ use Rattle.dbp_rules.specs.declared.step.Step.TheVariants.{Seen, Aim, Claim, Ope
 use Rattle.dbp_rules.specs.declared.wiring.Wiring.{Wiring}
 use Rattle.dbp_rules.proofs.Allowed.{at_next, or_else_none}
 use Rattle.dbp_rules.proofs.ShapeFacts.{word_ordered}
+use Rattle.dbp_rules.proofs.SoundStart.{first_sound}
 
 -- ---- refusals
 
@@ -220,3 +225,11 @@ module _ (p : Plan) (w : Wiring) (rows : ℕ → ℕ → List ℤ) (s : State) (
   task_loads (Put j port) i named is free = tt
   task_loads (Done j) i named is free = tt
   task_loads (End j) i named is free = tt
+
+-- ---- the first parts
+
+pub first_releaser_in_shape : (p : Plan) (count : Count) → ReleaserShape p (wiring_of p count) (start_releaser (wiring_of p count))
+first_releaser_in_shape p count = releaser_in_shape p (wiring_of p count) (rows_in (meaning_of p)) (start_of p (wiring_of p count)) (first_sound p count)
+
+pub first_task_in_shape : (p : Plan) (count : Count) (i : ℕ) → i < length p.diagram.tasks → TaskPartShape (wiring_of p count) i (task (start_of p (wiring_of p count)) i).part
+first_task_in_shape p count i named = task_in_shape p (wiring_of p count) (rows_in (meaning_of p)) (start_of p (wiring_of p count)) (first_sound p count) i named

@@ -7,6 +7,9 @@ use Rattle.std.proofs.Math.ListN.{get_or-map}
 use Rattle.dbp_plan.specs.declared.plan.Plan.{Plan}
 use Rattle.dbp_plan.specs.Closed.{place_count}
 use Rattle.dbp_plan.specs.Lookups.{declared, no_declared}
+use Rattle.sync_meaning.proofs.OneMeaning.{meaning_solves}
+use Rattle.sync_meaning.specs.SomeMeaning.{meaning_of, meaning_of-is}
+use Rattle.sync_meaning.specs.SomeMeaningTables.{rows_in}
 use Rattle.sync_meaning.specs.SomeMeaningRows.{Solves, states_at-none}
 use Rattle.dbp_plan.proofs.ListParts.{repeated}
 use Rattle.dbp_rules.specs.Places.{is_counted, link, no_link_entry, no_order, no_slot, no_task, no_task_wiring, slot_at, task, task_entry, wired}
@@ -14,10 +17,13 @@ use Rattle.dbp_rules.specs.Shapes.{IsWired}
 use Rattle.dbp_rules.specs.Sound.{Sound}
 use Rattle.dbp_rules.specs.SoundParts.{TaskSound, last_passed}
 use Rattle.dbp_rules.specs.Start.{first_row, first_states, start_entry, start_of, start_slots, start_task}
+use Rattle.dbp_rules.specs.Wired.{wiring_of}
 use Rattle.dbp_rules.specs.declared.state.Slot.{Slot}
+use Rattle.dbp_rules.specs.declared.step.Count.{Count}
 use Rattle.dbp_rules.specs.declared.wiring.TaskWiring.{TaskWiring}
 use Rattle.dbp_rules.specs.declared.wiring.Wiring.{Wiring}
 use Rattle.dbp_rules.proofs.StartShape.{start_shape}
+use Rattle.dbp_rules.proofs.Wirings.{wiring-whole}
 
 pub take_front : (xs ys : List ℤ) (n : ℕ) → length xs ≡ n → take n (xs ++ ys) ≡ xs
 take_front [] ys n size = rw (sym size) refl
@@ -76,3 +82,8 @@ start_sound p w rows wires solves =
         ready = λ n takes. absurd (cc (takes));
       });
     }
+
+-- by the meaning's own table
+pub first_sound : (p : Plan) (count : Count) → Sound p (wiring_of p count) (rows_in (meaning_of p)) (start_of p (wiring_of p count))
+first_sound p count =
+    start_sound p (wiring_of p count) (rows_in (meaning_of p)) (wiring-whole p count) (meaning_solves p.diagram p.samples p.batches (meaning_of p) p.rules (meaning_of-is p))

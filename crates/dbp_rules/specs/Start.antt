@@ -7,6 +7,7 @@ use Rattle.dbp_plan.specs.Closed.{place_count}
 use Rattle.dbp_plan.specs.Lookups.{declared}
 use Rattle.dbp_rules.specs.Places.{no_link_entry, no_order, wired}
 use Rattle.dbp_rules.specs.declared.parts.Place.TheVariants.{Idle}
+use Rattle.dbp_rules.specs.declared.parts.ReleaserPart.{ReleaserPart}
 use Rattle.dbp_rules.specs.declared.parts.TaskEntry.{TaskEntry}
 use Rattle.dbp_rules.specs.declared.state.Slot.{Slot}
 use Rattle.dbp_rules.specs.declared.state.State.{State}
@@ -37,10 +38,14 @@ start_task t d = record {
 abbrev pub start_entry : TaskWiring → TaskEntry
 start_entry t = record { known = 0; aimed = 0; current = 0; kept = replicate t.kept 0 }
 
+-- the releaser's part before the first step
+abbrev pub start_releaser : Wiring → ReleaserPart
+start_releaser w = record { place = 0; tasks = map start_entry w.tasks; links = replicate (length w.links) no_link_entry }
+
 -- the state of the plan before the first step
 abbrev pub start_of : Plan → Wiring → State
 start_of p w = record {
-  releaser = record { place = 0; tasks = map start_entry w.tasks; links = replicate (length w.links) no_link_entry };
+  releaser = start_releaser w;
   tasks = map (λ i. start_task (wired w i) (declared p i)) (range_with_len 0 (length w.tasks));
   orders = replicate (length w.links) no_order;
 }

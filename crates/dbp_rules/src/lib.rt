@@ -2,6 +2,7 @@
 //! hears and makes of it, and what holds of every state that steps lead to.
 #![tactic(auto)]
 
+mod aiming;
 mod kind;
 mod laws;
 mod next_steps;

@@ -103,27 +103,32 @@ fn start_tasks(alloc: Global, plan: &Plan, wiring: &Wiring) -> Result<List<TaskS
     Ok(tasks)
 }
 
+impl ReleaserPart {
+    /// The releaser's part before the first step: nothing is aimed, and nothing is claimed.
+    pub fn start(alloc: Global, wiring: &Wiring) -> Result<ReleaserPart, NoMemory>
+        ensures { IfOk result (λ part. part ≡ start.start_releaser wiring.now) }
+    {
+        let none = LinkEntry {
+            slot: 0,
+            number: 0,
+            instance: 0,
+        };
+        Ok(ReleaserPart {
+            place: 0,
+            tasks: start_entries(alloc, &wiring.tasks)?,
+            links: filled(alloc, wiring.links.len(), none)?,
+        })
+    }
+}
+
 /// The state before the first step: nothing is aimed, and slot 0 of each task holds its first values.
 pub fn start_state(alloc: Global, plan: &Plan, wiring: &Wiring) -> Result<State, NoMemory>
     requires { IsWired plan.now wiring.now }
     ensures { IfOk result (λ state. state ≡ start.start_of plan.now wiring.now) }
 {
-    let links = wiring.links.len();
     Ok(State {
-        releaser: ReleaserPart {
-            place: 0,
-            tasks: start_entries(alloc, &wiring.tasks)?,
-            links: filled(
-                alloc,
-                links,
-                LinkEntry {
-                    slot: 0,
-                    number: 0,
-                    instance: 0,
-                },
-            )?,
-        },
+        releaser: ReleaserPart::start(alloc, wiring)?,
         tasks: start_tasks(alloc, plan, wiring)?,
-        orders: filled(alloc, links, Order { slot: 0, number: 0 })?,
+        orders: filled(alloc, wiring.links.len(), Order { slot: 0, number: 0 })?,
     })
 }

@@ -1,14 +1,23 @@
-use Rattle.std.proofs.Common.{◌<◌, length}
-use Rattle.std.proofs.Math.Logic.{∥∥₁_elim}
-use Rattle.std.proofs.Props.{props}
-use Rattle.dbp_rules.proofs.FreeAims.{exact_aim}
-use Rattle.dbp_core.proofs.ClaimedSlots.{has_room}
+use Rattle.std.proofs.Common.{◌≡◌, length, sym, subst, ap, arith}
+use Rattle.dbp_rules.specs.Places.{task_entry, wired}
+use Rattle.dbp_rules.specs.Promises.{HasFreeSlot}
+use Rattle.dbp_rules.specs.declared.wiring.Wiring.{Wiring}
+use Rattle.dbp_rules.proofs.FreeAims.{has_free_slot}
 use Rattle.dbp_core.proofs.machine.Core.least_aim.Goals as goal
 
-pub least_free-requires-clause-room : goal.least_free-requires-clause-room
-least_free-requires-clause-room c =
-    let named : c.args.task < length c.args.self.now.plan.diagram.tasks = (c.args.self.now.shape.wiring.releases.at_aim c.args.self.now.state.releaser.place c.args.task c.requires.next).named in
-    ∥∥₁_elim c.args.self.now.sound (hlevel props) (λ sound. has_room c.args.self.now.plan c.args.self.now.wiring c.args.self.now.state c.args.task c.args.self.now.wired sound named)
+pub least_aim-requires-clause-task : goal.least_aim-requires-clause-task
+least_aim-requires-clause-task c =
+    let named = (c.args.self.now.shape.wiring.releases.at_aim c.args.self.now.state.releaser.place c.args.task c.requires.next).named in
+    omega (arith, named, c.args.self.now.shape.wiring.tasks)
 
-pub returns : goal.returns
-returns c = exact_aim c.args.self.now.wiring c.args.self.now.state.releaser c.args.task c.least_free.result c.requires.next c.requires.ended c.least_free.ensures
+pub least_aim-requires-clause-few : goal.least_aim-requires-clause-few
+least_aim-requires-clause-few c = omega (arith, ap length c.args.self.now.shape.wiring.links, c.args.self.now.plan.rules.ranked.closed.links)
+
+pub least_aim-requires-clause-room : goal.least_aim-requires-clause-room
+least_aim-requires-clause-room c =
+    let core = c.args.self.now in
+    let task = c.args.task in
+    let named = (core.shape.wiring.releases.at_aim core.state.releaser.place task c.requires.next).named in
+    let kept = (core.shape.each_entry task (omega (arith, named, core.shape.wiring.tasks))).kept in
+    subst (λ (w : Wiring). HasFreeSlot w core.state task) (sym core.wired)
+    (has_free_slot core.plan core.wiring.count core.state.releaser task named (subst (λ (w : Wiring). length (task_entry core.state task).kept ≡ (wired w task).kept) core.wired kept))

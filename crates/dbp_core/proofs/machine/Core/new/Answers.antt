@@ -1,14 +1,9 @@
 use Rattle.std.proofs.Common.{sym, subst, ap, ◌∙◌}
-use Rattle.sync_meaning.proofs.OneMeaning.{meaning_solves}
-use Rattle.sync_meaning.specs.SomeMeaning.{meaning_of, meaning_of-is}
-use Rattle.sync_meaning.specs.SomeMeaningTables.{rows_in}
-use Rattle.dbp_rules.specs.Sound.{Sound}
-use Rattle.dbp_rules.specs.Start.{start_of}
 use Rattle.dbp_rules.specs.Wired.{wiring_of}
 use Rattle.dbp_rules.specs.declared.state.State.{State}
 use Rattle.dbp_rules.specs.declared.step.Count.{Count}
 use Rattle.dbp_rules.specs.declared.wiring.Wiring.{Wiring}
-use Rattle.dbp_rules.proofs.SoundStart.{start_sound}
+use Rattle.dbp_rules.proofs.SoundStart.{first_sound}
 use Rattle.dbp_rules.proofs.StartShape.{start_shape}
 use Rattle.dbp_rules.proofs.Wirings.{wiring-whole}
 use Rattle.dbp_core.specs.Unfinished.{HasUnfinished}
@@ -23,10 +18,7 @@ invariant_of-result-clause-shape c = rw (c.in_ok-state.ensures, c.in_ok-wiring.e
 
 pub invariant_of-result-clause-sound : goal.invariant_of-result-clause-sound
 invariant_of-result-clause-sound c =
-    let plan = c.args.plan in
-    let sound : Sound plan (wiring_of plan c.args.count) (rows_in (meaning_of plan)) (start_of plan (wiring_of plan c.args.count)) =
-    start_sound plan (wiring_of plan c.args.count) (rows_in (meaning_of plan)) (wiring-whole plan c.args.count) (meaning_solves plan.diagram plan.samples plan.batches (meaning_of plan) plan.rules (meaning_of-is plan)) in
-    rw (c.in_ok-state.ensures, c.in_ok-wiring.ensures.wiring) (∣ sound ∣₁)
+    rw (c.in_ok-state.ensures, c.in_ok-wiring.ensures.wiring) (∣ first_sound c.args.plan c.args.count ∣₁)
 
 pub invariant_of-result-clause-ranks : goal.invariant_of-result-clause-ranks
 invariant_of-result-clause-ranks c =

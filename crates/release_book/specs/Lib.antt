@@ -1,0 +1,3 @@
+pub mod NextStep
+pub mod Releasers
+pub mod Books
