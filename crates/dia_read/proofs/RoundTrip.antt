@@ -30,9 +30,9 @@ use Rattle.dia_lines.specs.declared.place.Place.TheVariants.{Header, Policy as P
 use Rattle.dia_lines.specs.Statements.{Statement, header, policy, until, trace, script, done}
 use Rattle.dia_lines.specs.Places.{leads}
 use Rattle.dia_lines.specs.Limits.{lies_within, option_lies_within, clock_fits, numbers_fit, passed_count}
-use Rattle.dia_lines.specs.Lines.{says, row, step, keeps_lines, of_the_trace, of_the_script, SaysInTrace, trace_ends, script_begins, a_row, SaysInScript, script_ends, a_step}
+use Rattle.dia_lines.specs.Lines.{says, row, step, keeps_lines, of_the_trace, of_the_script, SaysInTrace, trace_ends, script_begins, SaysInScript, script_ends, a_step}
 use Rattle.dia_lines.specs.Held.{IsClock, IsKept}
-use Rattle.dia_lines.specs.Sections.{is_trace_byte, IsAlone}
+use Rattle.dia_lines.specs.Sections.{IsAlone}
 use Rattle.dia_lines.specs.Text.{is_inside}
 use Rattle.dia_print.specs.ItemTokens.{header_tokens, policy_tokens, until_tokens, decl_tokens, task_tokens, part_tokens}
 use Rattle.dia_print.proofs.ItemStatements.{decl_statement, clock_of, task_statement, part_statement}
