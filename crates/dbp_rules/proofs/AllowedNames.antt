@@ -1,24 +1,21 @@
 -- What an allowed step names is there: the read of a look and of a take, the port of a put, and the slot of an aim, of which a task has few.
-use Rattle.std.proofs.Common.{◌≡◌, ℕ, ◌<◌, ◌≤◌, length, None, sym, ◌∙◌, ap, subst, arith}
+use Rattle.std.proofs.Common.{◌≡◌, ℕ, ◌<◌, length, None, sym, ◌∙◌, ap, arith}
 use Rattle.dbp_plan.specs.declared.plan.Plan.{Plan}
 use Rattle.dbp_plan.specs.Lookups.{declared}
-use Rattle.dbp_slots.proofs.Links.{delay_short, links_few}
-use Rattle.dbp_slots.specs.Slots.{is_to_higher, is_to_lower}
 use Rattle.dbp_rules.specs.Places.{read_at, task, wired}
 use Rattle.dbp_rules.specs.Rules as rule
-use Rattle.dbp_rules.specs.Shapes.{IsShape, PlaceIn, place_number}
+use Rattle.dbp_rules.specs.Shapes.{IsShape, place_number}
 use Rattle.dbp_rules.specs.Wired.{slot_count, wiring_of}
 use Rattle.dbp_rules.specs.declared.parts.Place.{Place}
 use Rattle.dbp_rules.specs.declared.parts.Place.TheVariants as place
 use Rattle.dbp_rules.specs.declared.state.State.{State}
 use Rattle.dbp_rules.specs.declared.step.Broken.TheVariants as broken
 use Rattle.dbp_rules.specs.declared.step.Count.{Count}
-use Rattle.dbp_rules.specs.declared.step.Count.TheVariants.{All, Ranked}
 use Rattle.dbp_rules.specs.declared.step.Step.TheVariants.{Aim, Look, Take, Put}
 use Rattle.dbp_rules.specs.declared.wiring.TaskWiring.{TaskWiring}
 use Rattle.dbp_rules.specs.declared.wiring.Wiring.{Wiring}
 use Rattle.dbp_rules.proofs.Aims.{aim_allowed}
-use Rattle.dbp_rules.proofs.Allowed.{at_next, next_none, or_else_none, place_of}
+use Rattle.dbp_rules.proofs.Allowed.{next_none, or_else_none}
 use Rattle.dbp_rules.proofs.ShapeFacts.{place_in}
 use Rattle.dbp_rules.proofs.StepPlaces.{at_kind}
 use Rattle.dbp_rules.proofs.TableSizes.{slot_count_few}

@@ -1,6 +1,5 @@
 -- The word that a step loads is one of the table's, and what it loads and hears is read off the number there.
 use Rattle.std.proofs.Common.{◌≡◌, ℕ, zero, suc, ◌+◌, ◌<◌, ◌≤◌, ◌^◌, length, Some, None, refl, sym, ◌∙◌, ap, subst, arith}
-use Rattle.std.proofs.lemmas.Option.{same_Some}
 use Rattle.dbp_plan.specs.declared.plan.Plan.{Plan}
 use Rattle.dbp_plan.specs.Lookups.{declared}
 use Rattle.dbp_slots.specs.TableWords.{IsSlot, IsWord, TableWord, ended, gate}
@@ -9,7 +8,7 @@ use Rattle.dbp_rules.specs.Moves.{heard_order}
 use Rattle.dbp_rules.specs.PartyRules.{a_value, an_order}
 use Rattle.dbp_rules.specs.Places.{read_at, task, task_entry, wired}
 use Rattle.dbp_rules.specs.Rules as rule
-use Rattle.dbp_rules.specs.Shapes.{IsReadWired, IsShape, OrderFits, PlaceIn, TaskShape, heard_by, link_in, slot_owner}
+use Rattle.dbp_rules.specs.Shapes.{IsReadWired, IsShape, OrderFits, TaskShape, heard_by, link_in, slot_owner}
 use Rattle.dbp_rules.specs.SharedWords.{maker_part, order_value, value_in}
 use Rattle.dbp_rules.specs.WordRanges.{SlotWordsFit, slot_word}
 use Rattle.dbp_rules.specs.declared.parts.Order.{Order}

@@ -1,5 +1,5 @@
 -- A task's steps before its shut keep a state sound, and a take loads the word of the meaning.
-use Rattle.std.proofs.Common.{◌≡◌, ◌≢◌, ℕ, zero, suc, ℤ, pos, ◌+◌, ◌-◌, ◌<◌, ◌≤◌, true, List, [], ◌∷◌, ◌++◌, length, get_or, set, take, Option, Some, None, refl, sym, ◌∙◌, ap, subst, arith, inl, inr, get_or-set_other, get_or-set_same}
+use Rattle.std.proofs.Common.{◌≡◌, ◌≢◌, ℕ, zero, suc, ℤ, pos, ◌+◌, ◌-◌, ◌<◌, ◌≤◌, true, List, [], ◌∷◌, ◌++◌, length, get_or, set, take, Some, None, refl, sym, ◌∙◌, ap, subst, arith, inl, inr, get_or-set_other, get_or-set_same}
 use Rattle.std.specs.Prelude.{slice_get}
 use Rattle.std.proofs.lemmas.Bool.{cases_Bool, cases_eq, cases_lt, eqb-true}
 use Rattle.std.proofs.lemmas.List.{get_or_append_left, get_or_push, length_push}
@@ -14,7 +14,7 @@ use Rattle.release_list.specs.Schedule.{seen_by}
 use Rattle.dbp_rules.specs.Moves as move
 use Rattle.dbp_rules.specs.Places.{link, link_entry, no_order, order, read_at, slot_at, task, task_entry, wired}
 use Rattle.dbp_rules.specs.Rules as rule
-use Rattle.dbp_rules.specs.Shapes.{IsShape, PlaceIn, TaskShape, heard_by, link_in, place_number, running_count}
+use Rattle.dbp_rules.specs.Shapes.{IsShape, TaskShape, heard_by, link_in, place_number, running_count}
 use Rattle.dbp_rules.specs.Sound.{Sound}
 use Rattle.dbp_rules.specs.SoundParts.{LinkSound, TaskSound, meant_word, place_of_read, read_of, taken_by}
 use Rattle.dbp_rules.specs.Work.{WorkWords}
@@ -24,12 +24,11 @@ use Rattle.dbp_rules.specs.declared.parts.Place.TheVariants as place
 use Rattle.dbp_rules.specs.declared.parts.TaskPart.{TaskPart}
 use Rattle.dbp_rules.specs.declared.state.State.{State}
 use Rattle.dbp_rules.specs.declared.step.Broken.TheVariants as broken
-use Rattle.dbp_rules.specs.declared.step.Illegal.{Illegal}
 use Rattle.dbp_rules.specs.declared.step.Step.TheVariants.{Start, Hear, Look, Take}
 use Rattle.dbp_rules.specs.declared.wiring.Wiring.{Wiring}
 use Rattle.dbp_rules.proofs.ShapeFacts.{place_in}
 use Rattle.dbp_rules.proofs.StepPlaces.{at_step, at_look, at_take}
-use Rattle.dbp_rules.proofs.Allowed.{at_next, next_none, or_else_none, place_of}
+use Rattle.dbp_rules.proofs.Allowed.{next_none, or_else_none}
 use Rattle.dbp_rules.proofs.SoundFrame.{task_step}
 use Rattle.dbp_rules.proofs.SoundGoes.{IsEarly, early_hear, early_heard, early_idle, early_look, early_read, early_take, reader_on, take_hear, take_read, taken_hear, taken_read, task_goes, writer_same}
 use Rattle.dbp_rules.proofs.SoundOwn.{IsOwn, IsOwnRead, claims_aims, opens_claims}

@@ -1,5 +1,5 @@
 -- A task that writes its slot, or ends, keeps a state sound: what holds of the task and of its links.
-use Rattle.std.proofs.Common.{◌≡◌, ◌≢◌, ℕ, ℤ, pos, ◌+◌, ◌<◌, ◌≤◌, ◌⊎◌, List, length, drop, get_or, set, take, Option, None, refl, sym, ◌∙◌, ap, subst, arith, inl, inr, ltb, get_or-set_other, get_or-set_same}
+use Rattle.std.proofs.Common.{◌≡◌, ◌≢◌, ℕ, ℤ, pos, ◌+◌, ◌<◌, ◌≤◌, ◌⊎◌, List, length, drop, get_or, set, take, None, refl, sym, ◌∙◌, ap, subst, arith, inl, inr, ltb, get_or-set_other, get_or-set_same}
 use Rattle.std.proofs.lemmas.Bool.{cases_eq, cond_both, ltb-false}
 use Rattle.std.proofs.lemmas.List.{ext_get_or}
 use Rattle.dbp_plan.specs.declared.plan.Plan.{Plan}
@@ -20,11 +20,10 @@ use Rattle.dbp_rules.specs.declared.state.Slot.{Slot}
 use Rattle.dbp_rules.specs.declared.state.State.{State}
 use Rattle.dbp_rules.specs.declared.state.TaskState.{TaskState}
 use Rattle.dbp_rules.specs.declared.step.Broken.TheVariants as broken
-use Rattle.dbp_rules.specs.declared.step.Illegal.{Illegal}
 use Rattle.dbp_rules.specs.declared.step.Step.TheVariants.{Put, Done, End}
 use Rattle.dbp_rules.specs.declared.wiring.Wiring.{Wiring}
 use Rattle.dbp_rules.proofs.StepPlaces.{at_step}
-use Rattle.dbp_rules.proofs.Allowed.{at_next, next_none, or_else_none, place_of}
+use Rattle.dbp_rules.proofs.Allowed.{next_none, or_else_none}
 use Rattle.dbp_rules.proofs.Frames.{after_set}
 use Rattle.dbp_rules.proofs.SoundFrame.{task_step}
 use Rattle.dbp_rules.proofs.SoundGoes.{reader_on, writer_same}

@@ -1,5 +1,5 @@
 -- Each allowed step keeps what the code needs of the state.
-use Rattle.std.proofs.Common.{◌≡◌, ℕ, zero, suc, ℤ, ◌+◌, ◌-◌, ◌<◌, ◌≤◌, List, ◌∷◌, ◌++◌, length, take, drop, Option, Some, None, Result, refl, sym, ◌∙◌, ap, subst, arith, inl, inr, length-append, length-drop}
+use Rattle.std.proofs.Common.{◌≡◌, ℕ, ℤ, ◌+◌, ◌-◌, ◌<◌, ◌≤◌, List, ◌∷◌, ◌++◌, length, take, drop, Option, Some, None, Result, refl, sym, ◌∙◌, ap, subst, arith, inl, inr, length-append, length-drop}
 use Rattle.std.specs.Prelude.{slice_get}
 use Rattle.std.proofs.lemmas.Bool.{cases_Bool, eqb-true}
 use Rattle.std.proofs.lemmas.List.{length-map, length-set, length-take-le}
@@ -13,7 +13,7 @@ use Rattle.release_list.specs.declared.release.Release.TheVariants as release
 use Rattle.dbp_rules.specs.Moves as move
 use Rattle.dbp_rules.specs.Places.{link, task, task_entry, wired}
 use Rattle.dbp_rules.specs.Rules as rule
-use Rattle.dbp_rules.specs.Shapes.{EntryShape, IsShape, IsTaskWired, OrderFits, PlaceIn, TaskShape, heard_by, link_in, place_number, running_count, slot_owner}
+use Rattle.dbp_rules.specs.Shapes.{EntryShape, IsShape, IsTaskWired, TaskShape, heard_by, running_count}
 use Rattle.dbp_rules.specs.Work.{WorkWords}
 use Rattle.dbp_rules.specs.declared.parts.Place.{Place}
 use Rattle.dbp_rules.specs.declared.parts.Place.TheVariants as place
@@ -23,12 +23,11 @@ use Rattle.dbp_rules.specs.declared.step.Heard.{Heard}
 use Rattle.dbp_rules.specs.declared.step.Illegal.{Illegal}
 use Rattle.dbp_rules.specs.declared.step.Step.{Step}
 use Rattle.dbp_rules.specs.declared.step.Step.TheVariants.{Seen, Aim, Claim, OpenGate, Start, Hear, Look, Take, Shut, Put, Done, End}
-use Rattle.dbp_rules.specs.declared.wiring.TaskWiring.{TaskWiring}
 use Rattle.dbp_rules.specs.declared.wiring.Wiring.{Wiring}
 use Rattle.dbp_rules.proofs.ShapeFacts.{aimed_few, own_fits, place_in, word_ordered}
 use Rattle.dbp_rules.proofs.StepPlaces.{at_step}
 use Rattle.dbp_rules.proofs.Aims.{IsAllowedAim, aim_allowed}
-use Rattle.dbp_rules.proofs.Allowed.{at_claim, at_next, at_open, next_none, or_else_none, place_of}
+use Rattle.dbp_rules.proofs.Allowed.{at_claim, at_open, next_none}
 use Rattle.dbp_rules.proofs.Counted.{aims_claim, aims_open, aims_other, aims_same}
 use Rattle.dbp_rules.proofs.Frames.{aim_changes, claim_changes, entry_changes, further_on, task_changes}
 use Rattle.dbp_rules.proofs.Keeping.{claimed_fits, kept_on}

@@ -1,5 +1,5 @@
 -- The links of a diagram, and the ranks of their tasks.
-use Rattle.std.proofs.Common.{◌≡◌, ℕ, suc, ◌<◌, ◌≤◌, max, All, Bool, List, [], ◌∷◌, length, get_or, ap, ◌∙◌, arith, filter, count_by}
+use Rattle.std.proofs.Common.{ℕ, suc, ◌<◌, ◌≤◌, max, All, Bool, List, [], ◌∷◌, length, get_or, arith, filter, count_by}
 use Rattle.std.specs.Prelude.{◌==◌}
 use Rattle.std.specs.List.{fold}
 use Rattle.std.proofs.lemmas.List.Elements.{All-filter}

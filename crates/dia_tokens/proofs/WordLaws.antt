@@ -1,10 +1,8 @@
 -- A text is looked for among the words of its length alone.
-use Rattle.std.proofs.Common.{◌≡◌, ℕ, Bool, true, List, [], ◌∷◌, refl, ap, length, inl, inr}
-use Rattle.std.proofs.lemmas.Bool.{cases_Bool}
+use Rattle.std.proofs.Common.{◌≡◌, ℕ, List, ap, length}
 use Rattle.std.proofs.lemmas.Bool.Decides.{Decides-eqb}
 use Rattle.std.proofs.lemmas.Slice.Eq.{bytes_eq-Decides}
-use Rattle.std.specs.List.{filter, find}
-use Rattle.std.specs.Prelude.{◌==◌, cond, Some}
+use Rattle.std.specs.Prelude.{◌==◌}
 use Rattle.std.specs.Str.{bytes_eq}
 use Rattle.dbp_plan.proofs.Searches.{find-filter}
 use Rattle.dia_tokens.specs.Words.{word_text, all_words, word_among, words_of_len}

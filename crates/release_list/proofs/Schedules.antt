@@ -12,7 +12,7 @@ use Rattle.dbp_plan.specs.declared.schedule.Sample.{Sample}
 use Rattle.dbp_plan.specs.Occurrences.{count_until, names, times_of, time_of}
 use Rattle.dbp_plan.specs.Places.{all_place, at_place}
 use Rattle.dbp_plan.specs.Plan.{IsPlan}
-use Rattle.dbp_plan.specs.Times.{Rises, times-rise}
+use Rattle.dbp_plan.specs.Times.{times-rise}
 use Rattle.dbp_plan.specs.Lookups.{link_at}
 use Rattle.dbp_plan.proofs.BatchTasks.{often, often_one, often_named}
 use Rattle.dbp_plan.proofs.Counts.{before_few, found}

@@ -1,5 +1,5 @@
 -- The inputs' values, sample by sample.
-use Rattle.std.proofs.Common.{◌≡◌, ◌≢◌, ℕ, ℤ, zero, suc, ◌+◌, ◌<◌, ◌≤◌, ◌&&◌, Bool, true, false, List, [], ◌∷◌, ◌++◌, length, map, take, drop, get_or, slice_get, set, option_map, Some, All, AllPairs, IsTrue, filter, nat_le, refl, sym, ◌∙◌, ap, arith, inl, inr, eq-eqb, length-drop}
+use Rattle.std.proofs.Common.{◌≡◌, ℕ, ℤ, suc, ◌+◌, ◌<◌, ◌≤◌, true, false, List, [], ◌∷◌, ◌++◌, length, map, take, drop, get_or, slice_get, set, option_map, Some, All, AllPairs, IsTrue, filter, nat_le, refl, sym, ◌∙◌, ap, arith, inl, inr, eq-eqb, length-drop}
 use Rattle.std.specs.Prelude.{◌==◌}
 use Rattle.std.proofs.Math.Bool.{and-false, and-true}
 use Rattle.std.proofs.lemmas.Bool.{cases_Bool, cases_eq, le-leb, lt-leb, ne_eqb}

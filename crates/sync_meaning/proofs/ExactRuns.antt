@@ -1,5 +1,5 @@
 -- A run whose rows, states and inputs are those of the meaning.
-use Rattle.std.proofs.Common.{◌≡◌, ◌≢◌, ℕ, ℤ, zero, suc, ◌+◌, ◌-◌, ◌*◌, ◌<◌, ◌≤◌, true, List, ◌∷◌, ◌++◌, [], length, map, take, drop, get_or, slice_get, set, option_map, Some, All, refl, sym, ◌∙◌, ap, subst, arith, inl, inr, length-take}
+use Rattle.std.proofs.Common.{◌≡◌, ◌≢◌, ℕ, ℤ, ◌+◌, ◌-◌, ◌*◌, ◌<◌, ◌≤◌, true, List, ◌++◌, [], length, map, take, drop, get_or, slice_get, set, option_map, Some, All, sym, ◌∙◌, ap, subst, arith, inl, inr, length-take}
 use Rattle.std.specs.Prelude.{replicate, slice_index}
 use Rattle.std.specs.List.{refill}
 use Rattle.std.specs.List.Sorted.{IsStrictlyIncreasing}
@@ -21,7 +21,7 @@ use Rattle.dbp_plan.specs.Samples.{input_value}
 use Rattle.dbp_plan.specs.Table.{IsRow}
 use Rattle.dbp_plan.proofs.Numbers.{number-is, rise}
 use Rattle.dbp_plan.proofs.OccurrenceLemmas.{time_here}
-use Rattle.dbp_plan.specs.Places.{at_place, same_places, all_place, take_inside, take_place}
+use Rattle.dbp_plan.specs.Places.{at_place, same_places, all_place, take_inside}
 use Rattle.expr_eval.specs.Values.{value_of}
 use Rattle.sync_meaning.specs.declared.env.Env.{Env}
 use Rattle.sync_meaning.specs.declared.run.Run.{Run}

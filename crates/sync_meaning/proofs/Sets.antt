@@ -1,5 +1,5 @@
 -- Lists of zeros, and lists in which one place was written.
-use Rattle.std.proofs.Common.{◌≡◌, ◌≢◌, ℕ, zero, suc, ◌<◌, ◌++◌, get_or, take, drop, List, length, slice_get, set, Some, sym, ◌∙◌, ap, arith, ◌⊎◌, inl, inr}
+use Rattle.std.proofs.Common.{◌≡◌, ◌≢◌, ℕ, zero, suc, ◌<◌, get_or, List, length, slice_get, set, Some, sym, ◌∙◌, ap, arith, ◌⊎◌, inl, inr}
 use Rattle.std.specs.Prelude.{replicate}
 use Rattle.std.specs.List.{refill}
 use Rattle.std.proofs.lemmas.Grind.{common_steps}

@@ -6,7 +6,7 @@ use Rattle.std.specs.Option.{option_map_or}
 use Rattle.std.proofs.lemmas.Bool.{cases_eq, cases_lt, eqb-true}
 use Rattle.std.proofs.lemmas.List.{get_or-take, length-replicate}
 use Rattle.std.proofs.lemmas.List.Folds.{Any-from_list_any}
-use Rattle.std.proofs.lemmas.Option.{slice_get-get_or, slice_get_within, same_Some}
+use Rattle.std.proofs.lemmas.Option.{slice_get-get_or, slice_get_within}
 use Rattle.dbp_plan.specs.declared.diagram.Let.{Let}
 use Rattle.dbp_plan.specs.declared.diagram.Next.{Next}
 use Rattle.dbp_plan.specs.declared.diagram.Task.{Task}
@@ -86,6 +86,7 @@ agree_next n k l task given one other order at_k at_l a b agree = record {
         subst (λ (w : ℕ). slice_get one w ≡ slice_get other w) same (agree.same used.0 used.1 lower there)
   ]);
 }
+
 agree_all : (n : ℕ) (task : Task) (given one other : List ℤ) → IsLetOrder (let_base task) task.lets task.order → n ≤ length task.order → IsEnvFrom task given one → IsEnvFrom task given other → AgreeUpTo n task one other
 agree_all zero task given one other order few a b = record { same = λ p k below. absurd (omega arith) }
 agree_all (suc n) task given one other order few a b =
