@@ -1,0 +1,141 @@
+// The top call on sources and sinks: which fault ends it and what was written then, how many reads and writes it makes,
+// and words that no command line of a case shows.
+
+use dbp_plan::{MemSink, MemSource, ReadSource, WriteSink};
+use dbp_top::{Status, command_lines, dbp_main, plain_main};
+use std::alloc::Global;
+use std::test::Fail;
+use test_inputs::TWO_RATES;
+
+const TWO_RATES_LINES: &str = "0,a,1,1\n0,b,1,10\n2,a,2,2\n3,b,2,20\n4,a,3,3\n";
+
+// How a call with these words ends on a source of such pieces and a sink of such pieces, and what it wrote.
+fn call(
+    alloc: Global,
+    words: &[&str],
+    input: &str,
+    (read, read_fails): (usize, u32),
+    (write, write_fails): (usize, u32),
+) -> Result<(Status, Vec<u8>), Fail> {
+    let mut all = Vec::new(alloc);
+    for word in words {
+        all.push(word.to_string(alloc)?)?;
+    }
+    let mut source = MemSource::new(
+        input.as_bytes().to_vec(alloc)?,
+        read.max(1),
+        vec![in alloc; read_fails]?,
+    );
+    let room = 1_000;
+    let store = Vec::with_capacity(alloc, room)?;
+    let mut sink = MemSink::new(store, room, write.max(1), vec![in alloc; write_fails]?);
+    let status = dbp_main(alloc, &all, &mut source, &mut sink);
+    Ok((status, sink.bytes().to_vec(alloc)?))
+}
+
+// The size of a read and which one fails, the same of writes, the status and what was written.
+static FAULTS: [((usize, u32), (usize, u32), Status, &str); 6] = [
+    ((16, 3), (8, 0), Status::ReadFault, ""),
+    ((16, 1), (8, 0), Status::ReadFault, ""),
+    ((16, 0), (8, 1), Status::WriteFault, ""),
+    ((16, 0), (8, 2), Status::WriteFault, "0,a,1,1\n"),
+    ((16, 0), (9, 2), Status::WriteFault, "0,a,1,1\n0"),
+    ((16, 3), (8, 1), Status::ReadFault, ""),
+];
+
+#[test]
+fn faults_end_the_call(rt: HostRuntime) -> Result<(), Fail> {
+    for (reads, writes, status, lines) in &FAULTS {
+        let ended = call(rt.alloc(), &["mean"], TWO_RATES, *reads, *writes)?;
+        assert_eq!(rt; ended.0, *status);
+        assert_eq!(rt; ended.1.as_slice(), lines.as_bytes());
+    }
+    Ok(())
+}
+
+#[test]
+fn each_failing_read_ends_the_call(rt: HostRuntime) -> Result<(), Fail> {
+    // the document is 13 pieces of 16 bytes, and one more read finds its end
+    for failing in 1..=14 {
+        let ended = call(rt.alloc(), &["mean"], TWO_RATES, (16, failing), (8, 0))?;
+        assert_eq!(rt; ended.0, Status::ReadFault, "read {failing}");
+        assert!(rt; ended.1.is_empty(), "read {failing}");
+    }
+    Ok(())
+}
+
+#[test]
+fn each_failing_write_ends_the_call(rt: HostRuntime) -> Result<(), Fail> {
+    let whole = TWO_RATES_LINES.as_bytes();
+    // the lines are six pieces of 8 bytes
+    for failing in 1..=6 {
+        let ended = call(rt.alloc(), &["mean"], TWO_RATES, (16, 0), (8, failing))?;
+        assert_eq!(rt; ended.0, Status::WriteFault, "write {failing}");
+        let written = ended.1.as_slice();
+        assert!(rt; whole.starts_with(written), "write {failing}");
+        assert!(rt; written.len() < whole.len(), "write {failing}");
+    }
+    Ok(())
+}
+
+// A document, the first read and the first write after all that are to be made, the status and what is written.
+static LAST: [(&str, u32, u32, Status, &str); 2] = [
+    (TWO_RATES, 15, 7, Status::Ok, TWO_RATES_LINES),
+    (
+        "",
+        2,
+        6,
+        Status::Refused,
+        "refused: line 1: 8 MissingHeader\n",
+    ),
+];
+
+#[test]
+fn there_are_no_more_reads_and_writes(rt: HostRuntime) -> Result<(), Fail> {
+    for (document, read, write, status, text) in &LAST {
+        let ended = call(rt.alloc(), &["mean"], document, (16, *read), (8, *write))?;
+        assert_eq!(rt; ended.0, *status, "on {document}");
+        assert_eq!(rt; ended.1.as_slice(), text.as_bytes(), "on {document}");
+    }
+    Ok(())
+}
+
+// Words that are empty or end with a blank, and those of a command line without any.
+static NO_COMMANDS: [&[&str]; 5] = [&[], &[""], &["form", ""], &["", "form"], &["mean "]];
+
+#[test]
+fn words_that_are_no_command_read_and_write_nothing(rt: HostRuntime) -> Result<(), Fail> {
+    for words in &NO_COMMANDS {
+        let ended = call(rt.alloc(), words, TWO_RATES, (16, 1), (8, 1))?;
+        assert_eq!(rt; ended.0, Status::Usage);
+        assert_eq!(rt; ended.1.len(), 0);
+    }
+    Ok(())
+}
+
+#[test]
+fn commands_are_listed(rt: HostRuntime) -> Result<(), Fail> {
+    assert_eq!(rt;
+        command_lines(rt.alloc())?.as_str(),
+        "  mean\n  form\n  plan\n  replay\n  replay --ranked\n"
+    );
+    Ok(())
+}
+
+#[test]
+fn a_reader_and_a_writer_of_std_serve(rt: HostRuntime) -> Result<(), Fail> {
+    let alloc = rt.alloc();
+    let mut words = Vec::new(alloc);
+    words.push("mean".to_string(alloc)?)?;
+    let mut written = Vec::<u8>::new(alloc);
+    let mut source = ReadSource::new(b"dbp 1\npolicy fp\nuntil".as_slice());
+    let mut sink = WriteSink::new(&mut written);
+    let status = plain_main(alloc, &words, &mut source, &mut sink);
+    drop(sink);
+    assert_eq!(rt; status, Status::Refused);
+    assert_eq!(rt;
+        written.as_slice(),
+        b"refused: line 3: 3 BadLine\n".as_slice()
+    );
+    Ok(())
+}

@@ -1,0 +1,151 @@
+// Tokens, expressions and lines, each read with ample memory.
+
+use dbp_plan::{BinOp, Expr, List, MAX_NODES, Name, Node, UnOp};
+use dia_exprs::{MAX_DEPTH, depth, expression, node_tokens};
+use dia_lines::{Line, Part, Position, read_line};
+use dia_tokens::{Symbol, Token, Word, push_spelling, tokens};
+use std::alloc::Global;
+use std::test::Fail;
+
+#[test]
+fn tokens_of_a_line(rt: HostRuntime) -> Result<(), Fail> {
+    let tokens = tokens(rt.alloc(), b"let x == -007 # all")?;
+    assert!(rt;
+        matches!(
+            tokens.as_slice(),
+            [
+                Token::Word(Word::Let),
+                Token::Name(_),
+                Token::Symbol(Symbol::Equal),
+                Token::Number(-7),
+            ]
+        )
+    );
+    Ok(())
+}
+
+// A `>` and after it the line's spelling.
+fn spelled(alloc: Global, line: &[u8]) -> Result<List<u8>, Fail> {
+    if line.len() > 100 {
+        return Err(Fail::new("a long line"));
+    }
+    let _tokens = tokens(alloc, line)?;
+    let mut out = List::new(alloc);
+    out.push(b'>')?;
+    push_spelling(&mut out, line)?;
+    Ok(out)
+}
+
+#[test]
+fn spelling_of_a_line(rt: HostRuntime) -> Result<(), Fail> {
+    let out = spelled(rt.alloc(), b"\tif x<=007  then!= # all")?;
+    assert_eq!(rt; out.items(), b">if x <= 007 then !=".as_slice());
+    Ok(())
+}
+
+// The expression that the text is.
+fn expression_of(alloc: Global, text: &[u8]) -> Result<Expr<Name>, Fail> {
+    let tokens = tokens(alloc, text)?;
+    if node_tokens(&tokens) > MAX_NODES as usize || depth(&tokens) > MAX_DEPTH as usize {
+        return Err(Fail::new("too large"));
+    }
+    Ok(expression(alloc, &tokens)?)
+}
+
+// The node with variable 0 in place of each name.
+fn without_name(node: &Node<Name>) -> Node<u32> {
+    match node {
+        Node::Var(_) => Node::Var(0),
+        Node::Num(value) => Node::Num(*value),
+        Node::Un(op, operand) => Node::Un(*op, *operand),
+        Node::Bin(op, left, right) => Node::Bin(*op, *left, *right),
+        Node::Pick(condition, then, other) => Node::Pick(*condition, *then, *other),
+    }
+}
+
+fn without_names(alloc: Global, nodes: &[Node<Name>]) -> Result<Vec<Node<u32>>, Fail> {
+    let mut found = Vec::new(alloc);
+    for node in nodes {
+        found.push(without_name(node))?;
+    }
+    Ok(found)
+}
+
+// The nodes of the expression that the text is.
+fn nodes_of(alloc: Global, text: &[u8]) -> Result<Vec<Node<u32>>, Fail> {
+    let found = expression_of(alloc, text)?;
+    without_names(alloc, found.nodes.items())
+}
+
+// A node stands after its operands.
+static NODES: &[Node<u32>] = &[
+    Node::Var(0),
+    Node::Un(UnOp::Not, 0),
+    Node::Num(1),
+    Node::Num(-5),
+    Node::Bin(BinOp::Min, 2, 3),
+    Node::Num(2),
+    Node::Num(3),
+    Node::Bin(BinOp::Sub, 5, 6),
+    Node::Num(4),
+    Node::Bin(BinOp::Add, 7, 8),
+    Node::Pick(1, 4, 9),
+];
+
+#[test]
+fn nodes_of_an_expression(rt: HostRuntime) -> Result<(), Fail> {
+    let found = nodes_of(rt.alloc(), b"if not a then min (1, -5) else 2 - 3 + 4")?;
+    assert_eq!(rt; found.as_slice(), NODES);
+    Ok(())
+}
+
+// Lines before a last one.
+static LINES: [&[u8]; 6] = [
+    b"dbp 1",
+    b"policy fp",
+    b"until 10",
+    b"event e",
+    b"task a every 5 cost 1",
+    b"let x = 1 + 2",
+];
+
+static LAST: &[u8] = b"read y = pre b.z at 3";
+
+// The position after `LINES`.
+fn position_of_last(alloc: Global) -> Result<Position, Fail> {
+    let mut position = Position::start();
+    for line in &LINES {
+        let (_, next) = read_line(alloc, position, line)?;
+        position = next;
+    }
+    Ok(position)
+}
+
+fn is_delayed_read(line: &Line) -> bool {
+    matches!(
+        line,
+        Line::Part(Part::Read {
+            delay: 1,
+            at: 3,
+            ..
+        })
+    )
+}
+
+// Whether the last line is a read so delayed, and the position after it.
+fn last_read(alloc: Global, before: Position) -> Result<(bool, Position), Fail> {
+    let (last, position) = read_line(alloc, before, LAST)?;
+    Ok((is_delayed_read(&last), position))
+}
+
+#[test]
+fn a_line_after_others(rt: HostRuntime) -> Result<(), Fail> {
+    let before = position_of_last(rt.alloc())?;
+    let (is_read, position) = last_read(rt.alloc(), before)?;
+    assert!(rt; is_read);
+    assert_eq!(rt; position.counts.events, 1);
+    assert_eq!(rt; position.counts.body, 2);
+    assert_eq!(rt; position.counts.links, 1);
+    assert!(rt; !position.is_ended());
+    Ok(())
+}

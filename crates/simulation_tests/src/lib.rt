@@ -1,0 +1,5 @@
+//! Tests of simulation in virtual time.
+#![tactic(auto)]
+
+#[cfg(test)]
+mod ready;
