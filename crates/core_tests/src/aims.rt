@@ -4,12 +4,12 @@ use crate::runs::{Run, Seen, check};
 use crate::scripts::Script;
 use dbp_core::Count;
 use std::test::Fail;
-use test_inputs::{THREE_RATES, TWO_RATES};
+use test_inputs::Document;
 
 static AIMED: [Run; 4] = [
     // b claims slot 0, and a keeps none
     Run {
-        document: TWO_RATES,
+        document: Document::TwoRates,
         count: Count::All,
         script: Script::Waiting,
         after: 18,
@@ -17,7 +17,7 @@ static AIMED: [Run; 4] = [
     },
     // slot 0 stays kept, and none is claimed
     Run {
-        document: THREE_RATES,
+        document: Document::ThreeRates,
         count: Count::All,
         script: Script::None,
         after: 0,
@@ -25,14 +25,14 @@ static AIMED: [Run; 4] = [
     },
     // slot 1 stays kept; the claim of h on slot 0 counts in a run alone
     Run {
-        document: THREE_RATES,
+        document: Document::ThreeRates,
         count: Count::All,
         script: Script::Second,
         after: 28,
         seen: Seen::LeastAim { task: 0, slot: 2 },
     },
     Run {
-        document: THREE_RATES,
+        document: Document::ThreeRates,
         count: Count::Ranked,
         script: Script::Second,
         after: 28,

@@ -4,12 +4,12 @@ use crate::runs::{Run, Seen, check};
 use crate::scripts::Script;
 use dbp_core::{Broken, Count, Illegal, Step};
 use std::test::Fail;
-use test_inputs::{THREE_RATES, TWO_RATES};
+use test_inputs::Document;
 
 static REFUSED: [Run; 9] = [
     // the releaser's next step is an aim, kind 2
     Run {
-        document: TWO_RATES,
+        document: Document::TwoRates,
         count: Count::All,
         script: Script::None,
         after: 0,
@@ -24,7 +24,7 @@ static REFUSED: [Run; 9] = [
     },
     // it is an aim, and of another task
     Run {
-        document: TWO_RATES,
+        document: Document::TwoRates,
         count: Count::All,
         script: Script::None,
         after: 0,
@@ -38,7 +38,7 @@ static REFUSED: [Run; 9] = [
         },
     },
     Run {
-        document: TWO_RATES,
+        document: Document::TwoRates,
         count: Count::All,
         script: Script::None,
         after: 0,
@@ -53,7 +53,7 @@ static REFUSED: [Run; 9] = [
     },
     // the task is to start, kind 5
     Run {
-        document: TWO_RATES,
+        document: Document::TwoRates,
         count: Count::All,
         script: Script::None,
         after: 0,
@@ -67,7 +67,7 @@ static REFUSED: [Run; 9] = [
         },
     },
     Run {
-        document: THREE_RATES,
+        document: Document::ThreeRates,
         count: Count::All,
         script: Script::None,
         after: 0,
@@ -82,7 +82,7 @@ static REFUSED: [Run; 9] = [
     },
     // all is released, and a isn't known to have ended
     Run {
-        document: TWO_RATES,
+        document: Document::TwoRates,
         count: Count::All,
         script: Script::Waiting,
         after: 5,
@@ -97,7 +97,7 @@ static REFUSED: [Run; 9] = [
     },
     // a has ended, and b still claims its slot over link 0
     Run {
-        document: TWO_RATES,
+        document: Document::TwoRates,
         count: Count::All,
         script: Script::Waiting,
         after: 18,
@@ -112,7 +112,7 @@ static REFUSED: [Run; 9] = [
     },
     // a is ranked above b and hasn't ended
     Run {
-        document: TWO_RATES,
+        document: Document::TwoRates,
         count: Count::Ranked,
         script: Script::Waiting,
         after: 5,
@@ -127,7 +127,7 @@ static REFUSED: [Run; 9] = [
     },
     // a is to end, kind 12
     Run {
-        document: TWO_RATES,
+        document: Document::TwoRates,
         count: Count::All,
         script: Script::Waiting,
         after: 16,

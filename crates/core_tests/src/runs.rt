@@ -9,11 +9,11 @@ use dbp_plan::{Plan, Row};
 use std::alloc::Global;
 use std::process::Abort;
 use std::test::Fail;
-use test_inputs::plan_in;
+use test_inputs::{Document, plan_in};
 
 // Steps from the start of a document's plan, the first so many of a script, and what is seen after them.
 pub(crate) struct Run {
-    pub(crate) document: &'static str,
+    pub(crate) document: Document,
     pub(crate) count: Count,
     pub(crate) script: Script,
     pub(crate) after: usize,
@@ -148,7 +148,7 @@ fn make_and_compare(
 
 // Makes the steps, and compares what is seen after them. This alone owns a core: a drop of one is a long proof.
 pub(crate) fn check(rt: &impl Abort, alloc: Global, run: &Run) -> Result<(), Fail> {
-    let plan = plan_in(alloc, run.document)?;
+    let plan = plan_in(alloc, run.document.text())?;
     let mut core = Core::new(alloc, plan, run.count)?;
     make_and_compare(rt, alloc, &mut core, run)
 }

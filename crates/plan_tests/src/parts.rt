@@ -1,17 +1,24 @@
 // Lists and expressions.
 
 use dbp_plan::{BinOp, Expr, List, Node, UnOp};
+use std::alloc::Global;
 use std::test::Fail;
+
+fn grow(list: &mut List<i64>) -> Result<(), Fail> {
+    list.push(7)?;
+    list.push(8)?;
+    list.extend_from_slice(&[9, 7])?;
+    Ok(())
+}
+
+static GROWN: &[i64] = &[7, 8, 9, 7];
 
 #[test]
 fn lists_grow(rt: HostRuntime) -> Result<(), Fail> {
     let mut list = List::new(rt.alloc());
-    list.push(7)?;
-    list.push(8)?;
-    assert_eq!(rt; list.items(), [7, 8].as_slice());
-    assert_eq!(rt; list.copied()?.items(), [7, 8].as_slice());
-    list.extend_from_slice(&[9, 7])?;
-    assert_eq!(rt; list.items(), [7, 8, 9, 7].as_slice());
+    grow(&mut list)?;
+    assert_eq!(rt; list.items(), GROWN);
+    assert_eq!(rt; list.copied()?.items(), GROWN);
     Ok(())
 }
 
@@ -26,19 +33,32 @@ static NODES: &[Node<u32>] = &[
     Node::Pick(0, 4, 6),
 ];
 
+fn negative(alloc: Global) -> Result<Expr<u32>, Fail> {
+    let place = Expr::variable(alloc, 0)?;
+    Ok(Expr::unary(UnOp::Neg, place)?)
+}
+
+fn two_minus(alloc: Global, right: &Expr<u32>) -> Result<Expr<u32>, Fail> {
+    let two = Expr::number(alloc, 2)?;
+    if two.nodes.len() > 20 || right.nodes.len() > 20 {
+        return Err(Fail::new("too large"));
+    }
+    Ok(Expr::binary(BinOp::Sub, two, right)?)
+}
+
+fn choice_of(alloc: Global, one: &Expr<u32>, other: &Expr<u32>) -> Result<Expr<u32>, Fail> {
+    let condition = Expr::variable(alloc, 1)?;
+    if condition.nodes.len() > 20 || one.nodes.len() > 20 || other.nodes.len() > 20 {
+        return Err(Fail::new("too large"));
+    }
+    Ok(Expr::choice(condition, one, other)?)
+}
+
 #[test]
 fn expressions_are_made_of_their_parts(rt: HostRuntime) -> Result<(), Fail> {
-    let alloc = rt.alloc();
-    let two = Expr::number(alloc, 2)?;
-    let place = Expr::variable(alloc, 0)?;
-    let negative = Expr::unary(UnOp::Neg, place)?;
-    let sum = Expr::binary(BinOp::Sub, two, &negative)?;
-    let condition = Expr::variable(alloc, 1)?;
-    assert_eq!(rt;
-        (condition.nodes.len(), sum.nodes.len(), negative.nodes.len()),
-        (1, 4, 2)
-    );
-    let chosen = Expr::choice(condition, &sum, &negative)?;
+    let negative = negative(rt.alloc())?;
+    let difference = two_minus(rt.alloc(), &negative)?;
+    let chosen = choice_of(rt.alloc(), &difference, &negative)?;
     assert_eq!(rt; chosen.nodes.items(), NODES);
     Ok(())
 }

@@ -9,28 +9,53 @@ use test_inputs::TWO_RATES;
 
 const TWO_RATES_LINES: &str = "0,a,1,1\n0,b,1,10\n2,a,2,2\n3,b,2,20\n4,a,3,3\n";
 
-// How a call with these words ends on a source of such pieces and a sink of such pieces, and what it wrote.
+// A command line of these words.
+fn line_of(alloc: Global, words: &[&str]) -> Result<Vec<String>, Fail> {
+    let mut line = Vec::new(alloc);
+    for word in words {
+        line.push(word.to_string(alloc)?)?;
+    }
+    Ok(line)
+}
+
+// The input in pieces of this size. The read with this number fails.
+fn source_of(alloc: Global, input: &str, (piece, fails): (usize, u32)) -> Result<MemSource, Fail> {
+    let bytes = input.as_bytes().to_vec(alloc)?;
+    let failing = vec![in alloc; fails]?;
+    Ok(MemSource::new(bytes, piece.max(1), failing))
+}
+
+// Room for what is written, in pieces of this size. The write with this number fails.
+fn sink_of(alloc: Global, (piece, fails): (usize, u32)) -> Result<MemSink, Fail> {
+    let room = 1_000;
+    let failing = vec![in alloc; fails]?;
+    let store = Vec::with_capacity(alloc, room)?;
+    Ok(MemSink::new(store, room, piece.max(1), failing))
+}
+
+// How the call ends, and what it wrote.
+fn ended(
+    alloc: Global,
+    line: &[String],
+    source: &mut MemSource,
+    sink: &mut MemSink,
+) -> Result<(Status, Vec<u8>), Fail> {
+    let status = dbp_main(alloc, line, source, sink);
+    Ok((status, sink.bytes().to_vec(alloc)?))
+}
+
+// The same of these words, with the sizes and the failing calls of the source and the sink.
 fn call(
     alloc: Global,
     words: &[&str],
     input: &str,
-    (read, read_fails): (usize, u32),
-    (write, write_fails): (usize, u32),
+    reads: (usize, u32),
+    writes: (usize, u32),
 ) -> Result<(Status, Vec<u8>), Fail> {
-    let mut all = Vec::new(alloc);
-    for word in words {
-        all.push(word.to_string(alloc)?)?;
-    }
-    let mut source = MemSource::new(
-        input.as_bytes().to_vec(alloc)?,
-        read.max(1),
-        vec![in alloc; read_fails]?,
-    );
-    let room = 1_000;
-    let store = Vec::with_capacity(alloc, room)?;
-    let mut sink = MemSink::new(store, room, write.max(1), vec![in alloc; write_fails]?);
-    let status = dbp_main(alloc, &all, &mut source, &mut sink);
-    Ok((status, sink.bytes().to_vec(alloc)?))
+    let line = line_of(alloc, words)?;
+    let mut source = source_of(alloc, input, reads)?;
+    let mut sink = sink_of(alloc, writes)?;
+    ended(alloc, &line, &mut source, &mut sink)
 }
 
 // The size of a read and which one fails, the same of writes, the status and what was written.
@@ -124,13 +149,11 @@ fn commands_are_listed(rt: HostRuntime) -> Result<(), Fail> {
 
 #[test]
 fn a_reader_and_a_writer_of_std_serve(rt: HostRuntime) -> Result<(), Fail> {
-    let alloc = rt.alloc();
-    let mut words = Vec::new(alloc);
-    words.push("mean".to_string(alloc)?)?;
-    let mut written = Vec::<u8>::new(alloc);
+    let line = line_of(rt.alloc(), &["mean"])?;
+    let mut written = Vec::<u8>::new(rt.alloc());
     let mut source = ReadSource::new(b"dbp 1\npolicy fp\nuntil".as_slice());
     let mut sink = WriteSink::new(&mut written);
-    let status = plain_main(alloc, &words, &mut source, &mut sink);
+    let status = plain_main(rt.alloc(), &line, &mut source, &mut sink);
     drop(sink);
     assert_eq!(rt; status, Status::Refused);
     assert_eq!(rt;

@@ -3,11 +3,11 @@
 use crate::starts::{Seen, Start, check};
 use dbp_rules::{Broken, Count, Illegal, Step};
 use std::test::Fail;
-use test_inputs::{THREE_RATES, TWO_RATES};
+use test_inputs::Document;
 
 static REFUSED: [Start; 6] = [
     Start {
-        document: TWO_RATES,
+        document: Document::TwoRates,
         count: Count::All,
         seen: Seen::Releaser {
             after: 0,
@@ -20,7 +20,7 @@ static REFUSED: [Start; 6] = [
         },
     },
     Start {
-        document: TWO_RATES,
+        document: Document::TwoRates,
         count: Count::All,
         seen: Seen::Releaser {
             after: 0,
@@ -33,7 +33,7 @@ static REFUSED: [Start; 6] = [
         },
     },
     Start {
-        document: TWO_RATES,
+        document: Document::TwoRates,
         count: Count::All,
         seen: Seen::Releaser {
             after: 5,
@@ -46,7 +46,7 @@ static REFUSED: [Start; 6] = [
         },
     },
     Start {
-        document: TWO_RATES,
+        document: Document::TwoRates,
         count: Count::All,
         seen: Seen::Releaser {
             after: 0,
@@ -59,7 +59,7 @@ static REFUSED: [Start; 6] = [
         },
     },
     Start {
-        document: TWO_RATES,
+        document: Document::TwoRates,
         count: Count::All,
         seen: Seen::Releaser {
             after: 6,
@@ -72,7 +72,7 @@ static REFUSED: [Start; 6] = [
         },
     },
     Start {
-        document: THREE_RATES,
+        document: Document::ThreeRates,
         count: Count::All,
         seen: Seen::Releaser {
             after: 0,
@@ -97,7 +97,7 @@ fn the_releaser_refuses_by_its_part(rt: HostRuntime) -> Result<(), Fail> {
 // A task that is to start, kind 5, doesn't hear, kind 6.
 static TASK: [Start; 2] = [
     Start {
-        document: TWO_RATES,
+        document: Document::TwoRates,
         count: Count::All,
         seen: Seen::Task {
             step: Step::Hear { task: 1 },
@@ -109,7 +109,7 @@ static TASK: [Start; 2] = [
         },
     },
     Start {
-        document: TWO_RATES,
+        document: Document::TwoRates,
         count: Count::All,
         seen: Seen::Task {
             step: Step::Start { task: 1 },

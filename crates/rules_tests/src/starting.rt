@@ -3,10 +3,10 @@
 use crate::starts::{Seen, Start, check};
 use dbp_rules::Count;
 use std::test::Fail;
-use test_inputs::{THREE_RATES, TWO_RATES};
+use test_inputs::Document;
 
 static WIRED: Start = Start {
-    document: TWO_RATES,
+    document: Document::TwoRates,
     count: Count::All,
     seen: Seen::Wiring,
 };
@@ -17,7 +17,7 @@ fn a_plan_is_wired(rt: HostRuntime) -> Result<(), Fail> {
 }
 
 static STARTED: Start = Start {
-    document: THREE_RATES,
+    document: Document::ThreeRates,
     count: Count::Ranked,
     seen: Seen::State,
 };
@@ -28,7 +28,7 @@ fn a_state_is_started(rt: HostRuntime) -> Result<(), Fail> {
 }
 
 static WORKING: Start = Start {
-    document: THREE_RATES,
+    document: Document::ThreeRates,
     count: Count::All,
     seen: Seen::Works(&[0, 0, -1]),
 };

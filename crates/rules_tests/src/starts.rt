@@ -9,19 +9,19 @@ use dbp_rules::{Count, Illegal, State, Step, Wiring, start_state, wire_plan};
 use std::alloc::Global;
 use std::process::Abort;
 use std::test::Fail;
-use test_inputs::plan_in;
+use test_inputs::{Document, plan_in};
 
 // The start of a document's plan, and what is seen there.
 pub(crate) struct Start {
-    pub(crate) document: &'static str,
+    pub(crate) document: Document,
     pub(crate) count: Count,
     pub(crate) seen: Seen,
 }
 
 pub(crate) enum Seen {
-    // The wiring of `TWO_RATES`.
+    // The wiring of two rates.
     Wiring,
-    // The first state of `THREE_RATES`.
+    // The first state of three rates.
     State,
     // Each task's work starts with a row of one of these words.
     Works(&'static [i64]),
@@ -50,8 +50,8 @@ fn compare(
     requires { LinksFit wiring.now }
 {
     match seen {
-        Seen::Wiring => compare_wiring(rt, wiring.tasks.items()),
-        Seen::State => compare_state(rt, state.tasks.items()),
+        Seen::Wiring => compare_wiring(rt, alloc, wiring.tasks.items()),
+        Seen::State => compare_state(rt, alloc, state.tasks.items()),
         Seen::Works(words) => {
             let found = first_words(alloc, plan.diagram.tasks.items())?;
             assert_eq!(rt; found.as_slice(), *words);
@@ -78,6 +78,6 @@ fn check_plan(rt: &impl Abort, alloc: Global, plan: &Plan, start: &Start) -> Res
 // Compares what is seen at the start. The only calls that own a plan, a wiring and a state are here: each of these that a
 // function drops makes its proof long.
 pub(crate) fn check(rt: &impl Abort, alloc: Global, start: &Start) -> Result<(), Fail> {
-    let plan = plan_in(alloc, start.document)?;
+    let plan = plan_in(alloc, start.document.text())?;
     check_plan(rt, alloc, &plan, start)
 }
