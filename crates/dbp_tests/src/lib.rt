@@ -17,8 +17,6 @@ mod protocol;
 #[cfg(test)]
 mod reading;
 #[cfg(test)]
-mod ready;
-#[cfg(test)]
 mod scripts;
 #[cfg(test)]
 mod timing;
