@@ -53,11 +53,8 @@ step_of Finished = None
 
 -- a number that the step may hear: for a seen one from the known to the aimed one, else any
 abbrev pub MayHear : ReleaserPart → ReleaseStep → ℕ → Type 0
-MayHear r Finished heard = Unit {0}
 MayHear r (Seen i) heard = ReleaserLoads r (step.Seen i) (a_number heard)
-MayHear r (Aim i slot) heard = Unit {0}
-MayHear r (Claim k) heard = Unit {0}
-MayHear r (OpenGate i) heard = Unit {0}
+MayHear r _ heard = Unit {0}
 
 -- the part after the step, for which this number was heard
 abbrev pub after_step : Wiring → ReleaserPart → Option Step → ℕ → ReleaserPart

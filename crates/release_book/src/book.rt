@@ -51,6 +51,13 @@ impl Book {
         next_step(plan, &self.wiring, &self.part)
     }
 
+    /// What the releaser knows: its part of the protocol.
+    pub fn part(&self) -> &ReleaserPart
+        ensures { result.now ≡ part_in self.now }
+    {
+        &self.part
+    }
+
     /// Notes that the step was made that `next` returned. For a `Seen` the number of ended instances that was loaded is
     /// `heard`; else that is any number. It takes no memory.
     pub fn made(&mut self, plan: &Plan, step: ReleaseStep, heard: u32)
