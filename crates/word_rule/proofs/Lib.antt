@@ -1,0 +1,6 @@
+pub mod Showings
+pub mod OwnSteps
+pub mod StepLaws
+pub mod SeatSteps
+pub mod ReleaserCalls
+pub mod TaskCalls

@@ -1,0 +1,4 @@
+pub mod Roles
+pub mod Showing
+pub mod Plays
+pub mod Seats
