@@ -4,3 +4,4 @@ pub mod StepLaws
 pub mod SeatSteps
 pub mod ReleaserCalls
 pub mod TaskCalls
+pub mod FirstNumbers

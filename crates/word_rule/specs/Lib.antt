@@ -2,3 +2,4 @@ pub mod Roles
 pub mod Showing
 pub mod Plays
 pub mod Seats
+pub mod FirstWords
