@@ -5,3 +5,4 @@ pub mod SeatSteps
 pub mod ReleaserCalls
 pub mod TaskCalls
 pub mod FirstNumbers
+pub mod Begins

@@ -2,4 +2,5 @@ pub mod Roles
 pub mod Showing
 pub mod Plays
 pub mod Seats
+pub mod FirstSeats
 pub mod FirstWords

@@ -10,6 +10,7 @@ use Rattle.dbp_rules.specs.SharedWords.{value_in}
 use Rattle.dbp_rules.specs.Sound.{Sound}
 use Rattle.dbp_rules.specs.Start.{start_of}
 use Rattle.dbp_rules.specs.WordRanges.{SlotWordsFit}
+use Rattle.dbp_rules.specs.declared.parts.TaskPart.{TaskPart}
 use Rattle.dbp_rules.specs.declared.state.State.{State}
 use Rattle.word_rule.specs.Roles.{meaning_row, run_wiring}
 use Rattle.word_rule.specs.declared.views.Role.{Role}
@@ -27,6 +28,10 @@ ShowsRole split s zero (Releaser r seats) = (r ≡ s.releaser) × (seats ≡ spl
 ShowsRole split s (suc j) (Task i t) = (i ≡ j) × (t ≡ (task s i).part)
 ShowsRole split s _ _ = ⊥
 
+-- a task's part before its first step
+abbrev pub first_part : TaskPart
+first_part = no_task.part
+
 -- the words and views show the state: each word of the table has its number, each seat its party's part, and a task
 -- without a seat has its first part
 pub record Shows (p : Plan) (words : List ℕ) (views : List View) (split : ℕ) (s : State) : Type 0 where
@@ -35,7 +40,7 @@ pub record Shows (p : Plan) (words : List ℕ) (views : List View) (split : ℕ)
   pub seats : length views ≡ suc split
   pub few : split ≤ length p.diagram.tasks
   pub each_seat : (k : ℕ) (v : View) → get_elem? views k ≡ some v → (v.plan ≡ p) × ShowsRole split s k v.role
-  pub no_seat : (i : ℕ) → split ≤ i → (task s i).part ≡ no_task.part
+  pub no_seat : (i : ℕ) → split ≤ i → (task s i).part ≡ first_part
 
 -- the rule
 pub record Keeps (p : Plan) (t : TableState) : Type 0 where
@@ -60,7 +65,7 @@ abbrev pub with_seat_split : View → View
 with_seat_split v = record v { role = role_with_seat_split v.role }
 
 abbrev pub role_of_next_task : Role → Role
-role_of_next_task (Releaser r seats) = Task seats no_task.part
+role_of_next_task (Releaser r seats) = Task seats first_part
 role_of_next_task (Task i t) = Task i t
 
 abbrev pub view_of_next_task : View → View

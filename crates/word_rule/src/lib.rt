@@ -2,6 +2,7 @@
 //! two steps words and seats show a sound state of the protocol.
 #![tactic(auto)]
 
+mod begin;
 mod first_words;
 mod plays;
 mod releaser_calls;
