@@ -1,8 +1,9 @@
 -- The table before the first step keeps the rule, and so does the split of a seat.
-use Rattle.std.proofs.Common.{◌≡◌, ◌≢◌, ◌⊎◌, inl, inr, ⊎_elim, ℕ, zero, suc, ◌+◌, ◌<◌, ◌≤◌, List, [], ◌∷◌, ◌++◌, length, set, get_or, refl, sym, ap, ◌∙◌, subst, arith, length-set, length-append}
+use Rattle.std.proofs.Common.{◌≡◌, ◌≢◌, ◌⊎◌, inl, inr, ⊎_elim, ℕ, zero, suc, ◌+◌, ◌<◌, ◌≤◌, List, [], ◌∷◌, ◌++◌, length, set, get_or, slice_get, Some, refl, sym, ap, ◌∙◌, subst, arith, length-set, length-append}
 use Rattle.std.proofs.lemmas.List.FromFn.{get_or-map-range_with_len}
 use Rattle.std.proofs.Math.ListN.{get_or-eq_default}
 use Rattle.std.proofs.lemmas.Bool.{cases_lt}
+use Rattle.std.proofs.lemmas.Option.{same_Some}
 use mathlib.Core.Option.{some, none, some-ne-none, some-injective}
 use lib.ListN.{get_elem?}
 use Rattle.atomic_table.specs.Table.{State as Table, opening, Splits}
@@ -28,7 +29,7 @@ use Rattle.dbp_rules.proofs.StartNumbers.{starts_with}
 use Rattle.dbp_rules.proofs.Wirings.{wiring-whole}
 use Rattle.dbp_rules.proofs.WordRanges.{start_fits}
 use Rattle.word_rule.specs.FirstWords.{HasFirstNumbers}
-use Rattle.word_rule.specs.Plays.{IsReleaser, IsTask, seats_split}
+use Rattle.word_rule.specs.Plays.{IsReleaser, Seated, seats_split}
 use Rattle.word_rule.specs.Roles.{meaning_row, run_wiring}
 use Rattle.word_rule.specs.Showing.{Keeps, ShowsRole, first_part, first_view, view_of_next_task, with_seat_split}
 use Rattle.word_rule.specs.declared.views.Role.{Role}
@@ -115,3 +116,15 @@ splits p id v c r plan is room t h there =
       sound = h.sound;
       fit = h.fit;
     }
+
+-- the first seat is the releaser's
+pub first_seat : (p : Plan) (me : Seated) (part : ReleaserPart) → me ≡ (first_view p, []) → part ≡ (start_of p (run_wiring p)).releaser → IsReleaser me part
+first_seat p me part is read =
+    subst (λ (y : Seated × ReleaserPart). IsReleaser y.0 y.1) (λ i. (sym is i, sym read i)) (record { role = refl; no_slots = refl; shape = first_releaser p })
+
+-- one item more at the end
+pub get_push : {A : Type 0} (xs : List A) (x s : A) (i : ℕ) → slice_get (xs ++ x ∷ []) i ≡ Some s → (slice_get xs i ≡ Some s) ⊎ ((i ≡ length xs) × (x ≡ s))
+get_push [] x s zero e = inr (refl, same_Some x s e)
+get_push [] x s (suc i) e = absurd (cc (e))
+get_push (y ∷ ys) x s zero e = inl e
+get_push (y ∷ ys) x s (suc i) e = ⊎_elim inl (λ t. inr (ap suc t.0, t.1)) (get_push ys x s i e)

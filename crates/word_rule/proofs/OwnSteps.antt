@@ -7,7 +7,7 @@ use Rattle.std.specs.Int.{w64}
 use Rattle.dbp_plan.specs.declared.plan.Plan.{Plan}
 use Rattle.dbp_slots.specs.TableWords.{IsWord, Sizes, TableWord, address_of, sizes_of}
 use Rattle.dbp_rules.specs.LoadedWords.{loaded_by, loaded_in, loaded_of, number_of_releaser, number_of_task, number_to_load, stored_number}
-use Rattle.dbp_rules.specs.PartyRules.{Loaded, releaser_after, releaser_refusal, task_after, task_refusal}
+use Rattle.dbp_rules.specs.PartyRules.{Loaded, no_word, releaser_after, releaser_refusal, task_after, task_refusal}
 use Rattle.dbp_rules.specs.Places.{no_task, task, wired}
 use Rattle.dbp_rules.specs.Rules as rule
 use Rattle.dbp_rules.specs.SharedWords.{made_by, maker_part, stored_by, stored_in, value_in}
@@ -64,6 +64,21 @@ stores_alone w t (Shut i) q is = refl
 stores_alone w t (Put i port) q is = refl
 stores_alone w t (Done i) q is = refl
 stores_alone w t (End i) q is = refl
+
+-- and hears nothing
+pub stores_silent : (t : TaskPart) (e : Step) (q : TableWord) → stored_in t e ≡ Some q → loaded_of e 0 ≡ no_word
+stores_silent t (Seen i) q is = absurd (cc (is))
+stores_silent t (Aim i slot) q is = refl
+stores_silent t (Claim k) q is = refl
+stores_silent t (OpenGate i) q is = refl
+stores_silent t (Start i) q is = absurd (cc (is))
+stores_silent t (Hear i) q is = absurd (cc (is))
+stores_silent t (Look i r) q is = absurd (cc (is))
+stores_silent t (Take i r) q is = absurd (cc (is))
+stores_silent t (Shut i) q is = refl
+stores_silent t (Put i port) q is = refl
+stores_silent t (Done i) q is = refl
+stores_silent t (End i) q is = refl
 
 module _ (p : Plan) (split : ℕ) (s : State) (sound : Sound p (run_wiring p) (meaning_row p) s) (fit : SlotWordsFit s) (id : ℕ) where
   few_slots : (i : ℕ) → i < length (run_wiring p).tasks → (wired (run_wiring p) i).slots < 2 ^ 32

@@ -12,9 +12,9 @@ use Rattle.release_list.specs.declared.release.Release.TheVariants as release
 use Rattle.dbp_rules.specs.LoadedWords.{loaded_of, number_of_releaser, order_of, sizes_of_wiring}
 use Rattle.dbp_rules.specs.Moves.{claim_order}
 use Rattle.dbp_rules.specs.PartyRules.{Loaded, a_number, next_claim, no_word, release_kind, releaser_after, releaser_refusal}
-use Rattle.dbp_rules.specs.PartyShapes.{ReleaserLoads, ReleaserShape}
+use Rattle.dbp_rules.specs.PartyShapes.{IsNamedIn, LinksFit, ReleaserLoads, ReleaserShape}
 use Rattle.dbp_rules.specs.Places.{entry_in, link, wired}
-use Rattle.dbp_rules.specs.Rules.{IsNamed}
+use Rattle.dbp_rules.specs.Rules.{IsNamed, IsNamedWithin}
 use Rattle.dbp_rules.specs.SharedWords.{made_by, order_value}
 use Rattle.dbp_rules.specs.Shapes.{IsWired}
 use Rattle.dbp_rules.specs.declared.parts.Order.{Order}
@@ -26,11 +26,13 @@ use Rattle.dbp_rules.specs.declared.step.Step.TheVariants.{Seen, Aim, Claim, Ope
 use Rattle.dbp_rules.specs.declared.wiring.Wiring.{Wiring}
 use Rattle.dbp_rules.proofs.Aims.{IsAllowedAim, aim_allowed}
 use Rattle.dbp_rules.proofs.Allowed.{at_claim, at_open, next_none}
+use Rattle.dbp_rules.proofs.Parties.{links_fit}
 use Rattle.dbp_rules.proofs.TableSizes.{same_sizes, slots_few, task_count}
 use Rattle.dbp_rules.proofs.WiringParts.{wired_tasks}
 use Rattle.dbp_rules.proofs.Wirings.{wiring-whole}
 use Rattle.dbp_rules.proofs.WordNumbers.{order_back}
 use Rattle.std.proofs.lemmas.Option.{slice_get_within}
+use Rattle.word_rule.specs.OwnSteps.{IsOwnStep}
 use Rattle.word_rule.specs.Plays.{Aims, Claims, IsReleaser, Makes, OneStep, Opens, Seated, Sees, seats_split}
 use Rattle.word_rule.specs.Roles.{PutFits, RoleLoads, RoleShape, number_stored, role_after, role_refusal, run_wiring, task_of, word_loaded, word_stored}
 use Rattle.word_rule.specs.Seats.{ReleaserSits}
@@ -40,7 +42,7 @@ use Rattle.word_rule.specs.declared.seats.SlotWords.{SlotWords}
 use Rattle.word_rule.specs.declared.views.Role.{Role}
 use Rattle.word_rule.specs.declared.views.Role.TheVariants.{Releaser, Task}
 use Rattle.word_rule.specs.declared.views.View.{View}
-use Rattle.word_rule.proofs.SeatSteps.{IsOwnStep, may_load, may_store, same_links, same_tasks, sizes_are, wiring_is}
+use Rattle.word_rule.proofs.SeatSteps.{may_load, may_store, same_links, same_tasks, sizes_are, wiring_is}
 
 -- what a releaser's seat has after its step
 pub releaser_then : (me new : Seated) (r : ReleaserPart) (e : Step) (l : Loaded) → IsReleaser me r → OneStep me new → Makes e l me new → IsReleaser new (releaser_after (run_wiring me.0.plan) r e l)
@@ -76,7 +78,7 @@ module _ (w : SlotWords) (s : ReleaserSeat) (here : ReleaserSits w s) where
   task_word : (i : ℕ) → i < length w.plan.diagram.tasks → i < length (sizes_of p.diagram).tasks
   task_word i below = let a = task_below i below in let b = ap (λ (x : Sizes). length x.tasks) (same_sizes p) in let c = task_count o in omega arith
 
-  own : (e : Step) → IsNamed w.plan.diagram e → made_by e ≡ None → releaser_refusal w.wiring s.part e ≡ None → IsOwnStep me e
+  own : (e : Step) → IsNamed w.plan.diagram e → made_by e ≡ None → releaser_refusal w.wiring s.part e ≡ None → IsOwnStep p s.seat.me.0 e
   own e named mine free = record {
     named = subst (λ (x : Plan). IsNamed x.diagram e) (sym here.1) named;
     mine = mine ∙ ap task_of (sym s.same.role);
@@ -235,3 +237,22 @@ module _ (w : SlotWords) (s : ReleaserSeat) (here : ReleaserSits w s) where
     open_then x a slots new part at opens is =
         let makes : Makes (OpenGate i) no_word me new = opens.makes i (let n = same_tasks w me here.1 in omega arith) at in
         subst (IsReleaser new) (sym is) (releaser_then me new s.part (OpenGate i) no_word s.same opens.one makes)
+
+-- ---- refusals
+
+module _ (w : SlotWords) where
+  abbrev whole_wiring : IsWired w.plan (run_wiring w.plan)
+  whole_wiring = wiring-whole w.plan All
+
+  pub links_in : LinksFit w.wiring
+  links_in = rw w.wired (links_fit w.plan (run_wiring w.plan) whole_wiring)
+
+  pub named_in : (e : Step) → IsNamed w.plan.diagram e → IsNamedIn w.wiring e
+  named_in e named =
+      rw w.wired (subst (λ (y : ℕ × ℕ). IsNamedWithin y.0 y.1 e) (λ i. (sym whole_wiring.tasks i, sym (ap (λ (l : List Link). length l) whole_wiring.links) i)) named)
+
+pub entries_in : (w : SlotWords) (s : ReleaserSeat) → ReleaserSits w s → length s.part.tasks ≡ length w.wiring.tasks
+entries_in w s here = s.same.shape.entries ∙ ap (λ (x : Wiring). length x.tasks) (wiring_is w s.seat.me here.1)
+
+pub claims_in : (w : SlotWords) (s : ReleaserSeat) → ReleaserSits w s → length s.part.links ≡ length w.wiring.links
+claims_in w s here = s.same.shape.links ∙ ap (λ (x : Wiring). length x.links) (wiring_is w s.seat.me here.1)

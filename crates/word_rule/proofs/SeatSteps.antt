@@ -12,21 +12,15 @@ use Rattle.dbp_rules.specs.Rules.{IsNamed}
 use Rattle.dbp_rules.specs.SharedWords.{made_by}
 use Rattle.dbp_rules.specs.declared.step.Step.{Step}
 use Rattle.dbp_rules.specs.declared.wiring.Wiring.{Wiring}
+use Rattle.word_rule.specs.OwnSteps.{IsOwnStep, view_after}
 use Rattle.word_rule.specs.Plays.{Makes, OneStep, Seated}
 use Rattle.word_rule.specs.Roles.{PutFits, number_stored, role_refusal, run_wiring, task_of, word_loaded, word_stored}
 use Rattle.word_rule.specs.Showing.{Keeps}
 use Rattle.word_rule.specs.declared.seats.SlotWords.{SlotWords}
 use Rattle.word_rule.specs.declared.views.View.{View}
-use Rattle.word_rule.proofs.StepLaws.{keeps_loaded, keeps_stored, loaded_there, nothing_there, range_after, shape_after, view_after}
+use Rattle.word_rule.proofs.StepLaws.{keeps_loaded, keeps_stored, loaded_there, nothing_there, range_after, shape_after}
 
--- the step is one of the seat's party, which its part allows
-pub record IsOwnStep (me : Seated) (e : Step) : Type 0 where
-  pub named : IsNamed me.0.plan.diagram e
-  pub mine : made_by e ≡ task_of me.0.role
-  pub free : role_refusal (run_wiring me.0.plan) me.0.role e ≡ None
-  pub put : PutFits me.0.plan me.0.role e
-
-module _ (slots id : ℕ) (me : Seated) (e : Step) (own : IsOwnStep me e) (q : TableWord) where
+module _ (slots id : ℕ) (me : Seated) (e : Step) (own : IsOwnStep me.0.plan me.0 e) (q : TableWord) where
   abbrev v : View
   v = me.0
 
@@ -91,7 +85,7 @@ module _ (w : SlotWords) (me : Seated) (here : me.0.plan ≡ w.plan) where
       let size = w.sized ∙ ap (λ (x : Plan). word_count (sizes_of x.diagram)) (sym here) in
       omega arith
 
-  module _ (slots id : ℕ) (e : Step) (own : IsOwnStep me e) (q : TableWord) (inside : IsWord (sizes_of me.0.plan.diagram) q) (a : ℕ) (at : a ≡ address_of (sizes_of me.0.plan.diagram) q) where
+  module _ (slots id : ℕ) (e : Step) (own : IsOwnStep me.0.plan me.0 e) (q : TableWord) (inside : IsWord (sizes_of me.0.plan.diagram) q) (a : ℕ) (at : a ≡ address_of (sizes_of me.0.plan.diagram) q) where
     -- what a load of the table requires, where its play at the address is `then`
     pub may_load : word_loaded (run_wiring me.0.plan) me.0.role e ≡ Some q → (then : ℕ → ℕ → Seated → Type 0)
         → ((x : ℕ) (new : Seated) → OneStep me new → Makes e (loaded_of e x) me new → then (address_of (sizes_of me.0.plan.diagram) q) x new)

@@ -14,7 +14,7 @@ use Rattle.dbp_slots.proofs.Spots.{one_word, word_inside}
 use Rattle.sync_meaning.proofs.OneMeaning.{meaning_solves}
 use Rattle.sync_meaning.specs.SomeMeaning.{meaning_of, meaning_of-is}
 use Rattle.dbp_rules.specs.LoadedWords.{loaded_by, loaded_in, loaded_of}
-use Rattle.dbp_rules.specs.PartyRules.{Loaded}
+use Rattle.dbp_rules.specs.PartyRules.{Loaded, no_word}
 use Rattle.dbp_rules.specs.Places.{no_task, task}
 use Rattle.dbp_rules.specs.Rules as rule
 use Rattle.dbp_rules.specs.SharedWords.{KeepsOtherParts, KeepsOtherWords, made_by, stored_by, stored_in, value_in}
@@ -27,17 +27,14 @@ use Rattle.dbp_rules.proofs.Parties.{releaser_in_shape, task_in_shape}
 use Rattle.dbp_rules.proofs.SoundKept.{sound_kept}
 use Rattle.dbp_rules.proofs.StoredWords.{parts_kept, words_kept}
 use Rattle.dbp_rules.proofs.WordRanges.{step_fits}
+use Rattle.word_rule.specs.OwnSteps.{view_after}
 use Rattle.word_rule.specs.Roles.{PutFits, RoleLoads, RoleShape, meaning_row, number_stored, role_after, role_refusal, run_wiring, task_of, task_part_of, word_loaded, word_stored}
 use Rattle.word_rule.specs.Showing.{Keeps, Shows, ShowsRole, TableState}
 use Rattle.word_rule.specs.declared.views.Role.{Role}
 use Rattle.word_rule.specs.declared.views.Role.TheVariants.{Releaser, Task}
 use Rattle.word_rule.specs.declared.views.View.{View}
-use Rattle.word_rule.proofs.OwnSteps.{allowed, in_range, loads_alone, loads_from, loads_nothing, loads_word, maker, moved, number_is, put_fits, stores_alone, stores_number, stores_word}
+use Rattle.word_rule.proofs.OwnSteps.{allowed, in_range, loads_alone, loads_from, loads_nothing, loads_word, maker, moved, number_is, put_fits, stores_alone, stores_number, stores_silent, stores_word}
 use Rattle.word_rule.proofs.Showings.{seat_is, seat_of, task_named, task_split}
-
--- the view of a seat whose party has made the step, which loaded l
-abbrev pub view_after : Plan → View → Step → Loaded → View
-view_after p v e l = record v { role = role_after (run_wiring p) v.role e l; steps = v.steps + 1 }
 
 -- a seat's party keeps its task
 same_task : (p : Plan) (v : Role) (e : Step) (l : Loaded) → task_of (role_after (run_wiring p) v e l) ≡ task_of v
@@ -186,3 +183,7 @@ module _ (p : Plan) (t : TableState) (h : Keeps p t) (id : ℕ) (v : View) (ther
 
     pub keeps_stored : Keeps p (record { words = set t.words (address_of (sizes_of p.diagram) q) (number_stored p v.role e); homes = t.homes; views = set t.views id (view_after p v e (loaded_of e 0)) })
     keeps_stored = keeps_after (loaded_of e 0) nothing_there (set t.words (address_of (sizes_of p.diagram) q) (number_stored p v.role e)) (length-set t.words _ _) one_word_changed
+
+    -- a step that stores hears nothing
+    pub keeps_stored_plainly : Keeps p (record { words = set t.words (address_of (sizes_of p.diagram) q) (number_stored p v.role e); homes = t.homes; views = set t.views id (view_after p v e no_word) })
+    keeps_stored_plainly = rw (← (stores_silent (task_part_of v.role) e q stores)) keeps_stored

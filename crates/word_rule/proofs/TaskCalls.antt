@@ -28,6 +28,7 @@ use Rattle.dbp_rules.proofs.Allowed.{at_next}
 use Rattle.dbp_rules.proofs.TableSizes.{same_sizes, task_count}
 use Rattle.dbp_rules.proofs.WiringParts.{wired_tasks}
 use Rattle.dbp_rules.proofs.Wirings.{wiring-whole}
+use Rattle.word_rule.specs.OwnSteps.{IsOwnStep}
 use Rattle.word_rule.specs.Plays.{Hears, IsTask, Makes, OneStep, Seated, Starts}
 use Rattle.word_rule.specs.Roles.{PutFits, RoleLoads, RoleShape, role_after, role_refusal, run_wiring, task_of, task_part_of, word_loaded}
 use Rattle.word_rule.specs.Seats.{TaskSits}
@@ -36,7 +37,7 @@ use Rattle.word_rule.specs.declared.seats.SlotWords.{SlotWords}
 use Rattle.word_rule.specs.declared.seats.TaskSeat.{TaskSeat}
 use Rattle.word_rule.specs.declared.views.Role.{Role}
 use Rattle.word_rule.specs.declared.views.Role.TheVariants.{Releaser, Task}
-use Rattle.word_rule.proofs.SeatSteps.{IsOwnStep, may_load, same_links, same_tasks, sizes_are, wiring_is}
+use Rattle.word_rule.proofs.SeatSteps.{may_load, same_links, same_tasks, sizes_are, wiring_is}
 
 -- what a task's seat has after its step
 pub task_then : (me new : Seated) (i : ℕ) (t : TaskPart) (e : Step) (l : Loaded) → IsTask me i t → OneStep me new → Makes e l me new → IsTask new i (task_after (wired (run_wiring me.0.plan) i) t e l)
@@ -107,7 +108,7 @@ module _ (w : SlotWords) (s : TaskSeat) (here : TaskSits w s) where
 
   -- ---- start
 
-  start_own : task_refusal (wired w.wiring s.task) s.part (Start s.task) ≡ None → IsOwnStep me (Start s.task)
+  start_own : task_refusal (wired w.wiring s.task) s.part (Start s.task) ≡ None → IsOwnStep p s.seat.me.0 (Start s.task)
   start_own free = record {
     named = s.same.named;
     mine = sym role_task;
@@ -137,7 +138,7 @@ module _ (w : SlotWords) (s : TaskSeat) (here : TaskSits w s) where
   -- ---- hear
 
   module _ (free : task_refusal (wired w.wiring s.task) s.part (Hear s.task) ≡ None) where
-    hear_own : IsOwnStep me (Hear s.task)
+    hear_own : IsOwnStep p s.seat.me.0 (Hear s.task)
     hear_own = record {
       named = s.same.named;
       mine = sym role_task;

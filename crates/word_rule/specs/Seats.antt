@@ -1,6 +1,8 @@
 -- What ties a seat to its table, and a step to its seat.
-use Rattle.std.specs.Prelude.{◌≡◌, ℕ, ◌+◌, ◌<◌, List, length, slice_get, Some}
-use Rattle.dbp_rules.specs.declared.wiring.Wiring.{Wiring}
+use Rattle.std.specs.Prelude.{◌≡◌, ℕ, ◌+◌, None}
+use Rattle.dbp_rules.specs.PartyRules.{task_refusal}
+use Rattle.dbp_rules.specs.Places.{wired}
+use Rattle.dbp_rules.specs.declared.step.Step.TheVariants.{Start}
 use Rattle.word_rule.specs.declared.seats.ReleaserSeat.{ReleaserSeat}
 use Rattle.word_rule.specs.declared.seats.SlotWords.{SlotWords}
 use Rattle.word_rule.specs.declared.seats.TaskSeat.{TaskSeat}
@@ -33,3 +35,7 @@ pub record TaskSteps (old new : TaskSeat) : Type 0 where
   pub plan : new.seat.me.0.plan ≡ old.seat.me.0.plan
   pub task : new.task ≡ old.task
   pub steps : task_steps new ≡ task_steps old + 1
+
+-- the task may load its gate
+abbrev pub MayStart : SlotWords → TaskSeat → Type 0
+MayStart w s = TaskSits w s × (task_refusal (wired w.wiring s.task) s.part (Start s.task) ≡ None)

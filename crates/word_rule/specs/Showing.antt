@@ -9,6 +9,7 @@ use Rattle.dbp_rules.specs.Places.{no_task, task}
 use Rattle.dbp_rules.specs.SharedWords.{value_in}
 use Rattle.dbp_rules.specs.Sound.{Sound}
 use Rattle.dbp_rules.specs.Start.{start_of}
+use Rattle.dbp_rules.specs.TenParts.{HoldsInTenParts}
 use Rattle.dbp_rules.specs.WordRanges.{SlotWordsFit}
 use Rattle.dbp_rules.specs.declared.parts.TaskPart.{TaskPart}
 use Rattle.dbp_rules.specs.declared.state.State.{State}
@@ -49,6 +50,13 @@ pub record Keeps (p : Plan) (t : TableState) : Type 0 where
   pub shows : Shows p t.words t.views split state
   pub sound : Sound p (run_wiring p) (meaning_row p) state
   pub fit : SlotWordsFit state
+
+-- what the rule says to a reader: the ten parts hold of a state that the words and views show
+pub record ShowsTenParts (p : Plan) (t : TableState) : Type 0 where
+  pub split : ℕ
+  pub state : State
+  pub shows : Shows p t.words t.views split state
+  pub parts : HoldsInTenParts p (run_wiring p) (meaning_row p) state
 
 -- ---- seats before the first step
 
