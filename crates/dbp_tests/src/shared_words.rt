@@ -1,0 +1,116 @@
+// The words that parties share, and their seats: one step after another, each after asking the part of its seat.
+
+ghost use Rattle.std.specs.Prelude.{IsTrue, ◌<◌, length};
+ghost use Rattle.dbp_rules.specs.Rules.{IsNamed};
+ghost use Rattle.word_rule.specs.Seats.{ReleaserSits, TaskSits};
+
+use crate::inputs::{TWO_RATES, plan_in};
+use dbp_rules::{Order, Step};
+use std::process::Abort;
+use std::test::Fail;
+use word_rule::{Opened, ReleaserSeat, SlotWords, TaskSeat};
+
+// Whether the step names a task or a link of the plan.
+fn is_named(words: &SlotWords, step: Step) -> bool
+    ensures { IsTrue result → IsNamed words.now.plan.diagram step }
+{
+    let tasks = words.plan().diagram.tasks.len();
+    match step {
+        Step::Claim { link } => link < words.plan().diagram.links.len(),
+        Step::Aim { task, .. } => task < tasks,
+        Step::OpenGate { task } => task < tasks,
+        _ => false,
+    }
+}
+
+// Makes the step, which stores a word, if the releaser's part allows it.
+fn release(words: &SlotWords, seat: &mut ReleaserSeat, step: Step) -> Result<(), Fail>
+    requires { ReleaserSits words.now seat.old }
+    ensures { ReleaserSits words.now seat.new }
+{
+    if !is_named(words, step) {
+        return Err(Fail::from("unnamed"));
+    }
+    if seat.refusal(words, step).is_some() {
+        return Err(Fail::from("not allowed"));
+    }
+    match step {
+        Step::Aim { task, slot } => words.aim(seat, task, slot),
+        Step::Claim { link } => words.claim(seat, link),
+        Step::OpenGate { task } => words.open_gate(seat, task),
+        _ => return Err(Fail::from("it loads a word")),
+    }
+    Ok(())
+}
+
+// How many instances of the task have ended.
+fn seen(words: &SlotWords, seat: &mut ReleaserSeat, task: u32) -> Result<u32, Fail>
+    requires { ReleaserSits words.now seat.old }
+    ensures { ReleaserSits words.now seat.new }
+{
+    if task < words.plan().diagram.tasks.len() {
+        Ok(words.seen(seat, task))
+    } else {
+        Err(Fail::from("no such task"))
+    }
+}
+
+// What the task's gate says, if its part allows a start.
+fn start(words: &SlotWords, seat: &mut TaskSeat) -> Result<Opened, Fail>
+    requires { TaskSits words.now seat.old }
+    ensures { TaskSits words.now seat.new }
+{
+    let task = seat.task();
+    if seat.refusal(words, Step::Start { task }).is_some() {
+        return Err(Fail::from("not allowed"));
+    }
+    Ok(words.start(seat))
+}
+
+// The task's next order, if its part allows a hear.
+fn hear(words: &SlotWords, seat: &mut TaskSeat) -> Result<Order, Fail>
+    requires { TaskSits words.now seat.old }
+    ensures { TaskSits words.now seat.new }
+{
+    let task = seat.task();
+    if seat.refusal(words, Step::Hear { task }).is_some() {
+        return Err(Fail::from("not allowed"));
+    }
+    Ok(words.hear(seat))
+}
+
+// The first release of both tasks; b starts and hears its orders.
+fn first_release(
+    rt: &impl Abort,
+    words: &SlotWords,
+    releaser: &mut ReleaserSeat,
+    a: &mut TaskSeat,
+    b: &mut TaskSeat,
+) -> Result<(), Fail>
+    requires releaser { ReleaserSits words.now releaser.old }
+    requires a { TaskSits words.now a.old }
+    requires b { TaskSits words.now b.old }
+{
+    release(words, releaser, Step::Aim { task: 0, slot: 0 })?;
+    release(words, releaser, Step::Aim { task: 1, slot: 0 })?;
+    release(words, releaser, Step::Claim { link: 0 })?;
+    assert_eq!(rt; start(words, a)?, Opened::Closed { gate: 0 });
+    assert_eq!(rt; seen(words, releaser, 0)?, 0);
+    release(words, releaser, Step::OpenGate { task: 0 })?;
+    release(words, releaser, Step::OpenGate { task: 1 })?;
+    assert_eq!(rt; start(words, b)?, Opened::Started);
+    let order = Order { slot: 0, number: 1 };
+    assert_eq!(rt; hear(words, b)?, order);
+    assert_eq!(rt; hear(words, b)?, order);
+    Ok(())
+}
+
+#[test]
+fn parties_share_words(rt: HostRuntime) -> Result<(), Fail> {
+    let plan = plan_in(rt.alloc(), TWO_RATES)?;
+    let (words, mut releaser, mut seats) = SlotWords::new(rt.alloc(), plan)?;
+    let [a, b] = seats.items_mut() else {
+        return Err(Fail::from("not two tasks"));
+    };
+    first_release(&rt, &words, &mut releaser, a, b)
+}
