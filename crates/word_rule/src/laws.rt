@@ -1,6 +1,6 @@
 // What the rule of the table says, and that each step of a party keeps it.
 
-ghost use Rattle.std.specs.Prelude.{◌≡◌, ℕ, None, Some, slice_index};
+ghost use Rattle.std.specs.Prelude.{◌≡◌, ℕ, [], None, Some, slice_index};
 ghost use mathlib.Core.Option.{some};
 ghost use lib.ListN.{get_elem?};
 ghost use Rattle.atomic_table.specs.Table.{keeps, stepped};

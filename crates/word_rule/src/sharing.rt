@@ -7,13 +7,22 @@ use crate::seats::{SlotWords, TaskSeat};
 use std::thread;
 use std::thread::Threads;
 
+// The task loads its gate.
+fn load_gate(words: &SlotWords, seat: &mut TaskSeat)
+    requires { MayStart words.now seat.old }
+    ensures { TaskSits words.now seat.new }
+{
+    words.start(seat);
+}
+
 // Each task loads its gate, in a thread of its own.
-fn start_all<R: Threads + Sync>(rt: &R, words: &SlotWords, seats: &mut [TaskSeat])
+fn load_gates<R: Threads + Sync>(rt: &R, words: &SlotWords, seats: &mut [TaskSeat])
     requires { All (MayStart words.now) seats.old }
     ensures { All (TaskSits words.now) seats.new }
 {
+    if seats.is_empty() {
+        return;
+    }
     let threads = seats.len();
-    thread::for_each_mut(rt, seats, threads, &|_, seat| {
-        words.start(seat);
-    });
+    thread::for_each_mut(rt, seats, threads, &|_, seat| load_gate(words, seat));
 }
