@@ -6,3 +6,4 @@ pub mod ReleaserCalls
 pub mod TaskCalls
 pub mod FirstNumbers
 pub mod Begins
+pub mod WorkCalls

@@ -1,14 +1,18 @@
 -- A step that its party's part allows is one of the state that the table shows: what it loads, what it stores, and what it
 -- makes of the part.
-use Rattle.std.proofs.Common.{◌≡◌, ◌≢◌, ℕ, zero, suc, ℤ, pos, ◌+◌, ◌^◌, ◌<◌, ◌≤◌, List, length, get_or, Option, Some, None, refl, sym, ◌∙◌, ap, subst, arith}
+use Rattle.std.proofs.Common.{◌≡◌, ◌≢◌, ℕ, zero, suc, ℤ, pos, ◌+◌, ◌^◌, ◌<◌, ◌≤◌, List, length, get_or, Option, Some, None, true, inl, inr, refl, sym, ◌∙◌, ap, subst, arith}
+use Rattle.std.proofs.lemmas.Bool.{cases_Bool}
 use Rattle.std.proofs.lemmas.Option.{same_Some}
 use Rattle.std.specs.Prelude.{FitsSigned, slice_index_or}
 use Rattle.std.specs.Int.{w64}
 use Rattle.dbp_plan.specs.declared.plan.Plan.{Plan}
+use Rattle.dbp_plan.specs.Lookups.{declared, no_read}
+use Rattle.sync_meaning.specs.SomeMeaning.{meaning_of, meaning_of-is}
 use Rattle.dbp_slots.specs.TableWords.{IsWord, Sizes, TableWord, address_of, sizes_of}
 use Rattle.dbp_rules.specs.LoadedWords.{loaded_by, loaded_in, loaded_of, number_of_releaser, number_of_task, number_to_load, stored_number}
-use Rattle.dbp_rules.specs.PartyRules.{Loaded, no_word, releaser_after, releaser_refusal, task_after, task_refusal}
-use Rattle.dbp_rules.specs.Places.{no_task, task, wired}
+use Rattle.dbp_rules.specs.PartyRules.{Loaded, is_stamp_of, no_word, read_order_in, releaser_after, releaser_refusal, task_after, task_refusal, turn_at}
+use Rattle.dbp_rules.specs.Places.{link, no_task, task, wired}
+use Rattle.dbp_rules.specs.Promises.{IsMeant}
 use Rattle.dbp_rules.specs.Rules as rule
 use Rattle.dbp_rules.specs.SharedWords.{made_by, maker_part, stored_by, stored_in, value_in}
 use Rattle.dbp_rules.specs.Sound.{Sound}
@@ -19,17 +23,21 @@ use Rattle.dbp_rules.specs.declared.parts.ReleaserPart.{ReleaserPart}
 use Rattle.dbp_rules.specs.declared.parts.TaskPart.{TaskPart}
 use Rattle.dbp_rules.specs.declared.state.State.{State}
 use Rattle.dbp_rules.specs.declared.step.Count.TheVariants.{All}
+use Rattle.dbp_rules.specs.declared.step.Heard.TheVariants as heard
 use Rattle.dbp_rules.specs.declared.step.Step.{Step}
 use Rattle.dbp_rules.specs.declared.step.Step.TheVariants.{Seen, Aim, Claim, OpenGate, Start, Hear, Look, Take, Shut, Put, Done, End}
 use Rattle.dbp_rules.specs.declared.wiring.Wiring.{Wiring}
 use Rattle.dbp_rules.proofs.LoadedWords.{loaded_inside, loads_number}
 use Rattle.dbp_rules.proofs.Parties.{releaser_in_shape, releaser_loads, releaser_moved, releaser_refused, task_in_shape, task_loads, task_moved, task_refused}
+use Rattle.dbp_rules.proofs.SoundAnswers.{delayed_hears}
+use Rattle.dbp_rules.proofs.SoundOwn.{own_wiring}
 use Rattle.dbp_rules.proofs.StepPlaces.{at_put}
 use Rattle.dbp_rules.proofs.StoredNumbers.{number_stored, stored_inside}
 use Rattle.dbp_rules.proofs.TableSizes.{same_sizes, slots_few}
+use Rattle.dbp_rules.proofs.TakenWords.{take_meant}
 use Rattle.dbp_rules.proofs.WiringParts.{wired_tasks}
 use Rattle.word_rule.specs.Roles as role
-use Rattle.word_rule.specs.Roles.{PutFits, RoleLoads, RoleShape, meaning_row, role_after, role_refusal, run_wiring, task_of, task_part_of, word_loaded, word_stored}
+use Rattle.word_rule.specs.Roles.{PutFits, RoleLoads, RolePromise, meaning_row, role_after, role_refusal, run_wiring, task_of, task_part_of, word_loaded, word_stored}
 use Rattle.word_rule.specs.Showing.{ShowsRole}
 use Rattle.word_rule.specs.declared.views.Role.{Role}
 use Rattle.word_rule.specs.declared.views.Role.TheVariants.{Releaser, Task}
@@ -204,3 +212,45 @@ module _ (p : Plan) (split : ℕ) (s : State) (sound : Sound p (run_wiring p) (m
   put_fits v shown (Shut j) mine below free fits = tt
   put_fits v shown (Done j) mine below free fits = tt
   put_fits v shown (End j) mine below free fits = tt
+
+  -- ---- promises
+
+  one_word : (a b : ℤ) → heard.Word a ≡ heard.Word b → a ≡ b
+  one_word a b e = cc (e)
+
+  ready_is : (i r : ℕ) → rule.hears (run_wiring p) s (Look i r) ≡ heard.Ready → rule.is_ready (run_wiring p) s i (turn_at (task s i).part.place) ≡ true
+  ready_is i r is = elim (cases_Bool (rule.is_ready (run_wiring p) s i (turn_at (task s i).part.place))) [
+    | inl ready ↦ ready
+    | inr isnt ↦ let bad : heard.NotYet ≡ heard.Ready = rw isnt at is in absurd (cc (bad))
+  ]
+
+  take_promised : (i j r : ℕ) (t : TaskPart) → i < length p.diagram.tasks → t ≡ (task s i).part → j ≡ i → rule.refusal (run_wiring p) s (Take j r) ≡ None → IsMeant p (meaning_of p) i (t.ended + 1) r (rule.read_word (run_wiring p) s j (turn_at (task s j).part.place))
+  take_promised i j r t named is one free =
+      let takes = take_meant p (run_wiring p) (meaning_of p) s i r (own_wiring p All) (meaning_of-is p) sound named (subst (λ (k : ℕ). rule.refusal (run_wiring p) s (Take k r) ≡ None) one free) in
+      let word : takes.word ≡ rule.read_word (run_wiring p) s i (turn_at (task s i).part.place) = sym (one_word (rule.read_word (run_wiring p) s i (turn_at (task s i).part.place)) takes.word takes.hears) in
+      subst (λ (k : ℕ). IsMeant p (meaning_of p) i (t.ended + 1) r (rule.read_word (run_wiring p) s k (turn_at (task s k).part.place))) (sym one)
+      (subst (λ (y : TaskPart × ℤ). IsMeant p (meaning_of p) i (y.0.ended + 1) r y.1) (λ z. (sym is z, word z)) takes.meant)
+
+  look_promised : (i j r : ℕ) (t : TaskPart) → i < length p.diagram.tasks → t ≡ (task s i).part → j ≡ i → rule.refusal (run_wiring p) s (Look j r) ≡ None
+      → 0 < (link (run_wiring p) (slice_index_or (declared p i).reads r no_read).link).delay
+      → is_stamp_of (read_order_in (wired (run_wiring p) i) t (turn_at t.place)) (rule.read_slot (run_wiring p) s j (turn_at (task s j).part.place)).stamp ≡ true
+  look_promised i j r t named is one free late =
+      let free_here = subst (λ (k : ℕ). rule.refusal (run_wiring p) s (Look k r) ≡ None) one free in
+      let ready = ready_is i r (delayed_hears p (run_wiring p) (meaning_row p) s (own_wiring p All) sound i r named free_here late) in
+      subst (λ (k : ℕ). is_stamp_of (read_order_in (wired (run_wiring p) i) t (turn_at t.place)) (rule.read_slot (run_wiring p) s k (turn_at (task s k).part.place)).stamp ≡ true) (sym one)
+      (ap (λ (x : TaskPart). is_stamp_of (read_order_in (wired (run_wiring p) i) x (turn_at x.place)) (rule.read_slot (run_wiring p) s i (turn_at (task s i).part.place)).stamp) is ∙ ready)
+
+  pub promised : (v : Role) → ShowsRole split s id v → (e : Step) → made_by e ≡ task_of v → ((i : ℕ) → task_of v ≡ Some i → i < length p.diagram.tasks) → rule.refusal (run_wiring p) s e ≡ None → RolePromise p v e (rule.loaded_value (run_wiring p) s e)
+  promised (Releaser r seats) shown e mine below free = tt
+  promised (Task i t) shown (Take j r) mine below free = take_promised i j r t (below i refl) (task_at split s id i t shown).1 (same_Some j i mine) free
+  promised (Task i t) shown (Look j r) mine below free = look_promised i j r t (below i refl) (task_at split s id i t shown).1 (same_Some j i mine) free
+  promised (Task i t) shown (Seen j) mine below free = tt
+  promised (Task i t) shown (Aim j slot) mine below free = tt
+  promised (Task i t) shown (Claim k) mine below free = tt
+  promised (Task i t) shown (OpenGate j) mine below free = tt
+  promised (Task i t) shown (Start j) mine below free = tt
+  promised (Task i t) shown (Hear j) mine below free = tt
+  promised (Task i t) shown (Shut j) mine below free = tt
+  promised (Task i t) shown (Put j port) mine below free = tt
+  promised (Task i t) shown (Done j) mine below free = tt
+  promised (Task i t) shown (End j) mine below free = tt

@@ -18,7 +18,7 @@ use Rattle.word_rule.specs.Roles.{PutFits, number_stored, role_refusal, run_wiri
 use Rattle.word_rule.specs.Showing.{Keeps}
 use Rattle.word_rule.specs.declared.seats.SlotWords.{SlotWords}
 use Rattle.word_rule.specs.declared.views.View.{View}
-use Rattle.word_rule.proofs.StepLaws.{keeps_loaded, keeps_stored, loaded_there, nothing_there, range_after, shape_after}
+use Rattle.word_rule.proofs.StepLaws.{keeps_loaded, keeps_stored, loaded_there, nothing_there, promise_after, range_after, shape_after}
 
 module _ (slots id : ℕ) (me : Seated) (e : Step) (own : IsOwnStep me.0.plan me.0 e) (q : TableWord) where
   abbrev v : View
@@ -40,6 +40,7 @@ module _ (slots id : ℕ) (me : Seated) (e : Step) (own : IsOwnStep me.0.plan me
         tell x (view_after v.plan v e (loaded_of e x), me.1) (record { plan = refl; steps = refl; slots = refl }) (record {
           part = refl;
           loads = range_after v.plan t h id v there e own.named own.mine own.free own.put (loaded_of e x) is;
+          promise = promise_after v.plan t h id v there e own.named own.mine own.free own.put (loaded_of e x) is;
           shape = shape_after v.plan t h id v there e own.named own.mine own.free own.put (loaded_of e x) is;
         }),
       )
@@ -56,6 +57,7 @@ module _ (slots id : ℕ) (me : Seated) (e : Step) (own : IsOwnStep me.0.plan me
         tell (view_after v.plan v e (loaded_of e 0), me.1) (record { plan = refl; steps = refl; slots = refl }) (record {
           part = refl;
           loads = range_after v.plan t h id v there e own.named own.mine own.free own.put (loaded_of e 0) is;
+          promise = promise_after v.plan t h id v there e own.named own.mine own.free own.put (loaded_of e 0) is;
           shape = shape_after v.plan t h id v there e own.named own.mine own.free own.put (loaded_of e 0) is;
         }),
       )

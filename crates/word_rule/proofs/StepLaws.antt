@@ -28,12 +28,12 @@ use Rattle.dbp_rules.proofs.SoundKept.{sound_kept}
 use Rattle.dbp_rules.proofs.StoredWords.{parts_kept, words_kept}
 use Rattle.dbp_rules.proofs.WordRanges.{step_fits}
 use Rattle.word_rule.specs.OwnSteps.{view_after}
-use Rattle.word_rule.specs.Roles.{PutFits, RoleLoads, RoleShape, meaning_row, number_stored, role_after, role_refusal, run_wiring, task_of, task_part_of, word_loaded, word_stored}
+use Rattle.word_rule.specs.Roles.{PutFits, RoleLoads, RolePromise, RoleShape, meaning_row, number_stored, role_after, role_refusal, run_wiring, task_of, task_part_of, word_loaded, word_stored}
 use Rattle.word_rule.specs.Showing.{Keeps, Shows, ShowsRole, TableState}
 use Rattle.word_rule.specs.declared.views.Role.{Role}
 use Rattle.word_rule.specs.declared.views.Role.TheVariants.{Releaser, Task}
 use Rattle.word_rule.specs.declared.views.View.{View}
-use Rattle.word_rule.proofs.OwnSteps.{allowed, in_range, loads_alone, loads_from, loads_nothing, loads_word, maker, moved, number_is, put_fits, stores_alone, stores_number, stores_silent, stores_word}
+use Rattle.word_rule.proofs.OwnSteps.{allowed, in_range, loads_alone, loads_from, loads_nothing, loads_word, maker, moved, number_is, promised, put_fits, stores_alone, stores_number, stores_silent, stores_word}
 use Rattle.word_rule.proofs.Showings.{seat_is, seat_of, task_named, task_split}
 
 -- a seat's party keeps its task
@@ -87,6 +87,9 @@ module _ (p : Plan) (t : TableState) (h : Keeps p t) (id : ℕ) (v : View) (ther
 
     pub range_after : RoleLoads (run_wiring p) v.role e l
     range_after = rw (← is) (in_range p h.split h.state h.sound h.fit id e named steps v.role shown mine below)
+
+    pub promise_after : RolePromise p v.role e l
+    promise_after = rw (← is) (promised p h.split h.state h.sound h.fit id v.role shown e mine below steps)
 
     pub shape_after : RoleShape p (role_after (run_wiring p) v.role e l)
     shape_after = in_shape p h.split new new_sound id (role_after (run_wiring p) v.role e l) mine_after (λ i at. below i (sym (same_task p v.role e l) ∙ at))

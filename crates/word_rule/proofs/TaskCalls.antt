@@ -72,22 +72,22 @@ module _ (w : SlotWords) (s : TaskSeat) (here : TaskSits w s) where
   abbrev i : ℕ
   i = s.task
 
-  shape : TaskPartShape o s.task s.part
+  pub shape : TaskPartShape o s.task s.part
   shape = s.same.shape
 
   whole : IsWired p o
   whole = wiring-whole p All
 
-  inside : s.task < length o.tasks
+  pub inside : s.task < length o.tasks
   inside = let a = wired_tasks p All in let b = s.same.named in omega arith
 
-  task_wired : IsTaskWired p o s.task (wired o s.task)
+  pub task_wired : IsTaskWired p o s.task (wired o s.task)
   task_wired = whole.each_task s.task inside
 
   pub task_named : s.task < length w.plan.diagram.tasks
   task_named = let a = same_tasks w me here.1 in let b = s.same.named in omega arith
 
-  task_word : s.task < length (sizes_of p.diagram).tasks
+  pub task_word : s.task < length (sizes_of p.diagram).tasks
   task_word = let a = inside in let b = ap (λ (x : Sizes). length x.tasks) (same_sizes p) in let c = task_count o in omega arith
 
   pub task_in_layout : s.task < length (sizes w.layout).tasks
@@ -96,14 +96,14 @@ module _ (w : SlotWords) (s : TaskSeat) (here : TaskSits w s) where
   pub wired_is : wired o s.task ≡ wired w.wiring s.task
   wired_is = ap (λ (x : Wiring). wired x s.task) (wiring_is w me here.1)
 
-  own_free : (e : Step) → task_refusal (wired w.wiring s.task) s.part e ≡ None → task_refusal (wired o s.task) s.part e ≡ None
+  pub own_free : (e : Step) → task_refusal (wired w.wiring s.task) s.part e ≡ None → task_refusal (wired o s.task) s.part e ≡ None
   own_free e free = ap (λ (x : TaskWiring). task_refusal x s.part e) wired_is ∙ free
 
-  role_task : task_of me.0.role ≡ Some s.task
+  pub role_task : task_of me.0.role ≡ Some s.task
   role_task = ap task_of s.same.role
 
   -- the seat's party is one task
-  one_task : (j : ℕ) → task_of me.0.role ≡ Some j → s.task ≡ j
+  pub one_task : (j : ℕ) → task_of me.0.role ≡ Some j → s.task ≡ j
   one_task j is = same_Some s.task j (sym role_task ∙ is)
 
   -- ---- start
@@ -214,3 +214,10 @@ module _ (w : SlotWords) (i : ℕ) (below : i < length w.plan.diagram.tasks) whe
       let same : wired w.wiring i ≡ wired (run_wiring w.plan) i = ap (λ (x : Wiring). wired x i) w.wired in
       let there : link_in (wired (run_wiring w.plan) i) n < length (run_wiring w.plan).links = (whole_wiring.each_task i tasks).into n (let a = ap (λ (x : TaskWiring). length x.links) same in omega arith) in
       let a = ap (λ (x : TaskWiring). link_in x n) same in let b = ap (λ (x : Sizes). x.links) w.laid in let c = ap (λ (l : List Link). length l) whole_wiring.links in omega arith
+
+-- the task is one of the wiring, and its place one of its places
+pub in_wiring : (w : SlotWords) (s : TaskSeat) → TaskSits w s → s.task < length w.wiring.tasks
+in_wiring w s here = let a = inside w s here in let b = ap (λ (x : Wiring). length x.tasks) (wiring_is w s.seat.me here.1) in omega arith
+
+pub place_in : (w : SlotWords) (s : TaskSeat) → TaskSits w s → PlaceIn (wired w.wiring s.task) s.part.place
+place_in w s here = subst (λ (x : TaskWiring). PlaceIn x s.part.place) (wired_is w s here) s.same.shape.place

@@ -1,17 +1,17 @@
 -- What each kind of step tells the seat that makes it, and what a seat knows.
-use Rattle.std.specs.Prelude.{◌≡◌, ℕ, zero, suc, ◌+◌, ◌<◌, ◌≤◌, ◌^◌, List, [], length, Some}
+use Rattle.std.specs.Prelude.{◌≡◌, ℕ, zero, suc, ◌+◌, ◌<◌, ◌≤◌, ◌^◌, List, [], length, Some, None}
 use Rattle.atomic_table.specs.Table.{Me, Step as WordStep}
 use Rattle.dbp_plan.specs.declared.limits.TheConstants.{MAX_OCCURRENCES}
 use Rattle.dbp_plan.specs.declared.plan.Plan.{Plan}
 use Rattle.dbp_slots.specs.TableWords.{TableWord, address_of, aim, claim, ended, gate, sizes_of}
-use Rattle.dbp_rules.specs.LoadedWords.{order_of}
-use Rattle.dbp_rules.specs.PartyRules.{Loaded, a_number, an_order, no_word}
+use Rattle.dbp_rules.specs.LoadedWords.{order_of, value_of_word}
+use Rattle.dbp_rules.specs.PartyRules.{Loaded, a_number, a_value, an_order, no_word}
 use Rattle.dbp_rules.specs.PartyShapes.{ReleaserShape, TaskPartShape}
 use Rattle.dbp_rules.specs.declared.parts.ReleaserPart.{ReleaserPart}
 use Rattle.dbp_rules.specs.declared.parts.TaskPart.{TaskPart}
 use Rattle.dbp_rules.specs.declared.step.Step.{Step}
-use Rattle.dbp_rules.specs.declared.step.Step.TheVariants.{Seen, Aim, Claim, OpenGate, Start, Hear}
-use Rattle.word_rule.specs.Roles.{RoleLoads, RoleShape, role_after, run_wiring, task_of}
+use Rattle.dbp_rules.specs.declared.step.Step.TheVariants.{Seen, Aim, Claim, OpenGate, Start, Hear, Look, Take, Shut, Put, Done, End}
+use Rattle.word_rule.specs.Roles.{RoleLoads, RolePromise, RoleShape, role_after, role_refusal, run_wiring, task_of}
 use Rattle.word_rule.specs.declared.views.Role.{Role}
 use Rattle.word_rule.specs.declared.views.Role.TheVariants.{Releaser, Task}
 use Rattle.word_rule.specs.declared.views.View.{View}
@@ -47,10 +47,11 @@ pub record OneStep (me new : Seated) : Type 0 where
   pub steps : new.0.steps ≡ me.0.steps + 1
   pub slots : new.1 ≡ me.1
 
--- its party has made this step, which loaded l: its part is the next one, and what it loaded is in range
+-- its party has made this step, which loaded l: its part is the next one, and what it loaded is in range and as promised
 pub record Makes (e : Step) (l : Loaded) (me new : Seated) : Type 0 where
   pub part : new.0.role ≡ role_after (run_wiring me.0.plan) me.0.role e l
   pub loads : RoleLoads (run_wiring me.0.plan) me.0.role e l
+  pub promise : RolePromise me.0.plan me.0.role e l
   pub shape : RoleShape me.0.plan new.0.role
 
 -- the address of a word in the seat's table
@@ -88,3 +89,37 @@ pub record Starts (s : WordStep (Unit {0})) (me : Seated) (x : ℕ) (new : Seate
 pub record Hears (s : WordStep (Unit {0})) (me : Seated) (x : ℕ) (new : Seated) : Type 0 where
   pub one : OneStep me new
   pub makes : (i : ℕ) → task_of me.0.role ≡ Some i → Makes (Hear i) (an_order (order_of x)) me new
+
+-- its part allows the step
+abbrev pub Allows : Seated → Step → Type 0
+Allows me e = role_refusal (run_wiring me.0.plan) me.0.role e ≡ None
+
+-- the task has loaded x, the stamp of the slot that it heard of for its next read
+pub record Looks (s : WordStep (Unit {0})) (me : Seated) (x : ℕ) (new : Seated) : Type 0 where
+  pub one : OneStep me new
+  pub makes : (i r : ℕ) → task_of me.0.role ≡ Some i → Allows me (Look i r) → Makes (Look i r) (a_number x) me new
+
+-- it has loaded the word with the number x from there
+pub record Takes (s : WordStep (Unit {0})) (me : Seated) (x : ℕ) (new : Seated) : Type 0 where
+  pub one : OneStep me new
+  pub makes : (i r : ℕ) → task_of me.0.role ≡ Some i → Allows me (Take i r) → Makes (Take i r) (a_value (value_of_word x)) me new
+
+-- it has stamped its slot with 0
+pub record Shuts (s : WordStep (Unit {0})) (me : Seated) (x : ℕ) (new : Seated) : Type 0 where
+  pub one : OneStep me new
+  pub makes : (i : ℕ) → task_of me.0.role ≡ Some i → Makes (Shut i) no_word me new
+
+-- it has stored its next out
+pub record Puts (s : WordStep (Unit {0})) (me : Seated) (x : ℕ) (new : Seated) : Type 0 where
+  pub one : OneStep me new
+  pub makes : (i port : ℕ) → task_of me.0.role ≡ Some i → Allows me (Put i port) → Makes (Put i port) no_word me new
+
+-- it has stamped its slot with its instance
+pub record Finishes (s : WordStep (Unit {0})) (me : Seated) (x : ℕ) (new : Seated) : Type 0 where
+  pub one : OneStep me new
+  pub makes : (i : ℕ) → task_of me.0.role ≡ Some i → Makes (Done i) no_word me new
+
+-- it has told that its instance has ended
+pub record Ends (s : WordStep (Unit {0})) (me : Seated) (x : ℕ) (new : Seated) : Type 0 where
+  pub one : OneStep me new
+  pub makes : (i : ℕ) → task_of me.0.role ≡ Some i → Makes (End i) no_word me new

@@ -1,14 +1,16 @@
 -- The rules of the protocol as a seat's party sees them, from its own part alone.
-use Rattle.std.specs.Prelude.{◌≡◌, ℕ, ℤ, pos, ◌+◌, ◌^◌, FitsSigned, slice_index_or, List, Option, Some, None}
+use Rattle.std.specs.Prelude.{◌≡◌, ℕ, ℤ, pos, ◌+◌, ◌<◌, ◌^◌, true, FitsSigned, slice_index_or, List, Option, Some, None}
 use Rattle.std.specs.Int.{w64}
 use Rattle.dbp_plan.specs.declared.plan.Plan.{Plan}
+use Rattle.dbp_plan.specs.Lookups.{declared, no_read}
 use Rattle.dbp_slots.specs.TableWords.{TableWord}
 use Rattle.sync_meaning.specs.SomeMeaning.{meaning_of}
 use Rattle.sync_meaning.specs.SomeMeaningTables.{rows_in}
-use Rattle.dbp_rules.specs.LoadedWords.{loaded_in, number_of_releaser, number_of_task}
-use Rattle.dbp_rules.specs.PartyRules.{Loaded, releaser_after, releaser_refusal, task_after, task_refusal}
+use Rattle.dbp_rules.specs.LoadedWords.{loaded_in, loaded_word, number_of_releaser, number_of_task}
+use Rattle.dbp_rules.specs.PartyRules.{Loaded, is_stamp_of, loaded_number, read_order_in, releaser_after, releaser_refusal, task_after, task_refusal, turn_at}
 use Rattle.dbp_rules.specs.PartyShapes.{ReleaserLoads, ReleaserShape, TaskLoads, TaskPartShape}
-use Rattle.dbp_rules.specs.Places.{no_task, wired}
+use Rattle.dbp_rules.specs.Places.{link, no_task, wired}
+use Rattle.dbp_rules.specs.Promises.{IsMeant}
 use Rattle.dbp_rules.specs.SharedWords.{stored_in}
 use Rattle.dbp_rules.specs.Wired.{wiring_of}
 use Rattle.dbp_rules.specs.declared.parts.TaskPart.{TaskPart}
@@ -74,3 +76,11 @@ RoleLoads w (Task i t) e l = TaskLoads w i t e l
 abbrev pub RoleShape : Plan → Role → Type 0
 RoleShape p (Releaser r seats) = ReleaserShape p (run_wiring p) r
 RoleShape p (Task i t) = TaskPartShape (run_wiring p) i t
+
+-- What the protocol promises of what it loads: a take loads the word that the meaning gives its read in the running
+-- instance, and a look over a delayed link finds its row.
+abbrev pub RolePromise : Plan → Role → Step → Loaded → Type 0
+RolePromise p (Task i t) (Take j r) l = IsMeant p (meaning_of p) i (t.ended + 1) r (loaded_word l)
+RolePromise p (Task i t) (Look j r) l = 0 < (link (run_wiring p) (slice_index_or (declared p i).reads r no_read).link).delay
+    → is_stamp_of (read_order_in (wired (run_wiring p) i) t (turn_at t.place)) (loaded_number l) ≡ true
+RolePromise p _ _ _ = Unit {0}

@@ -11,10 +11,11 @@ mod releaser_calls;
 mod seats;
 mod sharing;
 mod task_calls;
+mod work_calls;
 mod views;
 
 pub use laws::{
     a_step_that_loads_keeps_the_rule, a_step_that_stores_keeps_the_rule, the_rule_has_ten_parts,
 };
-pub use seats::{Opened, ReleaserSeat, SlotWords, TaskSeat};
+pub use seats::{Look, Opened, ReleaserSeat, SlotWords, TaskSeat};
 pub use views::{Role, SoundWords, View};

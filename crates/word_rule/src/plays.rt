@@ -56,3 +56,57 @@ impl Play<(), View> for HearPlay {
 
     ghost then = { Hears };
 }
+
+// A task loads the stamp of the slot that it heard of for its next read.
+pub(crate) struct LookPlay;
+
+impl Play<(), View> for LookPlay {
+    ghost use Rattle.word_rule.specs.Plays.{Looks};
+
+    ghost then = { Looks };
+}
+
+// A task loads the word of its next read.
+pub(crate) struct TakePlay;
+
+impl Play<(), View> for TakePlay {
+    ghost use Rattle.word_rule.specs.Plays.{Takes};
+
+    ghost then = { Takes };
+}
+
+// A task stamps its slot with 0.
+pub(crate) struct ShutPlay;
+
+impl Play<(), View> for ShutPlay {
+    ghost use Rattle.word_rule.specs.Plays.{Shuts};
+
+    ghost then = { Shuts };
+}
+
+// A task stores its next out.
+pub(crate) struct PutPlay;
+
+impl Play<(), View> for PutPlay {
+    ghost use Rattle.word_rule.specs.Plays.{Puts};
+
+    ghost then = { Puts };
+}
+
+// A task stamps its slot with its instance.
+pub(crate) struct DonePlay;
+
+impl Play<(), View> for DonePlay {
+    ghost use Rattle.word_rule.specs.Plays.{Finishes};
+
+    ghost then = { Finishes };
+}
+
+// A task tells that its instance has ended.
+pub(crate) struct EndPlay;
+
+impl Play<(), View> for EndPlay {
+    ghost use Rattle.word_rule.specs.Plays.{Ends};
+
+    ghost then = { Ends };
+}

@@ -55,3 +55,15 @@ pub enum Opened {
         gate: u32,
     },
 }
+
+/// What a `look` hears of the slot that was claimed for its read.
+#[derive(Clone, Copy, Debug, PartialEq, Eq)]
+pub enum Look {
+    /// It holds the row that was ordered.
+    Ready,
+    /// It doesn't hold that row yet: this is its stamp.
+    NotYet {
+        /// One more than the number of the row that it holds, or 0.
+        stamp: u64,
+    },
+}
