@@ -128,8 +128,8 @@ module _ (w : SlotWords) (s : TaskSeat) (here : TaskSits w s) where
     abbrev taken : TableWord
     taken = word (read_at (wired o s.task) (turn_at s.part.place)).writer (read_order_in (wired o s.task) s.part (turn_at s.part.place)).slot (read_at (wired o s.task) (turn_at s.part.place)).port
 
-    taken_is : (from : ReadWiring) (order : Order) → from ≡ read_at (wired w.wiring s.task) (turn_at s.part.place) → order ≡ read_order_in (wired w.wiring s.task) s.part (turn_at s.part.place) → word from.writer order.slot from.port ≡ taken
-    taken_is from order read heard =
+    taken_is : (read_from : ReadWiring) (row_order : Order) → read_from ≡ read_at (wired w.wiring s.task) (turn_at s.part.place) → row_order ≡ read_order_in (wired w.wiring s.task) s.part (turn_at s.part.place) → word read_from.writer row_order.slot read_from.port ≡ taken
+    taken_is read_from row_order read heard =
         ap (λ (y : ReadWiring × Order). word y.0.writer y.1.slot y.0.port) (λ i. (read i, heard i))
         ∙ ap (λ (y : TaskWiring). word (read_at y (turn_at s.part.place)).writer (read_order_in y s.part (turn_at s.part.place)).slot (read_at y (turn_at s.part.place)).port) (sym (wired_is w s here))
 
@@ -196,8 +196,8 @@ module _ (w : SlotWords) (s : TaskSeat) (here : TaskSits w s) where
     abbrev looked : TableWord
     looked = stamp (read_at (wired o s.task) (turn_at s.part.place)).writer (read_order_in (wired o s.task) s.part (turn_at s.part.place)).slot
 
-    looked_is : (from : ReadWiring) (order : Order) → from ≡ read_at (wired w.wiring s.task) (turn_at s.part.place) → order ≡ read_order_in (wired w.wiring s.task) s.part (turn_at s.part.place) → stamp from.writer order.slot ≡ looked
-    looked_is from order read heard =
+    looked_is : (read_from : ReadWiring) (row_order : Order) → read_from ≡ read_at (wired w.wiring s.task) (turn_at s.part.place) → row_order ≡ read_order_in (wired w.wiring s.task) s.part (turn_at s.part.place) → stamp read_from.writer row_order.slot ≡ looked
+    looked_is read_from row_order read heard =
         ap (λ (y : ReadWiring × Order). stamp y.0.writer y.1.slot) (λ i. (read i, heard i))
         ∙ ap (λ (y : TaskWiring). stamp (read_at y (turn_at s.part.place)).writer (read_order_in y s.part (turn_at s.part.place)).slot) (sym (wired_is w s here))
 

@@ -1,4 +1,5 @@
-use Rattle.std.proofs.Common.{◌≡◌, ◌+◌, ℕ, Bool, sym, ◌∙◌, ap, arith}
+use Rattle.std.proofs.lemmas.Int.{to_z-of_z}
+use Rattle.std.proofs.Common.{FitsSigned, rules, w64, ◌≡◌, ◌+◌, ℕ, Bool, sym, ◌∙◌, ap, arith}
 use Rattle.dbp_rules.specs.Moves.{after_look, after_take}
 use Rattle.dbp_rules.specs.PartyRules.{is_stamp_of, read_order_in, turn_at}
 use Rattle.dbp_rules.specs.Places.{read_at}
@@ -24,5 +25,6 @@ invariant_of-seat c =
     record { same = take_then c.args.self.now c.args.seat.now c.requires.here c.args.read c.requires.allowed c.load-found.result _ _ c.load-found.new.seat.me c.take.new.self c.load-found.ensures.2 next }
 
 pub returns-clause-meant : goal.returns-clause-meant
-returns-clause-meant c = take_meant c.args.self.now c.args.seat.now c.requires.here c.args.read c.requires.allowed c.load-found.result _ _ c.load-found.new.seat.me _ c.load-found.ensures.2 c.value_from_word.ensures
-
+returns-clause-meant c =
+    let fits : FitsSigned w64 c.value_from_word.result = search rules in
+    rw (to_z-of_z w64 c.value_from_word.result fits) (take_meant c.args.self.now c.args.seat.now c.requires.here c.args.read c.requires.allowed c.load-found.result _ _ c.load-found.new.seat.me _ c.load-found.ensures.2 c.value_from_word.ensures)
