@@ -8,7 +8,7 @@ use crate::inputs::{TWO_RATES, plan_in};
 use dbp_rules::{Order, Step};
 use std::process::Abort;
 use std::test::Fail;
-use word_rule::{Opened, ReleaserSeat, SlotWords, TaskSeat};
+use word_rule::{Look, Opened, ReleaserSeat, SlotWords, TaskSeat};
 
 // Whether the step names a task or a link of the plan.
 fn is_named(words: &SlotWords, step: Step) -> bool
@@ -79,7 +79,32 @@ fn hear(words: &SlotWords, seat: &mut TaskSeat) -> Result<Order, Fail>
     Ok(words.hear(seat))
 }
 
-// The first release of both tasks; b starts and hears its orders.
+// What the task finds for its first read, if its part allows a look.
+fn look(words: &SlotWords, seat: &mut TaskSeat) -> Result<Look, Fail>
+    requires { TaskSits words.now seat.old }
+    ensures { TaskSits words.now seat.new }
+{
+    let task = seat.task();
+    if seat.refusal(words, Step::Look { task, read: 0 }).is_some() {
+        return Err(Fail::from("not allowed"));
+    }
+    Ok(words.look(seat, 0))
+}
+
+// Shuts the task's slot, if its part allows it.
+fn shut(words: &SlotWords, seat: &mut TaskSeat) -> Result<(), Fail>
+    requires { TaskSits words.now seat.old }
+    ensures { TaskSits words.now seat.new }
+{
+    let task = seat.task();
+    if seat.refusal(words, Step::Shut { task }).is_some() {
+        return Err(Fail::from("not allowed"));
+    }
+    words.shut(seat);
+    Ok(())
+}
+
+// The first release of both tasks; b starts, hears its orders, and waits for a, which shuts its slot.
 fn first_release(
     rt: &impl Abort,
     words: &SlotWords,
@@ -102,6 +127,11 @@ fn first_release(
     let order = Order { slot: 0, number: 1 };
     assert_eq!(rt; hear(words, b)?, order);
     assert_eq!(rt; hear(words, b)?, order);
+    assert_eq!(rt; look(words, b)?, Look::NotYet { stamp: 1 });
+    assert_eq!(rt; start(words, a)?, Opened::Started);
+    assert_eq!(rt; hear(words, a)?, order);
+    shut(words, a)?;
+    assert_eq!(rt; look(words, b)?, Look::NotYet { stamp: 0 });
     Ok(())
 }
 

@@ -96,8 +96,8 @@ module _ (w : SlotWords) (me : Seated) (here : me.0.plan ≡ w.plan) where
         let fits = address_fits q inside in (
           omega arith,
           subst (λ (n : ℕ). Allows (Keeps w.table.shared.key) slots id me n (λ n. n) (then n)) (sym at)
-          (subst (λ (k : Plan). Allows (Keeps k) slots id me (address_of (sizes_of me.0.plan.diagram) q) (λ n. n) (then (address_of (sizes_of me.0.plan.diagram) q))) in_key
-          (load_allowed slots id me e own q loads (then (address_of (sizes_of me.0.plan.diagram) q)) tell)),
+              (subst (λ (k : Plan). Allows (Keeps k) slots id me (address_of (sizes_of me.0.plan.diagram) q) (λ n. n) (then (address_of (sizes_of me.0.plan.diagram) q))) in_key
+              (load_allowed slots id me e own q loads (then (address_of (sizes_of me.0.plan.diagram) q)) tell)),
         )
 
     -- what a store of x requires
@@ -108,6 +108,6 @@ module _ (w : SlotWords) (me : Seated) (here : me.0.plan ≡ w.plan) where
         let fits = address_fits q inside in (
           omega arith,
           subst (λ (n : ℕ). Allows (Keeps w.table.shared.key) slots id me n (λ _. x) (λ _. then n)) (sym at)
-          (subst (λ (k : Plan). Allows (Keeps k) slots id me (address_of (sizes_of me.0.plan.diagram) q) (λ _. x) (λ _. then (address_of (sizes_of me.0.plan.diagram) q))) in_key
-          (store_allowed slots id me e own q stores x number (then (address_of (sizes_of me.0.plan.diagram) q)) tell)),
+              (subst (λ (k : Plan). Allows (Keeps k) slots id me (address_of (sizes_of me.0.plan.diagram) q) (λ _. x) (λ _. then (address_of (sizes_of me.0.plan.diagram) q))) in_key
+              (store_allowed slots id me e own q stores x number (then (address_of (sizes_of me.0.plan.diagram) q)) tell)),
         )

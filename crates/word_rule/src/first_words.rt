@@ -36,11 +36,7 @@ fn fill_first_slot(words: &mut [u64], layout: &Layout, task: u32, outs: &[Out])
 }
 
 // Each word has its number before the first step: slot 0 of each task is stamped and holds its first values, all else is 0.
-pub(crate) fn first_words(
-    alloc: Global,
-    plan: &Plan,
-    layout: &Layout,
-) -> Result<Vec<u64>, NoMemory>
+pub(crate) fn first_words(alloc: Global, plan: &Plan, layout: &Layout) -> Result<Vec<u64>, NoMemory>
     requires { sizes layout.now ≡ sizes_of plan.now.diagram }
     ensures { IfOk result (λ words. HasFirstNumbers plan.now words.items) }
 {

@@ -11,8 +11,8 @@ mod releaser_calls;
 mod seats;
 mod sharing;
 mod task_calls;
-mod work_calls;
 mod views;
+mod work_calls;
 
 pub use laws::{
     a_step_that_loads_keeps_the_rule, a_step_that_stores_keeps_the_rule, the_rule_has_ten_parts,

@@ -14,4 +14,3 @@ store-requires c = let store = aim_store c.args.self.now c.args.seat.now c.requi
 
 pub invariant_of-seat : goal.invariant_of-seat
 invariant_of-seat c = record { same = aim_then c.args.self.now c.args.seat.now c.requires.here c.args.task c.args.slot c.requires.task c.requires.allowed _ _ _ c.store.new.seat.me c.aim-order.new.self c.aim-address.ensures (c.to_word.ensures ∙ ap order_value c.aim-order.ensures.order) c.store.ensures.2 c.aim-order.ensures.next }
-

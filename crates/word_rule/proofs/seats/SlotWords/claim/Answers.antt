@@ -17,4 +17,3 @@ store-requires c = let store = claim_store c.args.self.now c.args.seat.now c.req
 
 pub invariant_of-seat : goal.invariant_of-seat
 invariant_of-seat c = record { same = claim_then c.args.self.now c.args.seat.now c.requires.here c.args.link c.requires.link c.requires.allowed _ _ _ c.store.new.seat.me c.claim-order.new.self c.claim-address.ensures c.store.ensures.2 c.claim-order.ensures.next }
-

@@ -14,4 +14,3 @@ end-requires c = end_ended c.args.self.now c.args.seat.now c.requires.here c.req
 
 pub invariant_of-seat : goal.invariant_of-seat
 invariant_of-seat c = record { same = end_then c.args.self.now c.args.seat.now c.requires.here c.requires.allowed _ _ _ c.store.new.seat.me c.end.new.self c.store.ensures.2 c.end.ensures }
-

@@ -22,4 +22,3 @@ invariant_of-seat c = record { same = hear_then c.args.self.now c.args.seat.now 
 
 pub returns-clause-fits : goal.returns-clause-fits
 returns-clause-fits c = hear_fits c.args.self.now c.args.seat.now c.requires.here c.requires.allowed c.load-found.result _ _ c.load-found.new.seat.me c.from_word-order.result c.load-found.ensures.2 c.from_word-order.ensures
-

@@ -16,4 +16,3 @@ store-requires c = let store = open_store c.args.self.now c.args.seat.now c.requ
 
 pub invariant_of-seat : goal.invariant_of-seat
 invariant_of-seat c = record { same = open_then c.args.self.now c.args.seat.now c.requires.here c.args.task c.requires.task c.requires.allowed _ _ _ c.store.new.seat.me c.open-gate.new.self c.gate-address.ensures c.store.ensures.2 c.open-gate.ensures.next }
-

@@ -19,4 +19,3 @@ returns-clause-known c = (seen_known c.args.self.now c.args.seat.now c.requires.
 
 pub returns-clause-aimed : goal.returns-clause-aimed
 returns-clause-aimed c = (seen_known c.args.self.now c.args.seat.now c.requires.here c.args.task c.requires.task c.load-ended.result _ _ c.load-ended.new.seat.me c.ended-address.ensures c.load-ended.ensures.2).1
-

@@ -10,4 +10,3 @@ store-requires c = let store = shut_store c.args.self.now c.args.seat.now c.requ
 
 pub invariant_of-seat : goal.invariant_of-seat
 invariant_of-seat c = record { same = shut_then c.args.self.now c.args.seat.now c.requires.here c.requires.allowed _ _ c.store.new.seat.me c.shut.new.self c.store.ensures.2 c.shut.ensures }
-

@@ -13,4 +13,3 @@ start-requires c = start_ended c.args.self.now c.args.seat.now c.requires.here
 
 pub invariant_of-seat : goal.invariant_of-seat
 invariant_of-seat c = record { same = start_then c.args.self.now c.args.seat.now c.requires.here c.load-gate.result _ _ c.load-gate.new.seat.me c.start.new.self c.load-gate.ensures.2 c.start.ensures.next }
-

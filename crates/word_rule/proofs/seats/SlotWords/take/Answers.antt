@@ -20,7 +20,7 @@ pub take-requires : goal.take-requires
 take-requires c = take_more c.args.self.now c.args.seat.now c.requires.here c.args.read c.requires.allowed
 
 pub invariant_of-seat : goal.invariant_of-seat
-invariant_of-seat c = 
+invariant_of-seat c =
     let next = c.take.ensures ∙ ap (λ (y : TaskWiring). after_take y c.args.seat.now.part (turn_at c.args.seat.now.part.place)) c.task-wired.ensures in
     record { same = take_then c.args.self.now c.args.seat.now c.requires.here c.args.read c.requires.allowed c.load-found.result _ _ c.load-found.new.seat.me c.take.new.self c.load-found.ensures.2 next }
 
