@@ -1,0 +1,16 @@
+use Rattle.std.proofs.Common.{◌≡◌, ℕ, List, sym, ap, ◌∙◌, subst}
+use Rattle.dbp_rules.specs.Start.{start_of}
+use Rattle.dbp_rules.specs.declared.state.State.{State}
+use Rattle.dbp_rules.specs.declared.wiring.Wiring.{Wiring}
+use Rattle.word_rule.specs.FirstWords.{HasFirstNumbers}
+use Rattle.word_rule.proofs.Begins.{begins, first_seat}
+use Rattle.word_rule.proofs.seats.SlotWords.new.Goals as goal
+
+pub of_words-requires : goal.of_words-requires
+of_words-requires c = begins c.args.plan c.as_slice.result.now c.first_values_have_64_bits.ensures (subst (HasFirstNumbers c.args.plan) (sym c.as_slice.ensures.value) c.in_ok-start.ensures)
+
+pub invariant_of-seat : goal.invariant_of-seat
+invariant_of-seat c = record {
+  same = first_seat c.args.plan c.in_ok-table.seat.me c.in_ok-releaser.field-0.releaser c.in_ok-table.ensures.4
+      (ap (λ (s : State). s.releaser) c.in_ok-releaser.ensures ∙ ap (λ (w : Wiring). (start_of c.args.plan w).releaser) c.in_ok-wiring.ensures.wiring);
+}

@@ -1,0 +1,41 @@
+-- What ties a seat to its table, and a step to its seat.
+use Rattle.std.specs.Prelude.{◌≡◌, ℕ, ◌+◌, None}
+use Rattle.dbp_rules.specs.PartyRules.{task_refusal}
+use Rattle.dbp_rules.specs.Places.{wired}
+use Rattle.dbp_rules.specs.declared.step.Step.TheVariants.{Start}
+use Rattle.word_rule.specs.declared.seats.ReleaserSeat.{ReleaserSeat}
+use Rattle.word_rule.specs.declared.seats.SlotWords.{SlotWords}
+use Rattle.word_rule.specs.declared.seats.TaskSeat.{TaskSeat}
+use Rattle.word_rule.specs.Plays.{seats_split}
+
+-- the seat belongs to these words
+abbrev pub ReleaserSits : SlotWords → ReleaserSeat → Type 0
+ReleaserSits w s = (s.seat.table_id ≡ w.table.shared.table_id) × (s.seat.me.0.plan ≡ w.plan)
+
+abbrev pub TaskSits : SlotWords → TaskSeat → Type 0
+TaskSits w s = (s.seat.table_id ≡ w.table.shared.table_id) × (s.seat.me.0.plan ≡ w.plan)
+
+-- how many atomic steps the seat has made
+abbrev pub releaser_steps : ReleaserSeat → ℕ
+releaser_steps s = s.seat.me.0.steps
+
+abbrev pub task_steps : TaskSeat → ℕ
+task_steps s = s.seat.me.0.steps
+
+-- the same seat of the same words, one atomic step later
+pub record ReleaserSteps (old new : ReleaserSeat) : Type 0 where
+  pub table : new.seat.table_id ≡ old.seat.table_id
+  pub seat : new.seat.id ≡ old.seat.id
+  pub plan : new.seat.me.0.plan ≡ old.seat.me.0.plan
+  pub steps : releaser_steps new ≡ releaser_steps old + 1
+
+pub record TaskSteps (old new : TaskSeat) : Type 0 where
+  pub table : new.seat.table_id ≡ old.seat.table_id
+  pub seat : new.seat.id ≡ old.seat.id
+  pub plan : new.seat.me.0.plan ≡ old.seat.me.0.plan
+  pub task : new.task ≡ old.task
+  pub steps : task_steps new ≡ task_steps old + 1
+
+-- the task may load its gate
+abbrev pub MayStart : SlotWords → TaskSeat → Type 0
+MayStart w s = TaskSits w s × (task_refusal (wired w.wiring s.task) s.part (Start s.task) ≡ None)

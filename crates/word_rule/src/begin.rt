@@ -1,0 +1,103 @@
+// The shared words before the first step, with a seat for each party.
+
+ghost use Rattle.std.specs.Prelude.{◌≡◌, ◌+◌, ◌<◌, IfOk, length};
+ghost use Rattle.word_rule.specs.FirstSeats.{AreFirstTasks, IsFirstReleaser, IsFirstTask, KeepsReleaser, split_off};
+ghost use Rattle.word_rule.specs.Seats.{ReleaserSits};
+
+use crate::first_words::first_words;
+use crate::seats::{ReleaserSeat, SlotWords, TaskSeat};
+use crate::views::NextTask;
+use arrayvec::ArrayVec;
+use atomic_table::Table;
+use dbp_plan::{List, NoMemory, Plan};
+use dbp_rules::{
+    Count, Place, State, TaskPart, Wiring, first_values_have_64_bits, start_state, wire_plan,
+};
+use dbp_slots::layout;
+use std::alloc::Global;
+
+impl SlotWords {
+    /// The words of the plan before the first step, the releaser's seat, and the tasks' seats: the one at index i is that
+    /// of task i. No seat has made a step. Where memory runs out the plan is given up.
+    pub fn new(
+        alloc: Global,
+        plan: Plan,
+    ) -> Result<(SlotWords, ReleaserSeat, List<TaskSeat>), NoMemory>
+        ensures plan { IfOk result (λ made. made.0.plan ≡ plan) }
+        ensures releaser { IfOk result (λ made. IsFirstReleaser made.0 made.1) }
+        ensures tasks { IfOk result (λ made. AreFirstTasks made.0 made.2) }
+    {
+        let wiring = wire_plan(alloc, &plan, Count::All)?;
+        let layout = layout(&plan.diagram);
+        let State { releaser, .. } = start_state(alloc, &plan, &wiring)?;
+        first_values_have_64_bits(&plan.diagram);
+        let start = first_words(alloc, &plan, &layout)?;
+        let (table, seat) = Table::of_words(alloc, start.as_slice(), &plan)?;
+        let words = SlotWords {
+            table,
+            plan,
+            wiring,
+            layout,
+        };
+        let mut seat = ReleaserSeat {
+            seat,
+            part: releaser,
+        };
+        let tasks = words.split_seats(alloc, &mut seat)?;
+        Ok((words, seat, tasks))
+    }
+
+    // The seats of all tasks.
+    fn split_seats(
+        &self,
+        alloc: Global,
+        seat: &mut ReleaserSeat,
+    ) -> Result<List<TaskSeat>, NoMemory>
+        requires first { IsFirstReleaser self.now seat.old }
+        requires none { split_off seat.old ≡ 0 }
+        ensures releaser { IfOk result (λ _. IsFirstReleaser self.now seat.new) }
+        ensures tasks { IfOk result (λ seats. AreFirstTasks self.now seats) }
+    {
+        let mut seats = List::new(alloc);
+        for task in 0..self.plan.diagram.tasks.len() {
+            let next = self.split_seat(seat, task);
+            seats.push(next)?;
+        }
+        Ok(seats)
+    }
+
+    // The seat of the next task.
+    fn split_seat(&self, seat: &mut ReleaserSeat, task: u32) -> TaskSeat
+        requires here { ReleaserSits self.now seat.old }
+        requires next { task ≡ split_off seat.old }
+        requires task { task < length self.now.plan.diagram.tasks }
+        ensures same { KeepsReleaser seat.old seat.new }
+        ensures one { split_off seat.new ≡ task + 1 }
+        ensures first { IsFirstTask self.now task result }
+    {
+        let seat = self.table.shared.split_seat::<NextTask>(&mut seat.seat);
+        TaskSeat {
+            seat,
+            task,
+            part: TaskPart {
+                ended: 0,
+                place: Place::Idle,
+                heard: ArrayVec::new(),
+            },
+        }
+    }
+
+    /// The plan.
+    pub fn plan(&self) -> &Plan
+        ensures { result.now ≡ self.now.plan }
+    {
+        &self.plan
+    }
+
+    /// What the steps look up in the plan.
+    pub fn wiring(&self) -> &Wiring
+        ensures { result.now ≡ self.now.wiring }
+    {
+        &self.wiring
+    }
+}
