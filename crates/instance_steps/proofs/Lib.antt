@@ -1,0 +1,2 @@
+pub mod PlaysLaws
+pub mod TaskMoves
