@@ -1,2 +1,7 @@
 pub mod PlaysLaws
 pub mod TaskMoves
+pub mod Adding
+pub mod Ends
+pub mod Begins
+pub mod Turned
+pub mod MadeReads

@@ -1,5 +1,5 @@
 -- Steps that play events: two lists one after another, one step more, and that they are allowed steps.
-use Rattle.std.proofs.Common.{◌≡◌, List, [], ◌∷◌, ◌++◌, None, refl, subst, sym, ◌∙◌}
+use Rattle.std.proofs.Common.{◌≡◌, suc, List, [], ◌∷◌, ◌++◌, length, refl, ap, subst}
 use Rattle.dbp_plan.specs.declared.plan.Plan.{Plan}
 use Rattle.dbp_rules.specs.Lawful.{Leads}
 use Rattle.dbp_rules.specs.Rules.{next}
@@ -27,3 +27,10 @@ module _ (p : Plan) (w : Wiring) where
   plays_leads [] (e ∷ es) s t none = absurd none
   plays_leads (v ∷ vs) [] s t none = absurd none
   plays_leads (v ∷ vs) (e ∷ es) s t plays = (plays.1.named, plays.1.allowed, plays_leads vs es (next p w s e) t plays.2)
+
+  -- as many steps as events
+  pub plays_long : (vs : List Event) (es : List Step) (s t : State) → Plays p w s vs es t → length es ≡ length vs
+  plays_long [] [] s t same = refl
+  plays_long [] (e ∷ es) s t none = absurd none
+  plays_long (v ∷ vs) [] s t none = absurd none
+  plays_long (v ∷ vs) (e ∷ es) s t plays = ap suc (plays_long vs es (next p w s e) t plays.2)

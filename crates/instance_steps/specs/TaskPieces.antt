@@ -7,6 +7,7 @@ use Rattle.dbp_rules.specs.Moves.{read_place}
 use Rattle.dbp_rules.specs.Places.{task, task_entry, wired}
 use Rattle.dbp_rules.specs.Promises.{IsClaimFilled}
 use Rattle.dbp_rules.specs.Rules.{own_time}
+use Rattle.dbp_rules.specs.Wired.{turn_of}
 use Rattle.dbp_rules.specs.declared.parts.Place.{Place}
 use Rattle.dbp_rules.specs.declared.state.State.{State}
 use Rattle.dbp_rules.specs.declared.step.Count.TheVariants.{All, Ranked}
@@ -23,6 +24,10 @@ MayStep w s i = w.count ≡ Ranked → (r : ℕ) → r < length w.tasks → (wir
 -- where an instance stands that was served so many ticks, before the reads of the next one: behind the reads of earlier ticks
 abbrev pub place_after : Plan → ℕ → ℕ → Place
 place_after p i served = read_place (length (declared p i).reads) (count_by (λ r. nat_lt r.at served) (declared p i).reads)
+
+-- the turn of the read with this number
+abbrev pub turn_in : Plan → ℕ → ℕ → ℕ
+turn_in p i r = turn_of (declared p i).reads (r, slice_index_or (declared p i).reads r no_read)
 
 -- under `All`: the writers have filled the rows that are read after so many ticks; under `Ranked` they always have
 abbrev pub HasRowsToRead : Plan → Wiring → State → ℕ → ℕ → Type 0

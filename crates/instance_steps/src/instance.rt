@@ -8,18 +8,19 @@ use dbp_plan::{NoMemory, Task};
 use sync_meaning::push_row;
 
 impl Recorder {
-    ghost use Rattle.std.specs.Prelude.{◌∷◌, [], replicate};
-    ghost use Rattle.dbp_plan.specs.Lookups.{declared};
+    ghost use Rattle.std.specs.Prelude.{replicate, slice_index_or};
+    ghost use Rattle.dbp_plan.specs.Lookups.{declared, no_read};
     ghost use Rattle.release_list.specs.Releases.{links_into};
-    ghost use Rattle.dbp_rules.specs.Places.{task as state_of, wired};
+    ghost use Rattle.dbp_rules.specs.Places.{task as state_of};
     ghost use Rattle.dbp_rules.specs.Moves.{read_place};
-    ghost use Rattle.dbp_rules.specs.Rules.{is_ready, is_open};
+    ghost use Rattle.dbp_rules.specs.Promises.{IsClaimFilled};
+    ghost use Rattle.dbp_rules.specs.declared.step.Count.TheVariants.{All};
     ghost use Rattle.dbp_rules.specs.declared.parts.Place.TheVariants as place;
     ghost use Rattle.dbp_rules.specs.declared.step.Step.TheVariants.{Hear as HearOf};
     ghost use Rattle.instance_steps.specs.EndedRows.{HasEndedRows};
-    ghost use Rattle.instance_steps.specs.Events.{begin_events, end_events, put_events, read_events, step_of};
+    ghost use Rattle.instance_steps.specs.Events.{begin_events, end_events, look_events, put_events, read_events, step_of};
     ghost use Rattle.instance_steps.specs.Recorders.{plan_in, state_in, steps_in, table_in, wiring_in};
-    ghost use Rattle.instance_steps.specs.TaskPieces.{AddsPiece, HasRowsToRead, MayStep, place_after};
+    ghost use Rattle.instance_steps.specs.TaskPieces.{AddsPiece, HasRowsToRead, MayStep, place_after, turn_in};
 
     /// The begin of the task's next instance: it starts, and hears its orders. The task is idle, and its gate is open for
     /// this instance.
@@ -69,11 +70,28 @@ impl Recorder {
     {
         for read in 0..self.declared(task).reads.len() {
             if self.declared(task).reads.items()[read as usize].at == served {
-                self.make(Step::Look { task, read })?;
-                self.make(Step::Take { task, read })?;
+                self.make_read(task, read)?;
             }
         }
         Ok(())
+    }
+
+    // One read: it looks, and takes.
+    fn make_read(&mut self, task: u32, read: u32) -> Result<(), NoMemory>
+        requires task { task < length (plan_in self.old).diagram.tasks }
+        requires read { read < length (declared (plan_in self.old) task).reads }
+        requires free { MayStep (wiring_in self.old) (state_in self.old) task }
+        requires place { (state_of (state_in self.old) task).part.place ≡ place.Look (turn_in (plan_in self.old) task read) }
+        requires row { (wiring_in self.old).count ≡ All
+            → IsClaimFilled (wiring_in self.old) (state_in self.old) (slice_index_or (declared (plan_in self.old) task).reads read no_read).link }
+        requires room { length (steps_in self.old) + 2 < 2 ^ 32 }
+        ensures piece { OnOk result (AddsPiece self.old self.new (look_events task read) task
+            (state_of (state_in self.old) task).part.ended
+            (read_place (length (declared (plan_in self.old) task).reads) (turn_in (plan_in self.old) task read + 1))) }
+        ensures table { OnOk result (table_in self.new ≡ table_in self.old) }
+    {
+        self.make(Step::Look { task, read })?;
+        self.make(Step::Take { task, read })
     }
 
     /// The end of the task's running instance, which has made its reads: it shuts its slot, puts its outs, stamps the slot
