@@ -5,3 +5,4 @@ pub mod Ends
 pub mod Begins
 pub mod Turned
 pub mod MadeReads
+pub mod RowsKept

@@ -5,13 +5,14 @@ use Rattle.std.specs.List.{flat_map, range_with_len}
 use Rattle.std.proofs.Math.Logic.{∥∥₁_elim}
 use Rattle.std.proofs.Props.{props}
 use Rattle.std.proofs.lemmas.Bool.{eq-eqb, ne_eqb, lt-ltb}
-use Rattle.std.proofs.lemmas.List.{append-nil, take_all}
+use Rattle.std.proofs.lemmas.List.{append-nil, get_or_default, take_all}
 use Rattle.std.proofs.lemmas.List.Concat.{flat_map-append}
 use Rattle.std.proofs.lemmas.List.Sums.{count_by_more_no, count_by_more_yes}
 use Rattle.release_list.proofs.IntoLinks.{numbers_more}
 use Rattle.sync_meaning.specs.SomeMeaning.{meaning_of}
 use Rattle.sync_meaning.specs.SomeMeaningTables.{rows_in}
 use Rattle.dbp_plan.specs.declared.diagram.Read.{Read}
+use Rattle.dbp_plan.specs.declared.diagram.Task.{Task}
 use Rattle.dbp_plan.specs.declared.plan.Plan.{Plan}
 use Rattle.dbp_plan.specs.Lookups.{declared, no_read}
 use Rattle.dbp_rules.specs.Moves.{read_place}
@@ -193,3 +194,10 @@ module _ (a : Recorder) (i served : ℕ) (named : i < length (plan_in a).diagram
           let whole : AddsPiece a c (events_to (reads_of a i) i served k ++ look_events i k) i (task (state_in a) i).part.ended (read_place (length (reads_of a i)) (made_to (reads_of a i) served (k + 1))) =
           piece_on a b c (events_to (reads_of a i) i served k) (look_events i k) i _ _ _ _ so_far (piece_as b c (look_events i k) i _ _ _ _ so_far.changes.ended place_ one) in
           subst (λ (vs : List Event). AddsPiece a c vs i (task (state_in a) i).part.ended (read_place (length (reads_of a i)) (made_to (reads_of a i) served (k + 1)))) (sym (events_more (reads_of a i) i served k is)) whole
+
+-- the read that the code looks at
+pub read_is : (a b : Recorder) (i k : ℕ) (t : Task) (items : List Read) (read : Read) → plan_in b ≡ plan_in a → t ≡ declared (plan_in b) i → items ≡ t.reads → k < length (reads_of a i)
+    → get_or (reads_of a i) k no_read ≡ get_or items k read
+read_is a b i k t items read plan there list below =
+    let same : items ≡ reads_of a i = list ∙ ap (λ (x : Task). x.reads) there ∙ ap (λ (p : Plan). (declared p i).reads) plan in
+    get_or_default (reads_of a i) k no_read read below ∙ ap (λ (l : List Read). get_or l k read) (sym same)
