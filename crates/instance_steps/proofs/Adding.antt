@@ -76,6 +76,10 @@ pub on_ok : {T E P Q : Type 0} (r : Result T E) → (P → Q) → OnOk r P → O
 on_ok (Ok v) f is = f is
 on_ok (Err e) f is = is
 
+pub on_ok_both : {T E P Q R : Type 0} (r : Result T E) → (P → Q → R) → OnOk r P → OnOk r Q → OnOk r R
+on_ok_both (Ok v) f is also = f is also
+on_ok_both (Err e) f is also = also
+
 -- ---- pieces of an instance
 
 pub changes_as : (s new : State) (i m n : ℕ) (q r : Place) → m ≡ n → q ≡ r → ChangesTask s new i m q → ChangesTask s new i n r

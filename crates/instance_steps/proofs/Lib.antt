@@ -6,3 +6,4 @@ pub mod Begins
 pub mod Turned
 pub mod MadeReads
 pub mod RowsKept
+pub mod EndedTask

@@ -20,8 +20,11 @@ pub data Event : Type 0 where
 -- ---- the release of a batch
 
 -- the aim of a task at the time; from its second instance on, the releaser first loads how many have ended
+abbrev pub seen_events : Plan → ℕ → ℕ → List Event
+seen_events p time i = if time_of p.batches i 1 == time then [] else step_of (Seen i) ∷ []
+
 abbrev pub aim_events : Plan → ℕ → ℕ → List Event
-aim_events p time i = if time_of p.batches i 1 == time then aim_of i ∷ [] else step_of (Seen i) ∷ aim_of i ∷ []
+aim_events p time i = seen_events p time i ++ aim_of i ∷ []
 
 abbrev pub claim_events : Plan → ℕ → List Event
 claim_events p i = map (λ k. step_of (Claim k)) (links_into p.diagram.links i)
