@@ -7,3 +7,10 @@ pub mod Turned
 pub mod MadeReads
 pub mod RowsKept
 pub mod EndedTask
+pub mod ReleaserMoves
+pub mod Aimed
+pub mod BatchTasks
+pub mod AimedTasks
+pub mod ClaimedLinks
+pub mod OpenedGates
+pub mod Released
