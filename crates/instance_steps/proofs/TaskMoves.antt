@@ -44,8 +44,8 @@ may_step_free w s i may = unblocked_from w.count w s i (λ ranked r below. third
     (nat_lt (task s r).part.ended (task_entry s r).aimed)
     (nat_le (rule.own_time w s r) (rule.own_time w s i))
     (λ above left.
-        let later : rule.own_time w s i < rule.own_time w s r = may ranked r below (ltb-true (wired w r).rank (wired w i).rank above) (ltb-true (task s r).part.ended (task_entry s r).aimed left) in
-        lt-leb (rule.own_time w s r) (rule.own_time w s i) later))
+    let later : rule.own_time w s i < rule.own_time w s r = may ranked r below (ltb-true (wired w r).rank (wired w i).rank above) (ltb-true (task s r).part.ended (task_entry s r).aimed left) in
+    lt-leb (rule.own_time w s r) (rule.own_time w s i) later))
 
 -- ---- one task changed
 

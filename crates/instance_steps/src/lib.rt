@@ -3,7 +3,9 @@
 #![tactic(auto)]
 
 mod instance;
+mod laws;
 mod recorder;
 mod release;
 
+pub use laws::{pieces_go_together, played_steps_are_allowed, rows_of_ended_instances};
 pub use recorder::Recorder;

@@ -34,6 +34,6 @@ returns-clause-rows c =
     ∙ ap (λ (ts : List TaskRows). set ts c.args.task c.push_row.new.rows) c.items_mut.ensures.value in
     on_ok_both c.push_row.result
     (λ ports words.
-        row_gained a b c.args.task _ piece c.requires.task c.requires.rows c.in_ok-make_end.ensures.table c.row.result.now c.row.ensures.row old at more
-        (record { tasks = refill (length c.make_end.new.self.table.tasks) c.make_end.new.self.table.tasks (set c.items_mut.result.now c.args.task c.push_row.new.rows) }) ports words all)
+    row_gained a b c.args.task _ piece c.requires.task c.requires.rows c.in_ok-make_end.ensures.table c.row.result.now c.row.ensures.row old at more
+    (record { tasks = refill (length c.make_end.new.self.table.tasks) c.make_end.new.self.table.tasks (set c.items_mut.result.now c.args.task c.push_row.new.rows) }) ports words all)
     c.push_row.ensures.ports c.push_row.ensures.words

@@ -35,6 +35,6 @@ pub returns-clause-state : goal.returns-clause-state
 returns-clause-state c =
     on_ok_both c.open_gates.result
     (λ opens entries.
-        releases c.args.self.now c.aim_tasks.new.self c.claim_links.new.self c.open_gates.new.self c.args.number c.requires.batch c.requires.released c.requires.ended c.in_ok-aim_tasks.ensures.adds c.in_ok-claim_links.ensures.adds opens
-        c.in_ok-aim_tasks.ensures.others c.in_ok-claim_links.ensures.entries entries)
+    releases c.args.self.now c.aim_tasks.new.self c.claim_links.new.self c.open_gates.new.self c.args.number c.requires.batch c.requires.released c.requires.ended c.in_ok-aim_tasks.ensures.adds c.in_ok-claim_links.ensures.adds opens
+    c.in_ok-aim_tasks.ensures.others c.in_ok-claim_links.ensures.entries entries)
     c.open_gates.ensures.adds c.open_gates.ensures.entries
