@@ -5,11 +5,10 @@ use Rattle.dbp_plan.specs.declared.plan.Plan.{Plan}
 use Rattle.dbp_plan.specs.Lookups.{declared}
 use Rattle.dbp_rules.specs.Places.{task, wired}
 use Rattle.dbp_rules.specs.Rules.{next}
-use Rattle.dbp_rules.specs.Wired.{task_wiring, wiring_of}
+use Rattle.dbp_rules.specs.Wired.{task_wiring}
 use Rattle.dbp_rules.specs.declared.parts.Place.{Place}
 use Rattle.dbp_rules.specs.declared.state.State.{State}
 use Rattle.dbp_rules.specs.declared.step.Step.{Step}
-use Rattle.dbp_rules.specs.declared.wiring.TaskWiring.{TaskWiring}
 use Rattle.dbp_rules.specs.declared.wiring.Wiring.{Wiring}
 use Rattle.dbp_rules.proofs.SoundOwn.{IsOwn, own_wiring}
 use Rattle.dbp_rules.proofs.WiringParts.{wired_is}

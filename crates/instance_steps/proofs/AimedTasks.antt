@@ -1,13 +1,11 @@
 -- The aims of a batch, task by task.
-use Rattle.std.proofs.Common.{◌≡◌, ◌≢◌, ℕ, ◌+◌, ◌*◌, ◌<◌, ◌≤◌, true, false, List, [], ◌∷◌, ◌++◌, length, get_or, slice_get, take, Some, refl, sym, ap, ◌∙◌, subst, arith, inl, inr}
+use Rattle.std.proofs.Common.{◌≡◌, ◌≢◌, ℕ, ◌+◌, ◌<◌, false, List, [], length, get_or, slice_get, take, Some, sym, ap, ◌∙◌, subst, arith, inl, inr}
 use Rattle.std.specs.List.{flat_map}
-use Rattle.std.proofs.lemmas.Bool.{cases_eq, cases_lt}
+use Rattle.std.proofs.lemmas.Bool.{cases_lt}
 use Rattle.std.proofs.lemmas.List.{take_all}
 use Rattle.dbp_plan.specs.declared.plan.Plan.{Plan}
-use Rattle.dbp_plan.specs.declared.schedule.Batch.{Batch}
 use Rattle.dbp_plan.specs.Occurrences.{names, time_of, times_of}
 use Rattle.release_list.specs.declared.release.Release.TheVariants as release
-use Rattle.release_list.specs.Releases.{batch_start}
 use Rattle.release_list.specs.Schedule.{aims}
 use Rattle.release_list.proofs.BatchStarts.{aims_at_start}
 use Rattle.dbp_rules.specs.Places.{task, task_entry}
@@ -20,7 +18,7 @@ use Rattle.instance_steps.specs.Recorders.{count_in, plan_in, state_in, wiring_i
 use Rattle.instance_steps.specs.Releases.{AddsRelease, HasEnded, HasReleased, batch_at}
 use Rattle.instance_steps.specs.declared.recorder.Recorder.{Recorder}
 use Rattle.instance_steps.proofs.Adding.{wired_there}
-use Rattle.instance_steps.proofs.BatchTasks.{aim_listed, batch_rises, batch_there, batches_before, earlier_task, first_before, listed_more, names_task, task_named, unnamed_task}
+use Rattle.instance_steps.proofs.BatchTasks.{aim_listed, batch_rises, batches_before, earlier_task, first_before, listed_more, names_task, task_named, unnamed_task}
 use Rattle.instance_steps.proofs.ReleaserMoves.{release_as, release_none, release_on}
 
 -- the tasks of the batch, and its time

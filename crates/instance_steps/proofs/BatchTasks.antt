@@ -1,9 +1,9 @@
 -- The releaser's actions of a batch, task by task.
-use Rattle.std.proofs.Common.{◌≡◌, ◌≢◌, ℕ, zero, suc, ◌+◌, ◌-◌, ◌*◌, ◌<◌, ◌≤◌, true, false, List, [], ◌∷◌, ◌++◌, length, map, get_or, slice_get, take, drop, Some, refl, sym, ap, ◌∙◌, subst, arith, inl, inr, length-append, drop-cons}
-use Rattle.std.specs.Prelude.{◌==◌, All}
-use Rattle.std.specs.List.{flat_map, list_any}
+use Rattle.std.proofs.Common.{◌≡◌, ◌≢◌, ℕ, zero, suc, ◌+◌, ◌<◌, true, false, List, [], ◌∷◌, ◌++◌, length, map, get_or, slice_get, take, drop, Some, refl, sym, ap, ◌∙◌, arith, inl, inr, drop-cons}
+use Rattle.std.specs.Prelude.{◌==◌}
+use Rattle.std.specs.List.{flat_map}
 use Rattle.std.specs.List.Sorted.{IsStrictlyIncreasing}
-use Rattle.std.proofs.lemmas.Bool.{cases_Bool, cases_lt, eq-eqb}
+use Rattle.std.proofs.lemmas.Bool.{cases_Bool, eq-eqb}
 use Rattle.std.proofs.lemmas.List.{append-nil, take-append-drop, take_more, length-map}
 use Rattle.std.proofs.lemmas.List.Concat.{flat_map-append, flat_map-cons}
 use Rattle.std.proofs.lemmas.List.Folds.{list_any_at}
@@ -11,16 +11,15 @@ use Rattle.std.proofs.lemmas.List.Kept.{AllPairs-from_increasing}
 use Rattle.std.proofs.lemmas.Option.{slice_get-get_or, slice_get-map}
 use Rattle.std.proofs.Math.ListN.{get_or-map}
 use Rattle.dbp_plan.specs.declared.diagram.Link.{Link}
-use Rattle.dbp_plan.specs.declared.plan.Plan.{Plan}
 use Rattle.dbp_plan.specs.declared.schedule.Batch.{Batch}
 use Rattle.dbp_plan.specs.Occurrences.{names, time_of, times_of}
 use Rattle.dbp_plan.specs.Places.{behind_place, front_place}
 use Rattle.release_list.specs.declared.release.Release.{Release}
 use Rattle.release_list.specs.declared.release.Release.TheVariants as release
-use Rattle.release_list.specs.Releases.{batch_start, claims_into, claims_of, links_into, releases_at, releases_of}
+use Rattle.release_list.specs.Releases.{batch_start, claims_into, claims_of, links_into, releases_at}
 use Rattle.release_list.proofs.BatchStarts.{aim_of_batch, claim_of_batch, item_of_batch, open_of_batch}
 use Rattle.dbp_rules.specs.declared.wiring.Wiring.{Wiring}
-use Rattle.instance_steps.specs.Recorders.{plan_in, state_in, wiring_in}
+use Rattle.instance_steps.specs.Recorders.{plan_in, wiring_in}
 use Rattle.instance_steps.specs.Releases.{batch_at, no_batch}
 use Rattle.instance_steps.specs.declared.recorder.Recorder.{Recorder}
 

@@ -13,7 +13,6 @@ use Rattle.dbp_rules.specs.Places.{task, wired}
 use Rattle.dbp_rules.specs.Rules.{is_open}
 use Rattle.dbp_rules.specs.declared.parts.Place.{Place}
 use Rattle.dbp_rules.specs.declared.parts.Place.TheVariants as place
-use Rattle.dbp_rules.specs.declared.step.Step.{Step}
 use Rattle.dbp_rules.specs.declared.step.Step.TheVariants.{Start, Hear}
 use Rattle.dbp_rules.specs.declared.wiring.TaskWiring.{TaskWiring}
 use Rattle.dbp_rules.specs.declared.wiring.Wiring.{Wiring}

@@ -1,5 +1,5 @@
 -- The reads of a tick, step by step.
-use Rattle.std.proofs.Common.{◌≡◌, ◌≢◌, ℕ, ◌+◌, ◌*◌, ◌<◌, ◌≤◌, true, List, [], ◌∷◌, ◌++◌, length, get_or, take, refl, sym, ap, ◌∙◌, subst, arith}
+use Rattle.std.proofs.Common.{◌≡◌, ◌≢◌, ℕ, ◌+◌, ◌<◌, true, List, [], ◌∷◌, ◌++◌, length, get_or, take, refl, sym, ap, ◌∙◌, subst, arith}
 use Rattle.std.specs.Prelude.{count_by, filter, nat_lt, ◌==◌}
 use Rattle.std.specs.List.{flat_map, range_with_len}
 use Rattle.std.proofs.Math.Logic.{∥∥₁_elim}
@@ -29,12 +29,11 @@ use Rattle.dbp_rules.specs.declared.state.State.{State}
 use Rattle.dbp_rules.specs.declared.state.TaskState.{TaskState}
 use Rattle.dbp_rules.specs.declared.step.Count.{Count}
 use Rattle.dbp_rules.specs.declared.step.Count.TheVariants.{All, Ranked}
-use Rattle.dbp_rules.specs.declared.step.Step.{Step}
 use Rattle.dbp_rules.specs.declared.step.Step.TheVariants.{Look, Take}
 use Rattle.dbp_rules.specs.declared.wiring.Wiring.{Wiring}
 use Rattle.dbp_rules.proofs.SoundLooks.{filled_ready, ranked_ready}
 use Rattle.dbp_rules.proofs.SoundOwn.{IsOwnRead}
-use Rattle.instance_steps.specs.Events.{Event, look_events, read_events, reads_at, step_of}
+use Rattle.instance_steps.specs.Events.{Event, look_events, read_events, step_of}
 use Rattle.instance_steps.specs.Plays.{Moves}
 use Rattle.instance_steps.specs.Recorders.{AddsStep, plan_in, state_in, wiring_in}
 use Rattle.instance_steps.specs.TaskPieces.{AddsPiece, ChangesTask, HasRowsToRead, MayStep, place_after, turn_in}

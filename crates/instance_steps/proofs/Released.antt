@@ -9,7 +9,7 @@ use Rattle.std.proofs.lemmas.List.Elements.{filter-append}
 use Rattle.dbp_plan.specs.declared.plan.Plan.{Plan}
 use Rattle.dbp_plan.specs.declared.schedule.Batch.{Batch}
 use Rattle.dbp_plan.specs.Occurrences.{names, times_of}
-use Rattle.release_list.specs.Releases.{batch_start, claims_of, links_into, releases_at, releases_of}
+use Rattle.release_list.specs.Releases.{claims_of, links_into}
 use Rattle.release_list.specs.Schedule.{aims, opens}
 use Rattle.release_list.proofs.BatchStarts.{aims_at_start, length-releases_at, opens_at_start, start_next}
 use Rattle.release_list.proofs.IntoLinks.{into_few}
@@ -20,7 +20,7 @@ use Rattle.dbp_rules.specs.declared.parts.TaskPart.{TaskPart}
 use Rattle.dbp_rules.specs.declared.wiring.Wiring.{Wiring}
 use Rattle.dbp_rules.specs.declared.step.Step.TheVariants.{Claim, OpenGate}
 use Rattle.instance_steps.specs.Events.{Event, aim_events, aim_of, batch_events, claim_events, seen_events, step_of}
-use Rattle.instance_steps.specs.Recorders.{AddsSteps, count_in, plan_in, state_in, steps_in, wiring_in}
+use Rattle.instance_steps.specs.Recorders.{AddsSteps, count_in, plan_in, state_in, steps_in}
 use Rattle.instance_steps.specs.Releases.{AddsRelease, HasEnded, HasReleased, ReleasesBatch, batch_at, no_batch}
 use Rattle.instance_steps.specs.declared.recorder.Recorder.{Recorder}
 use Rattle.instance_steps.proofs.Adding.{steps_long, wired_there}

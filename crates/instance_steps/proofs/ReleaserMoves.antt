@@ -1,17 +1,12 @@
 -- The releaser's steps: each is allowed where it is the next action, and leaves the tasks as they were.
-use Rattle.std.proofs.Common.{◌≡◌, ◌≢◌, ℕ, ◌+◌, ◌<◌, ◌≤◌, List, [], ◌∷◌, ◌++◌, length, get_or, set, slice_get, Some, None, refl, sym, ap, ◌∙◌, subst, arith, get_or-set_other, get_or-set_same}
-use Rattle.std.specs.Prelude.{◌==◌}
-use Rattle.std.proofs.Math.Logic.{∥∥₁_elim}
-use Rattle.std.proofs.Props.{props}
+use Rattle.std.proofs.Common.{◌≡◌, ◌≢◌, ℕ, ◌+◌, ◌<◌, List, [], ◌∷◌, ◌++◌, length, get_or, set, slice_get, Some, refl, sym, ap, ◌∙◌, subst, get_or-set_other, get_or-set_same}
 use Rattle.std.proofs.lemmas.Bool.{eq-eqb}
 use Rattle.dbp_plan.specs.declared.plan.Plan.{Plan}
 use Rattle.release_list.specs.declared.release.Release.TheVariants as release
 use Rattle.dbp_rules.specs.Moves as move
-use Rattle.dbp_rules.specs.PartyRules.{next_claim}
 use Rattle.dbp_rules.specs.Places.{no_task, no_task_entry, task, task_entry}
 use Rattle.dbp_rules.specs.Promises.{IsLeastAim}
 use Rattle.dbp_rules.specs.Rules.{next}
-use Rattle.dbp_rules.specs.Shapes.{IsShape}
 use Rattle.dbp_rules.specs.declared.state.State.{State}
 use Rattle.dbp_rules.specs.declared.state.TaskState.{TaskState}
 use Rattle.dbp_rules.specs.declared.step.Step.{Step}

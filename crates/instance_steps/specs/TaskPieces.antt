@@ -1,6 +1,5 @@
 -- What a piece of a task's instance needs, and what it changes.
 use Rattle.std.specs.Prelude.{◌≡◌, ◌≢◌, ℕ, ◌<◌, List, count_by, length, nat_lt, slice_index_or}
-use Rattle.dbp_plan.specs.declared.diagram.Read.{Read}
 use Rattle.dbp_plan.specs.declared.plan.Plan.{Plan}
 use Rattle.dbp_plan.specs.Lookups.{declared, no_read}
 use Rattle.dbp_rules.specs.Moves.{read_place}

@@ -1,11 +1,11 @@
-use Rattle.std.proofs.Common.{◌≡◌, ◌+◌, ◌*◌, ◌<◌, ◌≤◌, ◌∙◌, List, [], ◌∷◌, ℕ, get_or, length, slice_get, Some, refl, sym, ap, subst, arith, length-append}
+use Rattle.std.proofs.Common.{◌≡◌, ◌+◌, ◌<◌, ◌≤◌, ◌∙◌, List, [], ◌∷◌, ℕ, get_or, length, slice_get, Some, refl, sym, ap, subst, arith, length-append}
 use Rattle.dbp_plan.specs.declared.plan.Plan.{Plan}
 use Rattle.dbp_plan.specs.declared.schedule.Batch.{Batch}
 use Rattle.dbp_plan.specs.Occurrences.{time_of}
 use Rattle.dbp_rules.specs.Places.{task as state_of, task_entry}
 use Rattle.release_list.specs.declared.release.Release.TheVariants as release
 use Rattle.instance_steps.specs.Events.{aim_events, aim_of, seen_events}
-use Rattle.instance_steps.specs.Recorders.{plan_in, state_in, steps_in, wiring_in}
+use Rattle.instance_steps.specs.Recorders.{plan_in, state_in, wiring_in}
 use Rattle.instance_steps.specs.Releases.{AddsRelease, batch_at}
 use Rattle.instance_steps.proofs.Adding.{steps_long}
 use Rattle.instance_steps.proofs.Aimed.{seen_few}

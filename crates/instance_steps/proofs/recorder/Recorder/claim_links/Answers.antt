@@ -5,12 +5,11 @@ use Rattle.dbp_plan.specs.declared.plan.Plan.{Plan}
 use Rattle.dbp_plan.specs.declared.schedule.Batch.{Batch}
 use Rattle.release_list.specs.Releases.{links_into}
 use Rattle.release_list.proofs.IntoLinks.{into_few}
-use Rattle.dbp_rules.specs.declared.step.Step.{Step}
 use Rattle.dbp_rules.specs.declared.step.Step.TheVariants.{Claim}
 use Rattle.release_list.specs.declared.release.Release.TheVariants as release
 use Rattle.std.specs.Prelude.{slice_get, Some}
 use Rattle.instance_steps.specs.Events.{claim_events, step_of}
-use Rattle.instance_steps.specs.Recorders.{plan_in, state_in, steps_in, wiring_in}
+use Rattle.instance_steps.specs.Recorders.{plan_in, state_in, wiring_in}
 use Rattle.instance_steps.specs.Releases.{AddsRelease, batch_at}
 use Rattle.instance_steps.proofs.Adding.{steps_long}
 use Rattle.instance_steps.proofs.AimedTasks.{tasks_of}

@@ -1,5 +1,4 @@
-use Rattle.std.proofs.Common.{◌≡◌, ◌+◌, ◌∙◌, length, arith}
-use Rattle.instance_steps.specs.Recorders.{steps_in}
+use Rattle.std.proofs.Common.{arith}
 use Rattle.instance_steps.proofs.Adding.{on_ok, steps_long, steps_longer}
 use Rattle.instance_steps.proofs.Ends.{done_may, end_may, end_whole, length-put_events, outs_of, shut_may, shut_outs}
 use Rattle.instance_steps.proofs.recorder.Recorder.make_end.Goals as goal

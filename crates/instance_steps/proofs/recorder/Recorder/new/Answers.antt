@@ -1,11 +1,9 @@
 use Rattle.std.proofs.Common.{◌∙◌, List, map, sym, ap, subst}
 use Rattle.dbp_plan.specs.declared.diagram.Task.{Task}
 use Rattle.sync_meaning.specs.FirstRows.{first_rows}
-use Rattle.dbp_rules.specs.Start.{start_of}
 use Rattle.dbp_rules.specs.Wired.{wiring_of}
 use Rattle.dbp_rules.specs.declared.state.State.{State}
 use Rattle.dbp_rules.proofs.WiringParts.{wired_tasks}
-use Rattle.dbp_core.specs.Cores.{state_in}
 use Rattle.instance_steps.specs.EndedRows.{HasEndedRows}
 use Rattle.instance_steps.proofs.RowsKept.{ended_rows_start}
 use Rattle.instance_steps.proofs.recorder.Recorder.new.Goals as goal

@@ -1,7 +1,7 @@
 use Rattle.std.proofs.Common.{◌<◌, ◌∙◌, refl, ap, arith, length}
 use Rattle.dbp_plan.specs.declared.diagram.Task.{Task}
 use Rattle.instance_steps.proofs.Adding.{steps_longer}
-use Rattle.instance_steps.proofs.Ends.{outs_of, put_may, put_more, puts_all, puts_none}
+use Rattle.instance_steps.proofs.Ends.{outs_of, put_may, put_more, puts_none}
 use Rattle.instance_steps.proofs.recorder.Recorder.put_outs.Goals as goal
 
 pub loop-port-init : goal.loop-port-init

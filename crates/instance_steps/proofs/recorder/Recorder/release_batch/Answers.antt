@@ -1,4 +1,4 @@
-use Rattle.std.proofs.Common.{◌≡◌, ◌+◌, ◌*◌, ◌≤◌, length, ap, arith}
+use Rattle.std.proofs.Common.{◌≡◌, ◌*◌, length, ap, arith}
 use Rattle.dbp_plan.specs.declared.plan.Plan.{Plan}
 use Rattle.instance_steps.specs.Recorders.{plan_in}
 use Rattle.instance_steps.specs.Releases.{batch_at}

@@ -1,7 +1,5 @@
-use Rattle.std.proofs.Common.{◌≡◌, ◌≢◌, ◌<◌, ◌∙◌, List, ℕ, get_or, length, sym, ap, arith}
+use Rattle.std.proofs.Common.{◌≡◌, ◌<◌, ◌∙◌, List, ℕ, get_or, length, sym, ap, arith}
 use Rattle.dbp_plan.specs.Occurrences.{time_of, times_of}
-use Rattle.dbp_rules.specs.Places.{wired}
-use Rattle.dbp_rules.specs.declared.wiring.Wiring.{Wiring}
 use Rattle.instance_steps.specs.Recorders.{plan_in}
 use Rattle.instance_steps.proofs.Adding.{on_ok}
 use Rattle.instance_steps.proofs.Aimed.{aim_named, aim_occurs, see_known, see_may, times_are, unseen_known}
