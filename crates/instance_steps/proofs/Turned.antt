@@ -1,4 +1,4 @@
--- The turns of the reads that are made at one tick: behind those of earlier ticks, in order of declaration.
+-- The turns of the reads that are made at one tick: after those of earlier ticks, in order of declaration.
 use Rattle.std.proofs.Common.{◌≡◌, ◌≢◌, ℕ, zero, suc, ◌+◌, ◌-◌, ◌<◌, Bool, true, false, cond, List, [], ◌∷◌, length, get_or, slice_get, take, Some, refl, ap, ◌∙◌, arith, inl, inr}
 use Rattle.std.specs.Prelude.{count_by, nat_lt, ◌==◌, ◌&&◌}
 use Rattle.std.specs.List.{enumerate_from}

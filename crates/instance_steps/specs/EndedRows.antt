@@ -10,7 +10,7 @@ use Rattle.sync_meaning.specs.SomeMeaningTables.{rows_in}
 use Rattle.dbp_rules.specs.Places.{task}
 use Rattle.dbp_rules.specs.declared.state.State.{State}
 
--- the table has the rows of the first values and of the instances that have ended, as the meaning gives them, and nothing else
+-- the table has the rows of the first values and of the ended instances, as the meaning gives them, and nothing else
 pub record HasEndedRows (p : Plan) (s : State) (table : Table) : Type 0 where
   pub size : length table.tasks ≡ length p.diagram.tasks
   pub each : (i : ℕ) (rows : TaskRows) → i < length p.diagram.tasks → slice_get table.tasks i ≡ Some rows

@@ -1,4 +1,5 @@
--- The pieces that a recorded list of steps is made of, as lists of events. An event is a step; only of an aim the slot is open.
+-- The pieces that a recorded list of steps is made of, as lists of events. An event is a step; of an aim the slot is
+-- left open.
 use Rattle.std.specs.Prelude.{ℕ, ◌+◌, ◌==◌, List, [], ◌∷◌, ◌++◌, filter, length, map, replicate, slice_index_or, if◌then◌else◌}
 use Rattle.std.specs.List.{flat_map, range_with_len}
 use Rattle.dbp_plan.specs.declared.diagram.Read.{Read}

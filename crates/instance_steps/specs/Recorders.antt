@@ -1,9 +1,17 @@
 -- What a contract sees of a recorder, and what it gains by a step and by a piece.
-use Rattle.std.specs.Prelude.{◌≡◌, List, [], ◌∷◌, ◌++◌}
+use Rattle.std.specs.Prelude.{◌≡◌, ℕ, List, [], ◌∷◌, ◌++◌}
+use Rattle.dbp_plan.specs.declared.diagram.Link.{Link}
+use Rattle.dbp_plan.specs.declared.diagram.Task.{Task}
 use Rattle.dbp_plan.specs.declared.plan.Plan.{Plan}
 use Rattle.dbp_plan.specs.declared.table.Table.{Table}
+use Rattle.dbp_plan.specs.Lookups.{declared}
+use Rattle.release_list.specs.Releases.{links_into}
+use Rattle.release_list.specs.declared.release.Release.{Release}
 use Rattle.dbp_core.specs.Cores as core
+use Rattle.dbp_rules.specs.Places.{task, task_entry}
 use Rattle.dbp_rules.specs.Rules.{next}
+use Rattle.dbp_rules.specs.declared.parts.TaskEntry.{TaskEntry}
+use Rattle.dbp_rules.specs.declared.parts.TaskPart.{TaskPart}
 use Rattle.dbp_rules.specs.declared.state.State.{State}
 use Rattle.dbp_rules.specs.declared.step.Count.{Count}
 use Rattle.dbp_rules.specs.declared.step.Step.{Step}
@@ -31,6 +39,35 @@ steps_in r = r.steps
 
 abbrev pub table_in : Recorder → Table
 table_in r = r.table
+
+-- of its plan: a task, the links, and those into a task
+abbrev pub declared_in : Recorder → ℕ → Task
+declared_in r i = declared (plan_in r) i
+
+abbrev pub links_in : Recorder → List Link
+links_in r = (plan_in r).diagram.links
+
+abbrev pub into_in : Recorder → ℕ → List ℕ
+into_in r i = links_into (links_in r) i
+
+-- of its state: a task's part and its gate; the releaser's next action in the list of all, and what it knows of the tasks
+abbrev pub part_in : Recorder → ℕ → TaskPart
+part_in r i = (task (state_in r) i).part
+
+abbrev pub gate_in : Recorder → ℕ → ℕ
+gate_in r i = (task (state_in r) i).words.gate
+
+abbrev pub releases_in : Recorder → List Release
+releases_in r = (wiring_in r).releases
+
+abbrev pub action_in : Recorder → ℕ
+action_in r = (state_in r).releaser.place
+
+abbrev pub entry_in : Recorder → ℕ → TaskEntry
+entry_in r i = task_entry (state_in r) i
+
+abbrev pub entries_in : Recorder → List TaskEntry
+entries_in r = (state_in r).releaser.tasks
 
 -- one step more, by which the core has gone on
 pub record AddsStep (old new : Recorder) (e : Step) : Type 0 where

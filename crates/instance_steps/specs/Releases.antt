@@ -7,7 +7,7 @@ use Rattle.release_list.specs.Releases.{batch_start}
 use Rattle.dbp_rules.specs.Places.{task, task_entry}
 use Rattle.dbp_rules.specs.declared.state.State.{State}
 use Rattle.instance_steps.specs.Events.{Event}
-use Rattle.instance_steps.specs.Recorders.{AddsSteps, state_in}
+use Rattle.instance_steps.specs.Recorders.{AddsSteps, plan_in, state_in}
 use Rattle.instance_steps.specs.declared.recorder.Recorder.{Recorder}
 
 abbrev pub no_batch : Batch
@@ -17,6 +17,9 @@ no_batch = record { time = 0; tasks = [] }
 abbrev pub batch_at : Plan → ℕ → Batch
 batch_at p number = slice_index_or p.batches number no_batch
 
+abbrev pub batch_in : Recorder → ℕ → Batch
+batch_in r number = batch_at (plan_in r) number
+
 -- so many batches are released: all their actions are made
 abbrev pub HasReleased : Plan → State → ℕ → Type 0
 HasReleased p s number = s.releaser.place ≡ batch_start p.diagram.links p.batches number
@@ -25,8 +28,8 @@ HasReleased p s number = s.releaser.place ≡ batch_start p.diagram.links p.batc
 abbrev pub HasEnded : State → Batch → Type 0
 HasEnded s batch = (i : ℕ) → names i batch ≡ true → (task s i).part.ended ≡ (task_entry s i).aimed
 
--- One more batch is released. Of each task so many instances are aimed and may start as the batches so far name it; of a task of
--- the batch all earlier ones are known to have ended. What the tasks have for themselves is as it was.
+-- One more batch is released. Of each task so many instances are aimed and may start as the batches so far name it; of
+-- a task of the batch all earlier ones are known to have ended. What the tasks have for themselves is as it was.
 pub record ReleasesBatch (p : Plan) (s new : State) (number : ℕ) (batch : Batch) : Type 0 where
   pub released : HasReleased p new (number + 1)
   pub parts : (i : ℕ) → (task new i).part ≡ (task s i).part
@@ -35,8 +38,8 @@ pub record ReleasesBatch (p : Plan) (s new : State) (number : ℕ) (batch : Batc
   pub known : (i : ℕ) → i < length p.diagram.tasks → names i batch ≡ true → (task_entry new i).known ≡ (task s i).part.ended
   pub others : (i : ℕ) → names i batch ≡ false → task_entry new i ≡ task_entry s i
 
--- only the releaser has stepped, and this action is its next one: what the tasks have for themselves, and how many instances have
--- ended, is as it was
+-- only the releaser has stepped, and this action is its next one: what the tasks have for themselves, and how many
+-- instances have ended, is as it was
 pub record MovesReleaser (s new : State) (action : ℕ) : Type 0 where
   pub place : new.releaser.place ≡ action
   pub parts : (i : ℕ) → (task new i).part ≡ (task s i).part

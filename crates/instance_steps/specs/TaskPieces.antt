@@ -15,12 +15,12 @@ use Rattle.instance_steps.specs.Events.{Event}
 use Rattle.instance_steps.specs.Recorders.{AddsSteps, state_in}
 use Rattle.instance_steps.specs.declared.recorder.Recorder.{Recorder}
 
--- under `Ranked`: each task ranked above has ended all its aimed instances, or its next one is later than the task's own
+-- under `Ranked`: each task ranked above has ended all its aimed instances, or its next is later than the task's own
 abbrev pub MayStep : Wiring → State → ℕ → Type 0
 MayStep w s i = w.count ≡ Ranked → (r : ℕ) → r < length w.tasks → (wired w r).rank < (wired w i).rank
     → (task s r).part.ended < (task_entry s r).aimed → own_time w s i < own_time w s r
 
--- where an instance stands that was served so many ticks, before the reads of the next one: behind the reads of earlier ticks
+-- where an instance stands that was served so many ticks: after the reads of earlier ticks
 abbrev pub place_after : Plan → ℕ → ℕ → Place
 place_after p i served = read_place (length (declared p i).reads) (count_by (λ r. nat_lt r.at served) (declared p i).reads)
 
@@ -31,7 +31,8 @@ turn_in p i r = turn_of (declared p i).reads (r, slice_index_or (declared p i).r
 -- under `All`: the writers have filled the rows that are read after so many ticks; under `Ranked` they always have
 abbrev pub HasRowsToRead : Plan → Wiring → State → ℕ → ℕ → Type 0
 HasRowsToRead p w s i served = w.count ≡ All → (r : ℕ) → r < length (declared p i).reads
-    → (slice_index_or (declared p i).reads r no_read).at ≡ served → IsClaimFilled w s (slice_index_or (declared p i).reads r no_read).link
+    → (slice_index_or (declared p i).reads r no_read).at ≡ served
+    → IsClaimFilled w s (slice_index_or (declared p i).reads r no_read).link
 
 -- only the task has changed: it has ended so many instances, and stands at the place; its gate is as it was
 pub record ChangesTask (s new : State) (i instances : ℕ) (next : Place) : Type 0 where

@@ -10,25 +10,29 @@ impl Recorder {
     ghost use Rattle.std.specs.Prelude.{◌≢◌, ℕ, Some, false, map, slice_get, slice_index_or};
     ghost use Rattle.std.specs.List.{flat_map};
     ghost use Rattle.dbp_plan.specs.Occurrences.{names, time_of};
-    ghost use Rattle.release_list.specs.Releases.{batch_start, claims_of, links_into};
-    ghost use Rattle.release_list.specs.declared.release.Release.TheVariants.{Aim as AimOf, Claim as ClaimOf};
-    ghost use Rattle.dbp_rules.specs.Places.{task as state_of, task_entry};
+    ghost use Rattle.release_list.specs.Releases.{batch_start, claims_of};
+    ghost use Rattle.release_list.specs.declared.release.Release.TheVariants as action;
     ghost use Rattle.dbp_rules.specs.declared.step.Step.TheVariants.{OpenGate as OpenGateOf};
-    ghost use Rattle.instance_steps.specs.Events.{aim_events, batch_events, claim_events, seen_events, step_of};
-    ghost use Rattle.instance_steps.specs.Recorders.{AddsSteps, plan_in, state_in, steps_in, table_in, wiring_in};
-    ghost use Rattle.instance_steps.specs.Releases.{AddsRelease, HasEnded, HasReleased, ReleasesBatch, batch_at};
+    ghost use Rattle.instance_steps.specs.Events.{aim_events, batch_events, claim_events, seen_events};
+    ghost use Rattle.instance_steps.specs.Events.{step_of};
+    ghost use Rattle.instance_steps.specs.Recorders.{AddsSteps, plan_in, state_in, steps_in, table_in};
+    ghost use Rattle.instance_steps.specs.Recorders.{action_in, entries_in, entry_in, into_in, links_in};
+    ghost use Rattle.instance_steps.specs.Recorders.{part_in, releases_in};
+    ghost use Rattle.instance_steps.specs.Releases.{AddsRelease, HasEnded, HasReleased, ReleasesBatch};
+    ghost use Rattle.instance_steps.specs.Releases.{batch_in};
 
     /// The release of the batch with this number: all aims, each at the least slot that is allowed, then all claims, then
     /// all gates. The batches before it are released, and all aimed instances of its tasks have ended.
     pub fn release_batch(&mut self, number: u32) -> Result<(), NoMemory>
         requires batch { number < length (plan_in self.old).batches }
         requires released { HasReleased (plan_in self.old) (state_in self.old) number }
-        requires ended { HasEnded (state_in self.old) (batch_at (plan_in self.old) number) }
+        requires ended { HasEnded (state_in self.old) (batch_in self.old number) }
         requires room { length (steps_in self.old)
-            + length (batch_at (plan_in self.old) number).tasks * (length (plan_in self.old).diagram.links + 3) < 2 ^ 32 }
-        ensures steps { OnOk result (AddsSteps self.old self.new (batch_events (plan_in self.old) (batch_at (plan_in self.old) number))) }
-        ensures state { OnOk result (ReleasesBatch (plan_in self.old) (state_in self.old) (state_in self.new) number
-            (batch_at (plan_in self.old) number)) }
+            + length (batch_in self.old number).tasks * (length (links_in self.old) + 3) < 2 ^ 32 }
+        ensures steps { OnOk result (AddsSteps self.old self.new
+            (batch_events (plan_in self.old) (batch_in self.old number))) }
+        ensures state { OnOk result (ReleasesBatch (plan_in self.old) (state_in self.old)
+            (state_in self.new) number (batch_in self.old number)) }
         ensures table { OnOk result (table_in self.new ≡ table_in self.old) }
     {
         self.aim_tasks(number)?;
@@ -40,13 +44,15 @@ impl Recorder {
     fn aim_tasks(&mut self, number: u32) -> Result<(), NoMemory>
         requires batch { number < length (plan_in self.old).batches }
         requires released { HasReleased (plan_in self.old) (state_in self.old) number }
-        requires ended { HasEnded (state_in self.old) (batch_at (plan_in self.old) number) }
-        requires room { length (steps_in self.old) + 2 * length (batch_at (plan_in self.old) number).tasks < 2 ^ 32 }
+        requires ended { HasEnded (state_in self.old) (batch_in self.old number) }
+        requires room { length (steps_in self.old)
+            + 2 * length (batch_in self.old number).tasks < 2 ^ 32 }
         ensures adds { OnOk result (AddsRelease self.old self.new
-            (flat_map (aim_events (plan_in self.old) (batch_at (plan_in self.old) number).time) (batch_at (plan_in self.old) number).tasks)
-            ((state_in self.old).releaser.place + length (batch_at (plan_in self.old) number).tasks)) }
-        ensures others { OnOk result ((j : ℕ) → names j (batch_at (plan_in self.old) number) ≡ false
-            → task_entry (state_in self.new) j ≡ task_entry (state_in self.old) j) }
+            (flat_map (aim_events (plan_in self.old) (batch_in self.old number).time)
+            (batch_in self.old number).tasks)
+            (action_in self.old + length (batch_in self.old number).tasks)) }
+        ensures others { OnOk result ((j : ℕ) → names j (batch_in self.old number) ≡ false
+            → entry_in self.new j ≡ entry_in self.old j) }
         ensures table { OnOk result (table_in self.new ≡ table_in self.old) }
     {
         for n in 0..self.batch(number).tasks.len() {
@@ -58,13 +64,16 @@ impl Recorder {
 
     // The aim of a task, at the time of the batch.
     fn aim_task(&mut self, task: u32, time: u64) -> Result<(), NoMemory>
-        requires next { slice_get (wiring_in self.old).releases (state_in self.old).releaser.place ≡ Some (AimOf task) }
-        requires ended { (state_of (state_in self.old) task).part.ended ≡ (task_entry (state_in self.old) task).aimed }
-        requires first { time_of (plan_in self.old).batches task 1 ≡ time → (task_entry (state_in self.old) task).aimed ≡ 0 }
+        requires next { slice_get (releases_in self.old) (action_in self.old)
+            ≡ Some (action.Aim task) }
+        requires ended { (part_in self.old task).ended ≡ (entry_in self.old task).aimed }
+        requires first { time_of (plan_in self.old).batches task 1 ≡ time
+            → (entry_in self.old task).aimed ≡ 0 }
         requires room { length (steps_in self.old) + 2 < 2 ^ 32 }
-        ensures adds { OnOk result (AddsRelease self.old self.new (aim_events (plan_in self.old) time task)
-            ((state_in self.old).releaser.place + 1)) }
-        ensures others { OnOk result ((j : ℕ) → j ≢ task → task_entry (state_in self.new) j ≡ task_entry (state_in self.old) j) }
+        ensures adds { OnOk result (AddsRelease self.old self.new
+            (aim_events (plan_in self.old) time task) (action_in self.old + 1)) }
+        ensures others { OnOk result ((j : ℕ) → j ≢ task
+            → entry_in self.new j ≡ entry_in self.old j) }
         ensures table { OnOk result (table_in self.new ≡ table_in self.old) }
     {
         self.see_task(task, time)?;
@@ -74,14 +83,18 @@ impl Recorder {
 
     // Loads how many instances of the task have ended, from its second instance on.
     fn see_task(&mut self, task: u32, time: u64) -> Result<(), NoMemory>
-        requires next { slice_get (wiring_in self.old).releases (state_in self.old).releaser.place ≡ Some (AimOf task) }
-        requires ended { (state_of (state_in self.old) task).part.ended ≡ (task_entry (state_in self.old) task).aimed }
-        requires first { time_of (plan_in self.old).batches task 1 ≡ time → (task_entry (state_in self.old) task).aimed ≡ 0 }
+        requires next { slice_get (releases_in self.old) (action_in self.old)
+            ≡ Some (action.Aim task) }
+        requires ended { (part_in self.old task).ended ≡ (entry_in self.old task).aimed }
+        requires first { time_of (plan_in self.old).batches task 1 ≡ time
+            → (entry_in self.old task).aimed ≡ 0 }
         requires room { length (steps_in self.old) + 1 < 2 ^ 32 }
-        ensures adds { OnOk result (AddsRelease self.old self.new (seen_events (plan_in self.old) time task)
-            (state_in self.old).releaser.place) }
-        ensures known { OnOk result ((task_entry (state_in self.new) task).aimed ≡ (task_entry (state_in self.new) task).known) }
-        ensures others { OnOk result ((j : ℕ) → j ≢ task → task_entry (state_in self.new) j ≡ task_entry (state_in self.old) j) }
+        ensures adds { OnOk result (AddsRelease self.old self.new
+            (seen_events (plan_in self.old) time task) (action_in self.old)) }
+        ensures known { let entry = entry_in self.new task in
+            OnOk result (entry.aimed ≡ entry.known) }
+        ensures others { OnOk result ((j : ℕ) → j ≢ task
+            → entry_in self.new j ≡ entry_in self.old j) }
         ensures table { OnOk result (table_in self.new ≡ table_in self.old) }
     {
         if self.core.wiring().task(task).times.items()[0] == time {
@@ -93,14 +106,16 @@ impl Recorder {
     // The claims of the batch.
     fn claim_links(&mut self, number: u32) -> Result<(), NoMemory>
         requires batch { number < length (plan_in self.old).batches }
-        requires next { (state_in self.old).releaser.place ≡ batch_start (plan_in self.old).diagram.links (plan_in self.old).batches number
-            + length (batch_at (plan_in self.old) number).tasks }
+        requires next { action_in self.old
+            ≡ batch_start (links_in self.old) (plan_in self.old).batches number
+            + length (batch_in self.old number).tasks }
         requires room { length (steps_in self.old)
-            + length (batch_at (plan_in self.old) number).tasks * length (plan_in self.old).diagram.links < 2 ^ 32 }
+            + length (batch_in self.old number).tasks * length (links_in self.old) < 2 ^ 32 }
         ensures adds { OnOk result (AddsRelease self.old self.new
-            (flat_map (claim_events (plan_in self.old)) (batch_at (plan_in self.old) number).tasks)
-            ((state_in self.old).releaser.place + length (claims_of (plan_in self.old).diagram.links (batch_at (plan_in self.old) number).tasks))) }
-        ensures entries { OnOk result ((state_in self.new).releaser.tasks ≡ (state_in self.old).releaser.tasks) }
+            (flat_map (claim_events (plan_in self.old)) (batch_in self.old number).tasks)
+            (action_in self.old
+            + length (claims_of (links_in self.old) (batch_in self.old number).tasks))) }
+        ensures entries { OnOk result (entries_in self.new ≡ entries_in self.old) }
         ensures table { OnOk result (table_in self.new ≡ table_in self.old) }
     {
         for n in 0..self.batch(number).tasks.len() {
@@ -113,13 +128,14 @@ impl Recorder {
     // The claims of the links into the task.
     fn claim_links_into(&mut self, task: u32) -> Result<(), NoMemory>
         requires task { task < length (plan_in self.old).diagram.tasks }
-        requires next { (n : ℕ) → n < length (links_into (plan_in self.old).diagram.links task)
-            → slice_get (wiring_in self.old).releases ((state_in self.old).releaser.place + n)
-            ≡ Some (ClaimOf (slice_index_or (links_into (plan_in self.old).diagram.links task) n 0)) }
-        requires room { length (steps_in self.old) + length (links_into (plan_in self.old).diagram.links task) < 2 ^ 32 }
-        ensures adds { OnOk result (AddsRelease self.old self.new (claim_events (plan_in self.old) task)
-            ((state_in self.old).releaser.place + length (links_into (plan_in self.old).diagram.links task))) }
-        ensures entries { OnOk result ((state_in self.new).releaser.tasks ≡ (state_in self.old).releaser.tasks) }
+        requires next { (n : ℕ) → n < length (into_in self.old task)
+            → slice_get (releases_in self.old) (action_in self.old + n)
+            ≡ Some (action.Claim (slice_index_or (into_in self.old task) n 0)) }
+        requires room { length (steps_in self.old) + length (into_in self.old task) < 2 ^ 32 }
+        ensures adds { OnOk result (AddsRelease self.old self.new
+            (claim_events (plan_in self.old) task)
+            (action_in self.old + length (into_in self.old task))) }
+        ensures entries { OnOk result (entries_in self.new ≡ entries_in self.old) }
         ensures table { OnOk result (table_in self.new ≡ table_in self.old) }
     {
         for n in 0..self.core.wiring().task(task).links.len() {
@@ -132,14 +148,16 @@ impl Recorder {
     // The gates of the batch.
     fn open_gates(&mut self, number: u32) -> Result<(), NoMemory>
         requires batch { number < length (plan_in self.old).batches }
-        requires next { (state_in self.old).releaser.place ≡ batch_start (plan_in self.old).diagram.links (plan_in self.old).batches number
-            + length (batch_at (plan_in self.old) number).tasks
-            + length (claims_of (plan_in self.old).diagram.links (batch_at (plan_in self.old) number).tasks) }
-        requires room { length (steps_in self.old) + length (batch_at (plan_in self.old) number).tasks < 2 ^ 32 }
+        requires next { action_in self.old
+            ≡ batch_start (links_in self.old) (plan_in self.old).batches number
+            + length (batch_in self.old number).tasks
+            + length (claims_of (links_in self.old) (batch_in self.old number).tasks) }
+        requires room { length (steps_in self.old)
+            + length (batch_in self.old number).tasks < 2 ^ 32 }
         ensures adds { OnOk result (AddsRelease self.old self.new
-            (map (λ i. step_of (OpenGateOf i)) (batch_at (plan_in self.old) number).tasks)
-            ((state_in self.old).releaser.place + length (batch_at (plan_in self.old) number).tasks)) }
-        ensures entries { OnOk result ((state_in self.new).releaser.tasks ≡ (state_in self.old).releaser.tasks) }
+            (map (λ i. step_of (OpenGateOf i)) (batch_in self.old number).tasks)
+            (action_in self.old + length (batch_in self.old number).tasks)) }
+        ensures entries { OnOk result (entries_in self.new ≡ entries_in self.old) }
         ensures table { OnOk result (table_in self.new ≡ table_in self.old) }
     {
         for n in 0..self.batch(number).tasks.len() {
@@ -152,7 +170,7 @@ impl Recorder {
     // The batch with this number.
     fn batch(&self, number: u32) -> &Batch
         requires { number < length (plan_in self.now).batches }
-        ensures { result.now ≡ batch_at (plan_in self.now) number }
+        ensures { result.now ≡ batch_in self.now number }
     {
         &self.core.plan().batches.items()[number as usize]
     }
