@@ -1,0 +1,4 @@
+//! Simulation in virtual time, exact to the tick.
+#![tactic(auto)]
+
+mod run;
