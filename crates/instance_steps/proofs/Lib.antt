@@ -1,0 +1,16 @@
+pub mod PlaysLaws
+pub mod TaskMoves
+pub mod Adding
+pub mod Ends
+pub mod Begins
+pub mod Turned
+pub mod MadeReads
+pub mod RowsKept
+pub mod EndedTask
+pub mod ReleaserMoves
+pub mod Aimed
+pub mod BatchTasks
+pub mod AimedTasks
+pub mod ClaimedLinks
+pub mod OpenedGates
+pub mod Released

@@ -1,0 +1,159 @@
+// The release of a batch.
+
+ghost use Rattle.std.specs.Prelude.{◌≡◌, ◌+◌, ◌*◌, ◌<◌, ◌^◌, OnOk, length};
+
+use crate::recorder::Recorder;
+use dbp_core::Step;
+use dbp_plan::{Batch, NoMemory};
+
+impl Recorder {
+    ghost use Rattle.std.specs.Prelude.{◌≢◌, ℕ, Some, false, map, slice_get, slice_index_or};
+    ghost use Rattle.std.specs.List.{flat_map};
+    ghost use Rattle.dbp_plan.specs.Occurrences.{names, time_of};
+    ghost use Rattle.release_list.specs.Releases.{batch_start, claims_of, links_into};
+    ghost use Rattle.release_list.specs.declared.release.Release.TheVariants.{Aim as AimOf, Claim as ClaimOf};
+    ghost use Rattle.dbp_rules.specs.Places.{task as state_of, task_entry};
+    ghost use Rattle.dbp_rules.specs.declared.step.Step.TheVariants.{OpenGate as OpenGateOf};
+    ghost use Rattle.instance_steps.specs.Events.{aim_events, batch_events, claim_events, seen_events, step_of};
+    ghost use Rattle.instance_steps.specs.Recorders.{AddsSteps, plan_in, state_in, steps_in, table_in, wiring_in};
+    ghost use Rattle.instance_steps.specs.Releases.{AddsRelease, HasEnded, HasReleased, ReleasesBatch, batch_at};
+
+    /// The release of the batch with this number: all aims, each at the least slot that is allowed, then all claims, then
+    /// all gates. The batches before it are released, and all aimed instances of its tasks have ended.
+    pub fn release_batch(&mut self, number: u32) -> Result<(), NoMemory>
+        requires batch { number < length (plan_in self.old).batches }
+        requires released { HasReleased (plan_in self.old) (state_in self.old) number }
+        requires ended { HasEnded (state_in self.old) (batch_at (plan_in self.old) number) }
+        requires room { length (steps_in self.old)
+            + length (batch_at (plan_in self.old) number).tasks * (length (plan_in self.old).diagram.links + 3) < 2 ^ 32 }
+        ensures steps { OnOk result (AddsSteps self.old self.new (batch_events (plan_in self.old) (batch_at (plan_in self.old) number))) }
+        ensures state { OnOk result (ReleasesBatch (plan_in self.old) (state_in self.old) (state_in self.new) number
+            (batch_at (plan_in self.old) number)) }
+        ensures table { OnOk result (table_in self.new ≡ table_in self.old) }
+    {
+        self.aim_tasks(number)?;
+        self.claim_links(number)?;
+        self.open_gates(number)
+    }
+
+    // The aims of the batch.
+    fn aim_tasks(&mut self, number: u32) -> Result<(), NoMemory>
+        requires batch { number < length (plan_in self.old).batches }
+        requires released { HasReleased (plan_in self.old) (state_in self.old) number }
+        requires ended { HasEnded (state_in self.old) (batch_at (plan_in self.old) number) }
+        requires room { length (steps_in self.old) + 2 * length (batch_at (plan_in self.old) number).tasks < 2 ^ 32 }
+        ensures adds { OnOk result (AddsRelease self.old self.new
+            (flat_map (aim_events (plan_in self.old) (batch_at (plan_in self.old) number).time) (batch_at (plan_in self.old) number).tasks)
+            ((state_in self.old).releaser.place + length (batch_at (plan_in self.old) number).tasks)) }
+        ensures others { OnOk result ((j : ℕ) → names j (batch_at (plan_in self.old) number) ≡ false
+            → task_entry (state_in self.new) j ≡ task_entry (state_in self.old) j) }
+        ensures table { OnOk result (table_in self.new ≡ table_in self.old) }
+    {
+        for n in 0..self.batch(number).tasks.len() {
+            let task = self.batch(number).tasks.items()[n as usize];
+            self.aim_task(task, self.batch(number).time)?;
+        }
+        Ok(())
+    }
+
+    // The aim of a task, at the time of the batch.
+    fn aim_task(&mut self, task: u32, time: u64) -> Result<(), NoMemory>
+        requires next { slice_get (wiring_in self.old).releases (state_in self.old).releaser.place ≡ Some (AimOf task) }
+        requires ended { (state_of (state_in self.old) task).part.ended ≡ (task_entry (state_in self.old) task).aimed }
+        requires first { time_of (plan_in self.old).batches task 1 ≡ time → (task_entry (state_in self.old) task).aimed ≡ 0 }
+        requires room { length (steps_in self.old) + 2 < 2 ^ 32 }
+        ensures adds { OnOk result (AddsRelease self.old self.new (aim_events (plan_in self.old) time task)
+            ((state_in self.old).releaser.place + 1)) }
+        ensures others { OnOk result ((j : ℕ) → j ≢ task → task_entry (state_in self.new) j ≡ task_entry (state_in self.old) j) }
+        ensures table { OnOk result (table_in self.new ≡ table_in self.old) }
+    {
+        self.see_task(task, time)?;
+        let slot = self.core.least_aim(task);
+        self.make(Step::Aim { task, slot })
+    }
+
+    // Loads how many instances of the task have ended, from its second instance on.
+    fn see_task(&mut self, task: u32, time: u64) -> Result<(), NoMemory>
+        requires next { slice_get (wiring_in self.old).releases (state_in self.old).releaser.place ≡ Some (AimOf task) }
+        requires ended { (state_of (state_in self.old) task).part.ended ≡ (task_entry (state_in self.old) task).aimed }
+        requires first { time_of (plan_in self.old).batches task 1 ≡ time → (task_entry (state_in self.old) task).aimed ≡ 0 }
+        requires room { length (steps_in self.old) + 1 < 2 ^ 32 }
+        ensures adds { OnOk result (AddsRelease self.old self.new (seen_events (plan_in self.old) time task)
+            (state_in self.old).releaser.place) }
+        ensures known { OnOk result ((task_entry (state_in self.new) task).aimed ≡ (task_entry (state_in self.new) task).known) }
+        ensures others { OnOk result ((j : ℕ) → j ≢ task → task_entry (state_in self.new) j ≡ task_entry (state_in self.old) j) }
+        ensures table { OnOk result (table_in self.new ≡ table_in self.old) }
+    {
+        if self.core.wiring().task(task).times.items()[0] == time {
+            return Ok(());
+        }
+        self.make(Step::Seen { task })
+    }
+
+    // The claims of the batch.
+    fn claim_links(&mut self, number: u32) -> Result<(), NoMemory>
+        requires batch { number < length (plan_in self.old).batches }
+        requires next { (state_in self.old).releaser.place ≡ batch_start (plan_in self.old).diagram.links (plan_in self.old).batches number
+            + length (batch_at (plan_in self.old) number).tasks }
+        requires room { length (steps_in self.old)
+            + length (batch_at (plan_in self.old) number).tasks * length (plan_in self.old).diagram.links < 2 ^ 32 }
+        ensures adds { OnOk result (AddsRelease self.old self.new
+            (flat_map (claim_events (plan_in self.old)) (batch_at (plan_in self.old) number).tasks)
+            ((state_in self.old).releaser.place + length (claims_of (plan_in self.old).diagram.links (batch_at (plan_in self.old) number).tasks))) }
+        ensures entries { OnOk result ((state_in self.new).releaser.tasks ≡ (state_in self.old).releaser.tasks) }
+        ensures table { OnOk result (table_in self.new ≡ table_in self.old) }
+    {
+        for n in 0..self.batch(number).tasks.len() {
+            let task = self.batch(number).tasks.items()[n as usize];
+            self.claim_links_into(task)?;
+        }
+        Ok(())
+    }
+
+    // The claims of the links into the task.
+    fn claim_links_into(&mut self, task: u32) -> Result<(), NoMemory>
+        requires task { task < length (plan_in self.old).diagram.tasks }
+        requires next { (n : ℕ) → n < length (links_into (plan_in self.old).diagram.links task)
+            → slice_get (wiring_in self.old).releases ((state_in self.old).releaser.place + n)
+            ≡ Some (ClaimOf (slice_index_or (links_into (plan_in self.old).diagram.links task) n 0)) }
+        requires room { length (steps_in self.old) + length (links_into (plan_in self.old).diagram.links task) < 2 ^ 32 }
+        ensures adds { OnOk result (AddsRelease self.old self.new (claim_events (plan_in self.old) task)
+            ((state_in self.old).releaser.place + length (links_into (plan_in self.old).diagram.links task))) }
+        ensures entries { OnOk result ((state_in self.new).releaser.tasks ≡ (state_in self.old).releaser.tasks) }
+        ensures table { OnOk result (table_in self.new ≡ table_in self.old) }
+    {
+        for n in 0..self.core.wiring().task(task).links.len() {
+            let link = self.core.wiring().task(task).links.items()[n as usize];
+            self.make(Step::Claim { link })?;
+        }
+        Ok(())
+    }
+
+    // The gates of the batch.
+    fn open_gates(&mut self, number: u32) -> Result<(), NoMemory>
+        requires batch { number < length (plan_in self.old).batches }
+        requires next { (state_in self.old).releaser.place ≡ batch_start (plan_in self.old).diagram.links (plan_in self.old).batches number
+            + length (batch_at (plan_in self.old) number).tasks
+            + length (claims_of (plan_in self.old).diagram.links (batch_at (plan_in self.old) number).tasks) }
+        requires room { length (steps_in self.old) + length (batch_at (plan_in self.old) number).tasks < 2 ^ 32 }
+        ensures adds { OnOk result (AddsRelease self.old self.new
+            (map (λ i. step_of (OpenGateOf i)) (batch_at (plan_in self.old) number).tasks)
+            ((state_in self.old).releaser.place + length (batch_at (plan_in self.old) number).tasks)) }
+        ensures entries { OnOk result ((state_in self.new).releaser.tasks ≡ (state_in self.old).releaser.tasks) }
+        ensures table { OnOk result (table_in self.new ≡ table_in self.old) }
+    {
+        for n in 0..self.batch(number).tasks.len() {
+            let task = self.batch(number).tasks.items()[n as usize];
+            self.make(Step::OpenGate { task })?;
+        }
+        Ok(())
+    }
+
+    // The batch with this number.
+    fn batch(&self, number: u32) -> &Batch
+        requires { number < length (plan_in self.now).batches }
+        ensures { result.now ≡ batch_at (plan_in self.now) number }
+    {
+        &self.core.plan().batches.items()[number as usize]
+    }
+}
