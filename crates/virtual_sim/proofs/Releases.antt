@@ -17,7 +17,7 @@ use Rattle.virtual_sim.proofs.PlanRules as rules
 use Rattle.dbp_plan.proofs.OccurrenceBatches.{IsOfBatch}
 use Rattle.dbp_plan.proofs.TaskTimes.{more-named, more-other, some-of, some-rise}
 use Rattle.virtual_sim.proofs.Times.{time_at, when}
-use Rattle.virtual_sim.specs.State.{no_batch}
+use Rattle.instance_steps.specs.Releases.{no_batch}
 use Rattle.virtual_sim.proofs.Steps.{busy_count_one, busy_count_none, batch_of_instance, number_by, ended_left, in_plan}
 
 module _ (P : Plan) (serve : ℕ → Option Instance) (service : IsService P serve)

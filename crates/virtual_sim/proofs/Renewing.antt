@@ -10,7 +10,7 @@ use Rattle.dbp_plan.specs.Lookups.{declared}
 use Rattle.rank_order.specs.Instances.{Instance, IsInstance, before_it, release_of}
 use Rattle.virtual_sim.specs.State.{Sets}
 use Rattle.rank_order.specs.Queue.{Holds, IsServedFirst, MadeFor}
-use Rattle.virtual_sim.specs.State.{batch_at, no_batch}
+use Rattle.instance_steps.specs.Releases.{batch_at, no_batch}
 use Rattle.virtual_sim.specs.Runs.{is_in, IsRun}
 
 -- after the first j tasks

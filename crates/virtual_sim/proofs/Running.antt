@@ -16,7 +16,7 @@ use Rattle.rank_order.specs.ServiceOf.{service}
 use Rattle.virtual_sim.specs.State.{release_count, instance, busy_count, EndsAt, IsSimulatedTo, NoBatchBefore, Sets}
 use Rattle.rank_order.specs.Order.{goes_before}
 use Rattle.rank_order.specs.Queue.{Holds, IsServedFirst, MadeFor}
-use Rattle.virtual_sim.specs.State.{batch_at, no_batch}
+use Rattle.instance_steps.specs.Releases.{batch_at, no_batch}
 use Rattle.virtual_sim.specs.Runs.{Tracks, IsRun, latest}
 use Rattle.rank_order.proofs.Choices.{same_instance}
 use Rattle.dbp_plan.proofs.ListParts.{refilled}
@@ -180,3 +180,9 @@ pub few_ends : (P : Plan) (r : Run) → IsRun P r → (i : ℕ) → i < length P
 few_ends P r run i small =
     let few = P.rules.few in
     omega (arith, run.at.counts i small, some-of P.batches i r.released, times_few P.batches i, few)
+
+-- the time is far from its greatest value
+pub time_few : (P : Plan) (r : Run) → IsRun P r → r.time ≤ 3210000000000000
+time_few P r run =
+    let few = rules.few_batches P in
+    omega (arith, run.bounded, run.below, few)

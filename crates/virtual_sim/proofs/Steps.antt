@@ -9,7 +9,7 @@ use Rattle.dbp_plan.specs.Lookups.{declared}
 use Rattle.rank_order.specs.Instances.{Instance, IsInstance, before_it, release_of}
 use Rattle.rank_order.specs.Service.{GoesBefore, IsFirst, IsService, Waits, left_of, served_ticks}
 use Rattle.rank_order.specs.Ends.{IsEnd, IsOverrun, Late, NoOverrun}
-use Rattle.virtual_sim.specs.State.{no_batch}
+use Rattle.instance_steps.specs.Releases.{no_batch}
 use Rattle.virtual_sim.specs.State.{release_count, instance, busy_count, EndsAt, IsSimulatedTo, NoBatchBefore, Sets}
 use Rattle.rank_order.proofs.Choices.{same_instance, cases_instance}
 use Rattle.rank_order.proofs.Jump.{Ran, runs, serves, rests}

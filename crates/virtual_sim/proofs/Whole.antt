@@ -15,7 +15,7 @@ use Rattle.rank_order.specs.Service.{GoesBefore, IsFirst, IsService, Waits, left
 use Rattle.rank_order.specs.Ends.{IsOverrun}
 use Rattle.virtual_sim.specs.State.{Renewed, release_count, instance, busy_count, EndsAt, IsSimulatedTo, NoBatchBefore}
 use Rattle.rank_order.specs.Queue.{Holds, IsServedFirst, MadeFor}
-use Rattle.virtual_sim.specs.State.{batch_at, no_batch}
+use Rattle.instance_steps.specs.Releases.{batch_at, no_batch}
 use Rattle.virtual_sim.specs.Runs.{Tracks, IsRun, IsWorst, latest, is_in}
 use Rattle.virtual_sim.proofs.PlanRules as rules
 use Rattle.rank_order.proofs.SomeService.{service_is}

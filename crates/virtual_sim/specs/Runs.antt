@@ -8,7 +8,7 @@ use Rattle.virtual_sim.specs.declared.run.Run.{Run}
 use Rattle.dbp_plan.specs.Lookups.{declared}
 use Rattle.dbp_plan.specs.Occurrences.{times_of}
 use Rattle.rank_order.specs.Instances.{Instance, IsInstance, before_it, release_of}
-use Rattle.virtual_sim.specs.State.{batch_at, no_batch}
+use Rattle.instance_steps.specs.Releases.{batch_at, no_batch}
 use Rattle.rank_order.specs.ServiceOf.{service}
 use Rattle.virtual_sim.specs.State.{release_count, instance, IsSimulatedTo, NoBatchBefore}
 use Rattle.rank_order.specs.Queue.{Holds, IsServedFirst, MadeFor}

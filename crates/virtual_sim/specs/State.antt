@@ -7,13 +7,6 @@ use Rattle.dbp_plan.specs.Lookups.{declared}
 use Rattle.rank_order.specs.Instances.{Instance, IsInstance, before_it, release_of}
 use Rattle.rank_order.specs.Service.{GoesBefore, IsFirst, IsService, Waits, left_of, served_ticks}
 
-abbrev pub no_batch : Batch
-no_batch = record { time = 0; tasks = [] }
-
--- the batch with this number
-abbrev pub batch_at : Plan → ℕ → Batch
-batch_at p number = slice_index_or p.batches number no_batch
-
 -- the releases of the task in the first b batches
 abbrev pub release_count : List Batch → ℕ → ℕ → ℕ
 release_count bs b i = length (times_of (take b bs) i)

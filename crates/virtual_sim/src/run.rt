@@ -21,7 +21,8 @@ pub(crate) struct Run {
 
 impl Run {
     ghost use Rattle.rank_order.specs.Queue.{Holds, IsServedFirst};
-    ghost use Rattle.virtual_sim.specs.State.{NoBatchBefore, Renewed, batch_at};
+    ghost use Rattle.instance_steps.specs.Releases.{batch_at};
+    ghost use Rattle.virtual_sim.specs.State.{NoBatchBefore, Renewed};
     ghost use Rattle.virtual_sim.specs.Runs.{IsRun, IsWorst, is_in};
 
     // Nothing is released yet.

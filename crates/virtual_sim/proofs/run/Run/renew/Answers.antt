@@ -4,7 +4,8 @@ use Rattle.dbp_plan.specs.declared.diagram.Task.{Task}
 use Rattle.dbp_plan.specs.declared.schedule.Batch.{Batch}
 use Rattle.dbp_plan.specs.Lookups.{declared, no_declared}
 use Rattle.rank_order.specs.Queue.{Holds}
-use Rattle.virtual_sim.specs.State.{Sets, batch_at, no_batch}
+use Rattle.instance_steps.specs.Releases.{batch_at, no_batch}
+use Rattle.virtual_sim.specs.State.{Sets}
 use Rattle.virtual_sim.proofs.PlanRules as rules
 use Rattle.virtual_sim.proofs.Renewing.{Renewing, one_more, in_from}
 use Rattle.virtual_sim.proofs.Running.{sets_at}

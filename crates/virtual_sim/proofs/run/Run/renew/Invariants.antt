@@ -1,5 +1,5 @@
 use Rattle.std.proofs.Common.{◌≡◌}
-use Rattle.virtual_sim.specs.State.{batch_at}
+use Rattle.instance_steps.specs.Releases.{batch_at}
 use Rattle.virtual_sim.proofs.Renewing.{Renewing}
 use Rattle.virtual_sim.proofs.run.Run.renew.Given as goal
 

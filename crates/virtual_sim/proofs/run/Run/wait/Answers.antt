@@ -1,7 +1,8 @@
 use Rattle.std.proofs.Common.{arith, ℕ, List, ◌≡◌, ◌<◌, ◌≤◌, get_or, length, refl, sym, ap, ◌∙◌, subst}
 use Rattle.std.proofs.lemmas.List.{get_or_default}
 use Rattle.dbp_plan.specs.declared.schedule.Batch.{Batch}
-use Rattle.virtual_sim.specs.State.{NoBatchBefore, batch_at, no_batch}
+use Rattle.instance_steps.specs.Releases.{batch_at, no_batch}
+use Rattle.virtual_sim.specs.State.{NoBatchBefore}
 use Rattle.virtual_sim.proofs.PlanRules as rules
 use Rattle.virtual_sim.proofs.Running.{rested, until_next}
 use Rattle.virtual_sim.proofs.run.Run.wait.Goals as goal
