@@ -1,0 +1,152 @@
+-- The start of a simulation, and what it has at its end.
+use Rattle.std.proofs.Common.{◌≡◌, ◌≢◌, ℕ, zero, suc, ◌+◌, ◌-◌, ◌*◌, ◌<◌, ◌≤◌, ◌⊎◌, List, [], ◌∷◌, ◌++◌, length, take, map, get_or, replicate, slice_get, Option, Some, None, refl, sym, ap, ◌∙◌, subst, arith}
+use Rattle.std.specs.List.{range_with_len}
+use Rattle.std.proofs.lemmas.List.{append-nil, get_or-replicate, take_all}
+use Rattle.std.proofs.lemmas.Option.{get_or_from_slice_get, slice_get_within}
+use Rattle.dbp_plan.specs.declared.diagram.Task.{Task}
+use Rattle.dbp_plan.specs.declared.plan.Plan.{Plan}
+use Rattle.dbp_plan.specs.declared.schedule.Batch.{Batch}
+use Rattle.dbp_plan.specs.declared.table.Table.{Table}
+use Rattle.dbp_plan.specs.declared.table.TaskRows.{TaskRows}
+use Rattle.dbp_plan.specs.Lookups.{declared, no_declared}
+use Rattle.dbp_plan.specs.Occurrences.{times_of}
+use Rattle.dbp_plan.specs.Table.{HasAllRows, HasRowsOf}
+use Rattle.rank_order.specs.Instances.{Instance, IsInstance}
+use Rattle.rank_order.specs.Service.{left_of}
+use Rattle.rank_order.specs.ServiceOf.{service}
+use Rattle.rank_order.proofs.OneService.{serves_waiting}
+use Rattle.rank_order.proofs.SomeService.{service_is}
+use Rattle.sync_meaning.specs.SomeMeaning.{meaning_of}
+use Rattle.release_list.specs.Releases.{batch_start}
+use Rattle.dbp_rules.specs.Places.{no_task, no_task_entry, task, task_entry, wired}
+use Rattle.dbp_rules.specs.Start.{start_entry, start_of, start_task}
+use Rattle.dbp_rules.specs.Wired.{wiring_of}
+use Rattle.dbp_rules.specs.declared.parts.Place.TheVariants.{Idle}
+use Rattle.dbp_rules.specs.declared.state.State.{State}
+use Rattle.dbp_rules.specs.declared.state.TaskState.{TaskState}
+use Rattle.dbp_rules.specs.declared.step.Count.{Count}
+use Rattle.dbp_rules.specs.declared.step.Count.TheVariants.{Ranked}
+use Rattle.dbp_rules.specs.declared.step.Step.{Step}
+use Rattle.dbp_rules.specs.declared.wiring.TaskWiring.{TaskWiring}
+use Rattle.dbp_rules.specs.declared.wiring.Wiring.{Wiring}
+use Rattle.instance_steps.specs.EndedRows.{HasEndedRows}
+use Rattle.instance_steps.specs.Events.{Event}
+use Rattle.instance_steps.specs.Plays.{Plays}
+use Rattle.instance_steps.specs.Recorders.{count_in, plan_in, state_in, steps_in, table_in, wiring_in}
+use Rattle.instance_steps.specs.declared.recorder.Recorder.{Recorder}
+use Rattle.instance_steps.proofs.RowsKept.{ended_rows_all}
+use Rattle.virtual_sim.specs.Budgets.{step_bound, steps_below}
+use Rattle.virtual_sim.specs.Outcomes.{AreEnds}
+use Rattle.virtual_sim.specs.Record.{IsRecord, events_before, events_so_far, service_events_of}
+use Rattle.virtual_sim.specs.Recordings.{place_of}
+use Rattle.virtual_sim.specs.Runs.{IsRun}
+use Rattle.virtual_sim.specs.Simulations.{IsSimulation}
+use Rattle.virtual_sim.specs.State.{IsSimulatedTo, release_count}
+use Rattle.virtual_sim.specs.declared.simulation.Simulation.{Simulation}
+use Rattle.virtual_sim.proofs.Recorded.{with_service}
+use Rattle.virtual_sim.proofs.Releases.{none_late}
+use Rattle.virtual_sim.proofs.Steps.{busy_count_none, ended_left, is_end}
+
+-- ---- the start
+
+first_entry : (ts : List TaskWiring) (i : ℕ) → (get_or (map start_entry ts) i no_task_entry).aimed ≡ 0
+first_entry [] i = refl
+first_entry (t ∷ ts) zero = refl
+first_entry (t ∷ ts) (suc i) = first_entry ts i
+
+module _ (make : ℕ → TaskState) (gate : (k : ℕ) → (make k).words.gate ≡ 0) (ended : (k : ℕ) → (make k).part.ended ≡ 0) (idle : (k : ℕ) → (make k).part.place ≡ Idle) where
+  first_gate : (ks : List ℕ) (i : ℕ) → (get_or (map make ks) i no_task).words.gate ≡ 0
+  first_gate [] i = refl
+  first_gate (k ∷ ks) zero = gate k
+  first_gate (k ∷ ks) (suc i) = first_gate ks i
+
+  first_ended : (ks : List ℕ) (i : ℕ) → (get_or (map make ks) i no_task).part.ended ≡ 0
+  first_ended [] i = refl
+  first_ended (k ∷ ks) zero = ended k
+  first_ended (k ∷ ks) (suc i) = first_ended ks i
+
+  first_place : (ks : List ℕ) (i : ℕ) → (get_or (map make ks) i no_task).part.place ≡ Idle
+  first_place [] i = refl
+  first_place (k ∷ ks) zero = idle k
+  first_place (k ∷ ks) (suc i) = first_place ks i
+
+no_events : (p : Plan) → events_so_far p (service p) 0 0 ≡ []
+unfolding events_before
+no_events p = refl
+
+pub starts : (p : Plan) (s : Simulation) → IsRun p s.run → s.run.time ≡ 0 → s.run.released ≡ 0 → s.run.rest.items ≡ replicate (length p.diagram.tasks) 0 → s.run.ends ≡ replicate (length p.diagram.tasks) []
+    → plan_in s.recorder ≡ p → count_in s.recorder ≡ Ranked → state_in s.recorder ≡ start_of p (wiring_of p Ranked) → steps_in s.recorder ≡ [] → HasEndedRows p (state_in s.recorder) (table_in s.recorder) → IsSimulation p s
+starts p s run time released rest ends plan count state steps rows =
+    let w : Wiring = wiring_of p Ranked in
+    let make : ℕ → TaskState = λ i. start_task (wired (wiring_of p Ranked) i) (declared p i) in
+    let range : List ℕ = range_with_len 0 (length (wiring_of p Ranked).tasks) in
+    let none : (i : ℕ) → i < length p.diagram.tasks → get_or s.run.rest.items i 0 ≡ 0 = λ i il. ap (λ (l : List ℕ). get_or l i 0) rest ∙ get_or-replicate (length p.diagram.tasks) i 0 0 il in
+    let nil : (i : ℕ) → i < length p.diagram.tasks → length (get_or s.run.ends i []) ≡ 0 = λ i il. ap (length {A = ℕ}) (ap (λ (l : List (List ℕ)). get_or l i []) ends ∙ get_or-replicate (length p.diagram.tasks) i [] [] il) in
+    let events : events_so_far p (service p) s.run.released s.run.time ≡ [] = ap (λ (b : ℕ). events_so_far p (service p) b s.run.time) released ∙ ap (events_so_far p (service p) 0) time ∙ no_events p in
+    let zero' : (i : ℕ) → release_count p.batches s.run.released i ≡ 0 = λ i. ap (λ (b : ℕ). release_count p.batches b i) released in
+    record {
+      run = run;
+      recorded = record {
+        plan = plan;
+        wiring = s.recorder.core.wired ∙ ap (λ (q : Plan). wiring_of q (count_in s.recorder)) plan ∙ ap (wiring_of p) count;
+        plays =
+            subst (λ (l : List Event). Plays p (wiring_of p Ranked) (start_of p (wiring_of p Ranked)) l (steps_in s.recorder) (state_in s.recorder)) (sym events)
+            (subst (λ (l : List Step). Plays p (wiring_of p Ranked) (start_of p (wiring_of p Ranked)) [] l (state_in s.recorder)) (sym steps) state);
+        rows = rows;
+        released = ap (λ (t : State). t.releaser.place) state ∙ sym (ap (batch_start p.diagram.links p.batches) released);
+        aimed = λ i il. ap (λ (t : State). (task_entry t i).aimed) state ∙ first_entry (wiring_of p Ranked).tasks i ∙ sym (zero' i);
+        gates = λ i il. ap (λ (t : State). (task t i).words.gate) state ∙ first_gate make (λ k. refl) (λ k. refl) (λ k. refl) range i ∙ sym (zero' i);
+        ended = λ i il. ap (λ (t : State). (task t i).part.ended) state ∙ first_ended make (λ k. refl) (λ k. refl) (λ k. refl) range i ∙ sym (nil i il);
+        place = λ i il. ap (λ (t : State). (task t i).part.place) state ∙ first_place make (λ k. refl) (λ k. refl) (λ k. refl) range i ∙ sym (ap (place_of p i) (none i il));
+      };
+      few = let long = ap length events in omega (arith, long);
+    }
+
+-- ---- the end
+
+module _ (p : Plan) (s : Simulation) (h : IsSimulation p s) (last : s.run.released ≡ length p.batches) (idle : (i : ℕ) → i < length p.diagram.tasks → get_or s.run.rest.items i 0 ≡ 0) where
+  all_counted : (i : ℕ) → i < length p.diagram.tasks → length (get_or s.run.ends i []) ≡ length (times_of p.batches i)
+  all_counted i il =
+      let c = h.run.at.counts i il in
+      let z = busy_count_none (get_or s.run.rest.items i 0) (idle i il) in
+      let all = ap (λ (bs : List Batch). length (times_of bs i)) (take_all s.run.released p.batches (omega (arith, last))) in
+      omega (arith, c, z, all)
+
+  pub are_ends : AreEnds p s.run.ends
+  are_ends = record {
+    tasks = h.run.at.lists;
+    numbers = all_counted;
+    each = λ i k il kl. is_end p (service p) (service_is p) (record { task = i; number = k + 1 }) (get_or (get_or s.run.ends i []) k 0) (h.run.at.ended i k il kl);
+  }
+
+  nothing_left : (x : Instance) → IsInstance p x → left_of p (service p) x s.run.time ≡ 0
+  nothing_left x here =
+      let n = all_counted x.task here.task in
+      ended_left p (service p) (service_is p) s.run.released s.run.time s.run.rest.items s.run.ends h.run.at x.task x.number here.task here.from_one (let w = here.within in omega (arith, n, w))
+
+  nobody : (o : Option Instance) → service p s.run.time ≡ o → o ≡ None
+  nobody None is = refl
+  nobody (Some x) is =
+      let w = serves_waiting p (service p) (service_is p) s.run.time x is in
+      let n = nothing_left x w.instance in
+      absurd (omega (arith, n, w.unfinished))
+
+  pub is_record : IsRecord p (steps_in s.recorder)
+  is_record = record {
+    in_time = none_late p (service p) s.run.time s.run.rest.items s.run.ends (subst (λ (b : ℕ). IsSimulatedTo p (service p) b s.run.time s.run.rest.items s.run.ends) last h.run.at);
+    last = s.run.time;
+    released = λ k d kl. h.run.at.early k d (omega (arith, kl, last)) kl;
+    ended = nothing_left;
+    state = state_in s.recorder;
+    plays =
+        let steps : service_events_of p (service p) (service p s.run.time) s.run.time ≡ [] = ap (λ (o : Option Instance). service_events_of p (service p) o s.run.time) (nobody (service p s.run.time) refl) in
+        let events : events_so_far p (service p) s.run.released s.run.time ≡ events_before p (service p) (s.run.time + 1) =
+        sym (append-nil (events_so_far p (service p) s.run.released s.run.time))
+        ∙ ap (λ (l : List Event). events_so_far p (service p) s.run.released s.run.time ++ l) (sym steps)
+        ∙ with_service p (service p) s.run.released s.run.time (λ k d le kl same. omega (arith, le, kl, last))
+        ∙ ap (events_before p (service p)) (let e : suc s.run.time ≡ s.run.time + 1 = omega arith in e) in
+        subst (λ (l : List Event). Plays p (wiring_of p Ranked) (start_of p (wiring_of p Ranked)) l (steps_in s.recorder) (state_in s.recorder)) events h.recorded.plays;
+  }
+
+  pub is_meaning : table_in s.recorder ≡ meaning_of p
+  is_meaning = ended_rows_all p (state_in s.recorder) (table_in s.recorder) h.recorded.rows (λ i il. h.recorded.ended i il ∙ all_counted i il)

@@ -1,0 +1,17 @@
+pub mod Budgets
+pub mod PlanRules
+pub mod Times
+pub mod Steps
+pub mod Releases
+pub mod Running
+pub mod Renewing
+pub mod Whole
+pub mod LateTasks
+pub mod Recorded
+pub mod RecordJumps
+pub mod OneRecord
+pub mod Recordings
+pub mod MaySteps
+pub mod Serving
+pub mod EndEvents
+pub mod Finals

@@ -1,0 +1,102 @@
+-- The instance that is served first may step under the condition on ranks.
+use Rattle.std.specs.Prelude.{IsTrue, unwrap_or, nat_lt, ◌&&◌, ◌||◌, not}
+use Rattle.std.proofs.Common.{◌≡◌, ◌≢◌, ℕ, ◌+◌, ◌-◌, ◌<◌, ◌≤◌, ◌⊎◌, true, false, Bool, List, [], length, get_or, slice_get, Some, refl, sym, ap, ◌∙◌, subst, inl, inr, ⊎_elim, arith}
+use Rattle.std.proofs.lemmas.Bool.{cases_eq, cases_lt, lt-ltb}
+use Rattle.std.proofs.lemmas.Bool.Decides.{nat_tests}
+use Rattle.std.proofs.lemmas.Option.{slice_get-get_or}
+use Rattle.dbp_plan.specs.declared.diagram.Diagram.{Diagram}
+use Rattle.dbp_plan.specs.declared.diagram.Policy.{Policy}
+use Rattle.dbp_plan.specs.declared.diagram.Policy.TheVariants.{Fp, Edf}
+use Rattle.dbp_plan.specs.declared.diagram.Task.{Task}
+use Rattle.dbp_plan.specs.declared.plan.Plan.{Plan}
+use Rattle.dbp_plan.specs.Lookups.{declared, no_declared}
+use Rattle.dbp_plan.specs.Occurrences.{times_of}
+use Rattle.dbp_plan.specs.Ranks.{is_above, is_more_urgent, ranks_of}
+use Rattle.dbp_plan.proofs.RankLaws.{above-lesser, length-ranks_of}
+use Rattle.rank_order.specs.Instances.{Instance, release_of}
+use Rattle.rank_order.specs.Order.{deadline_of, goes_before, is_before, key_by, key_of}
+use Rattle.rank_order.specs.Queue.{IsServedFirst}
+use Rattle.rank_order.specs.Service.{GoesBefore, Waits, left_of}
+use Rattle.rank_order.specs.ServiceOf.{service}
+use Rattle.rank_order.specs.declared.key.Key.{Key}
+use Rattle.rank_order.proofs.SomeService.{service_is}
+use Rattle.dbp_rules.specs.Places.{task, task_entry, wired}
+use Rattle.dbp_rules.specs.Rules.{own_time}
+use Rattle.dbp_rules.specs.Wired.{wiring_of}
+use Rattle.dbp_rules.specs.declared.state.State.{State}
+use Rattle.dbp_rules.specs.declared.step.Count.TheVariants.{Ranked}
+use Rattle.dbp_rules.specs.declared.wiring.TaskWiring.{TaskWiring}
+use Rattle.dbp_rules.proofs.WiringParts.{wired_is, wired_tasks}
+use Rattle.instance_steps.specs.TaskPieces.{MayStep}
+use Rattle.virtual_sim.specs.Runs.{IsRun}
+use Rattle.virtual_sim.specs.State.{NoBatchBefore, instance, release_count}
+use Rattle.virtual_sim.specs.declared.run.Run.{Run}
+use Rattle.virtual_sim.proofs.Running.{first_small, first_some, is_choice}
+use Rattle.virtual_sim.proofs.Steps.{busy_count_one, busy_count_none, waits_from}
+
+by_rank : (m n a b : ℕ) → n < m → is_before (record { first = m; second = a }) (record { first = n; second = b }) ≡ true → ⊥
+by_rank m n a b less before = grind (arith, nat_tests)
+
+by_deadline : (a b d e m n : ℕ) → n < m → e ≤ d → is_before (record { first = a + d; second = m }) (record { first = b + e; second = n }) ≡ true → a < b
+by_deadline a b d e m n less le before = grind (arith, nat_tests)
+
+module _ (p : Plan) (i q : ℕ) (il : i < length p.diagram.tasks) (ql : q < length p.diagram.tasks) (higher : get_or p.diagram.ranks q 0 < get_or p.diagram.ranks i 0) where
+  rank_at : (j : ℕ) → j < length p.diagram.tasks → slice_get (ranks_of p.diagram.policy p.diagram.tasks) j ≡ Some (get_or p.diagram.ranks j 0)
+  rank_at j jl = subst (λ (l : List ℕ). slice_get (ranks_of p.diagram.policy p.diagram.tasks) j ≡ Some (get_or l j 0)) (sym p.rules.ranked.ranks)
+      (slice_get-get_or (ranks_of p.diagram.policy p.diagram.tasks) j 0 (omega (arith, jl, length-ranks_of p.diagram.policy p.diagram.tasks)))
+
+  above : is_above p.diagram.policy (i, declared p i) (q, declared p q) ≡ true → ⊥
+  above is =
+      let less = above-lesser p.diagram.policy p.diagram.tasks i q (declared p i) (declared p q) (get_or p.diagram.ranks i 0) (get_or p.diagram.ranks q 0)
+      (slice_get-get_or p.diagram.tasks i no_declared il) (slice_get-get_or p.diagram.tasks q no_declared ql) (rank_at i il) (rank_at q ql) is in
+      omega (arith, less, higher)
+
+  -- under earliest deadlines the higher rank has no greater deadline
+  deadlines : p.diagram.policy ≡ Edf → unwrap_or (declared p q).deadline 0 ≤ unwrap_or (declared p i).deadline 0
+  deadlines edf = ⊎_elim
+      (λ (lt : unwrap_or (declared p i).deadline 0 < unwrap_or (declared p q).deadline 0).
+      absurd (above (subst (λ (policy : Policy). is_above policy (i, declared p i) (q, declared p q) ≡ true) (sym edf) (rw (lt-ltb _ _ lt) refl))))
+      (λ (ge : unwrap_or (declared p q).deadline 0 ≤ unwrap_or (declared p i).deadline 0). ge)
+      (cases_lt (unwrap_or (declared p i).deadline 0) (unwrap_or (declared p q).deadline 0))
+
+  by_policy : (policy : Policy) (a b : ℕ) → p.diagram.policy ≡ policy → is_before (key_by policy p.diagram i a) (key_by policy p.diagram q b) ≡ true → a < b
+  by_policy Fp a b is before = absurd (by_rank (get_or p.diagram.ranks i 0) (get_or p.diagram.ranks q 0) a b higher before)
+  by_policy Edf a b is before =
+      by_deadline a b (unwrap_or (declared p i).deadline 0) (unwrap_or (declared p q).deadline 0) (get_or p.diagram.ranks i 0) (get_or p.diagram.ranks q 0) higher (deadlines is) before
+
+  -- one that goes before a higher-ranked one was released earlier
+  pub released_earlier : (a b : ℕ) → IsTrue (goes_before p.diagram i a q b) → a < b
+  released_earlier a b before = by_policy p.diagram.policy a b refl before
+
+module _ (p : Plan) (r : Run) (run : IsRun p r) (s : State) (ended : (j : ℕ) → j < length p.diagram.tasks → (task s j).part.ended ≡ length (get_or r.ends j []))
+    (aimed : (j : ℕ) → j < length p.diagram.tasks → (task_entry s j).aimed ≡ release_count p.batches r.released j) where
+  -- the time that the steps look at is the release of the last released instance, if something is left of it
+  own_release : (j : ℕ) → j < length p.diagram.tasks → 0 < get_or r.rest.items j 0 → own_time (wiring_of p Ranked) s j ≡ release_of p (instance j (release_count p.batches r.released j))
+  own_release j jl some =
+      let count = run.at.counts j jl in
+      let one = busy_count_one (get_or r.rest.items j 0) some in
+      let e = ended j jl in
+      ap (λ (w : TaskWiring). get_or w.times ((task s j).part.ended + 1 - 1) 0) (wired_is p Ranked j jl)
+      ∙ ap (λ (n : ℕ). get_or (times_of p.batches j) n 0) (let n : (task s j).part.ended + 1 - 1 ≡ release_count p.batches r.released j - 1 = omega (arith, count, one, e) in n)
+
+  pub may_step : (i limit : ℕ) → IsServedFirst r.ready i → NoBatchBefore p r.released limit → r.time < limit → MayStep (wiring_of p Ranked) s i
+  may_step i limit first until lt ranked q ql higher unfinished =
+      let il : i < length p.diagram.tasks = first_small p r run i first in
+      let qn : q < length p.diagram.tasks = let n = wired_tasks p Ranked in omega (arith, ql, n) in
+      let ranks : get_or p.diagram.ranks q 0 < get_or p.diagram.ranks i 0 =
+      let a = ap (λ (w : TaskWiring). w.rank) (wired_is p Ranked q qn) in let b = ap (λ (w : TaskWiring). w.rank) (wired_is p Ranked i il) in omega (arith, a, b, higher) in
+      let some : 0 < get_or r.rest.items q 0 = ⊎_elim
+      (λ (z : get_or r.rest.items q 0 ≡ 0).
+      let none = busy_count_none (get_or r.rest.items q 0) z in let count = run.at.counts q qn in let e = ended q qn in let a = aimed q qn in absurd (omega (arith, none, count, e, a, unfinished)))
+      (λ (nz : get_or r.rest.items q 0 ≡ 0 → ⊥). omega (arith, nz))
+      (cases_eq (get_or r.rest.items q 0) 0) in
+      let x : Instance = instance i (release_count p.batches r.released i) in
+      let y : Instance = instance q (release_count p.batches r.released q) in
+      let waits = waits_from p (service p) (service_is p) r.released r.time r.rest.items r.ends run.at q qn some in
+      let earlier : release_of p x < release_of p y = ⊎_elim
+      (λ (same : y ≡ x). let e = ap (λ (z : Instance). get_or p.diagram.ranks z.task 0) same in absurd (omega (arith, e, ranks)))
+      (λ (before : GoesBefore p x y). released_earlier p i q il qn ranks (release_of p x) (release_of p y) before)
+      ((is_choice p r run i first limit until lt).1 y waits) in
+      let a = own_release i il (first_some p r run i first) in
+      let b = own_release q qn some in
+      omega (arith, earlier, a, b)

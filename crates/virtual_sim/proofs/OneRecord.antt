@@ -1,0 +1,87 @@
+-- A plan has one recorded list at most.
+use Rattle.std.proofs.Common.{◌≡◌, ◌≢◌, ℕ, zero, suc, ◌+◌, ◌-◌, ◌<◌, ◌≤◌, ◌⊎◌, All, List, [], ◌∷◌, ◌++◌, length, get_or, Option, Some, None, refl, sym, ap, ◌∙◌, subst, inl, inr, ⊎_elim, arith}
+use Rattle.std.proofs.lemmas.Bool.{cases_lt}
+use Rattle.std.proofs.lemmas.List.{append-nil}
+use Rattle.dbp_plan.specs.declared.plan.Plan.{Plan}
+use Rattle.dbp_plan.specs.declared.schedule.Batch.{Batch}
+use Rattle.rank_order.specs.Instances.{Instance, IsInstance}
+use Rattle.rank_order.specs.Service.{IsService, left_of, served_ticks}
+use Rattle.rank_order.specs.ServiceOf.{service}
+use Rattle.rank_order.proofs.OneService.{serves_waiting}
+use Rattle.rank_order.proofs.SomeService.{service_is}
+use Rattle.dbp_rules.specs.Promises.{IsLeastAim}
+use Rattle.dbp_rules.specs.Rules.{next}
+use Rattle.dbp_rules.specs.Start.{start_of}
+use Rattle.dbp_rules.specs.Wired.{wiring_of}
+use Rattle.dbp_rules.specs.declared.state.State.{State}
+use Rattle.dbp_rules.specs.declared.step.Count.TheVariants.{Ranked}
+use Rattle.dbp_rules.specs.declared.step.Step.{Step}
+use Rattle.dbp_rules.specs.declared.step.Step.TheVariants.{Aim}
+use Rattle.dbp_rules.specs.declared.wiring.Wiring.{Wiring}
+use Rattle.instance_steps.specs.Events.{Event, aim_of, step_of}
+use Rattle.instance_steps.specs.Plays.{IsStepOf, Plays}
+use Rattle.virtual_sim.specs.Record.{IsRecord, end_events_at, end_events_of, events_at, events_before, release_events_at, service_events_of}
+use Rattle.virtual_sim.proofs.Recorded.{next_events, no_releases}
+use Rattle.virtual_sim.proofs.Steps.{left_falls}
+
+-- an event is one step
+one_step : (w : Wiring) (s : State) (v : Event) (e f : Step) → IsStepOf w s v e → IsStepOf w s v f → e ≡ f
+one_step w s (step_of x) e f is also = is ∙ sym also
+one_step w s (aim_of i) e f is also =
+    let same : is.0 ≡ also.0 = omega (arith, is.2.least also.0 also.2.allowed, also.2.least is.0 is.2.allowed) in
+    is.1 ∙ ap (λ (slot : ℕ). Aim i slot) same ∙ sym also.1
+
+-- and events are one list of steps
+pub one_play : (p : Plan) (w : Wiring) (vs : List Event) (es fs : List Step) (s t u : State) → Plays p w s vs es t → Plays p w s vs fs u → es ≡ fs
+one_play p w [] [] [] s t u h k = refl
+one_play p w [] [] (f ∷ fs) s t u h k = absurd k
+one_play p w [] (e ∷ es) fs s t u h k = absurd h
+one_play p w (v ∷ vs) [] fs s t u h k = absurd h
+one_play p w (v ∷ vs) (e ∷ es) [] s t u h k = absurd k
+one_play p w (v ∷ vs) (e ∷ es) (f ∷ fs) s t u h k =
+    let same : e ≡ f = one_step w s v e f h.0 k.0 in
+    let rest : es ≡ fs = one_play p w vs es fs (next p w s e) t u h.2 (subst (λ (x : Step). Plays p w (next p w s x) vs fs u) (sym same) k.2) in
+    cc
+
+module _ (p : Plan) (serve : ℕ → Option Instance) (service : IsService p serve) (last : ℕ)
+    (released : All (λ b. b.time ≤ last) p.batches) (ended : (x : Instance) → IsInstance p x → left_of p serve x last ≡ 0) where
+  none_served : (t : ℕ) → last ≤ t → serve t ≡ None
+  none_served t le = none (serve t) refl
+    where
+      none : (o : Option Instance) → serve t ≡ o → serve t ≡ None
+      none None is = is
+      none (Some x) is =
+          let waits = serves_waiting p serve service t x is in
+          let falls = left_falls p serve service x last t le in
+          absurd (omega (arith, ended x waits.instance, falls, waits.unfinished))
+
+  -- nothing happens later
+  no_events : (t : ℕ) → last < t → events_at p serve t ≡ []
+  no_events zero lt = absurd (omega (arith, lt))
+  no_events (suc t) lt =
+      let releases : release_events_at p serve p.batches (suc t) ≡ [] = no_releases p serve p.batches (suc t) (λ k d kl same. let r = released k d kl in omega (arith, r, same, lt)) in
+      ap (λ (o : Option Instance). end_events_of p serve o (suc t) ++ (release_events_at p serve p.batches (suc t) ++ service_events_of p serve (serve (suc t)) (suc t))) (none_served t (omega (arith, lt)))
+      ∙ ap (λ (l : List Event). l ++ service_events_of p serve (serve (suc t)) (suc t)) releases
+      ∙ ap (λ (o : Option Instance). service_events_of p serve o (suc t)) (none_served (suc t) (omega (arith, lt)))
+
+  pub same_events : (k : ℕ) → events_before p serve (last + 1 + k) ≡ events_before p serve (last + 1)
+  same_events zero = ap (events_before p serve) (let e : last + 1 + 0 ≡ last + 1 = omega arith in e)
+  same_events (suc k) =
+      ap (events_before p serve) (let e : last + 1 + suc k ≡ suc (last + 1 + k) = omega arith in e)
+      ∙ next_events p serve (last + 1 + k)
+      ∙ ap (λ (l : List Event). events_before p serve (last + 1 + k) ++ l) (no_events (last + 1 + k) (omega arith))
+      ∙ append-nil (events_before p serve (last + 1 + k)) ∙ same_events k
+
+one_list : (p : Plan) (script other : List Step) (a : IsRecord p script) (b : IsRecord p other) → a.last ≤ b.last → script ≡ other
+one_list p script other a b le =
+    let same : events_before p (service p) (b.last + 1) ≡ events_before p (service p) (a.last + 1) =
+    ap (events_before p (service p)) (let e : b.last + 1 ≡ a.last + 1 + (b.last - a.last) = omega (arith, le) in e)
+    ∙ same_events p (service p) (service_is p) a.last a.released a.ended (b.last - a.last) in
+    one_play p (wiring_of p Ranked) (events_before p (service p) (a.last + 1)) script other (start_of p (wiring_of p Ranked)) a.state b.state a.plays
+    (subst (λ (l : List Event). Plays p (wiring_of p Ranked) (start_of p (wiring_of p Ranked)) l other b.state) same b.plays)
+
+pub one_record : (p : Plan) (script other : List Step) → IsRecord p script → IsRecord p other → script ≡ other
+one_record p script other a b = ⊎_elim
+    (λ (lt : b.last < a.last). sym (one_list p other script b a (omega (arith, lt))))
+    (λ (ge : a.last ≤ b.last). one_list p script other a b ge)
+    (cases_lt b.last a.last)

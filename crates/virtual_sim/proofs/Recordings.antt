@@ -1,0 +1,124 @@
+-- A piece of an instance, and the release of a batch, added to what is recorded.
+use Rattle.std.specs.Prelude.{Bool, ◌||◌, ◌==◌, if◌then◌else◌}
+use Rattle.std.proofs.Common.{◌≡◌, ◌≢◌, ℕ, ◌+◌, ◌-◌, ◌<◌, ◌≤◌, ◌⊎◌, true, false, List, [], ◌++◌, length, take, get_or, refl, sym, ap, ◌∙◌, subst, inl, inr, ⊎_elim, arith}
+use Rattle.std.proofs.lemmas.Bool.{cases_eq, cases_Bool, eq-eqb, ne_eqb}
+use Rattle.dbp_plan.specs.declared.plan.Plan.{Plan}
+use Rattle.dbp_plan.specs.declared.table.Table.{Table}
+use Rattle.dbp_plan.specs.declared.table.TaskRows.{TaskRows}
+use Rattle.dbp_plan.specs.Lookups.{declared}
+use Rattle.dbp_plan.specs.Occurrences.{names}
+use Rattle.dbp_plan.specs.Table.{HasRowsOf}
+use Rattle.dbp_rules.specs.Places.{entry_in, task, task_entry}
+use Rattle.dbp_rules.specs.Start.{start_of}
+use Rattle.dbp_rules.specs.Wired.{wiring_of}
+use Rattle.dbp_rules.specs.declared.parts.Place.{Place}
+use Rattle.dbp_rules.specs.declared.parts.Place.TheVariants.{Idle}
+use Rattle.dbp_rules.specs.declared.parts.ReleaserPart.{ReleaserPart}
+use Rattle.dbp_rules.specs.declared.state.State.{State}
+use Rattle.dbp_rules.specs.declared.state.TaskState.{TaskState}
+use Rattle.dbp_rules.specs.declared.step.Count.TheVariants.{Ranked}
+use Rattle.dbp_rules.specs.declared.step.Step.{Step}
+use Rattle.dbp_rules.specs.declared.wiring.Wiring.{Wiring}
+use Rattle.instance_steps.specs.EndedRows.{HasEndedRows}
+use Rattle.instance_steps.specs.Events.{Event, batch_events}
+use Rattle.instance_steps.specs.Plays.{Plays}
+use Rattle.instance_steps.specs.Recorders.{AddsSteps, plan_in, state_in, steps_in, table_in, wiring_in}
+use Rattle.instance_steps.specs.Releases.{HasEnded, ReleasesBatch, batch_at}
+use Rattle.instance_steps.specs.TaskPieces.{AddsPiece, place_after}
+use Rattle.instance_steps.specs.declared.recorder.Recorder.{Recorder}
+use Rattle.instance_steps.proofs.PlaysLaws.{plays_on}
+use Rattle.instance_steps.proofs.RowsKept.{ended_rows_stay}
+use Rattle.virtual_sim.specs.Recordings.{IsRecorded, place_of}
+use Rattle.virtual_sim.specs.State.{Renewed, release_count}
+
+-- the same table, of a state in which as many instances have ended
+same_rows : (p : Plan) (r r' : Recorder) → ((i : ℕ) → (task (state_in r') i).part.ended ≡ (task (state_in r) i).part.ended) → table_in r' ≡ table_in r → HasEndedRows p (state_in r) (table_in r) → HasEndedRows p (state_in r') (table_in r')
+same_rows p r r' ended same rows = subst (λ (t : Table). HasEndedRows p (state_in r') t) (sym same) (ended_rows_stay p (state_in r) (state_in r') (table_in r) ended rows)
+
+module _ (p : Plan) (r r' : Recorder) (b : ℕ) (events : List Event) (places : ℕ → Place) (ends : List (List ℕ)) (h : IsRecorded p b events places ends r) where
+  abbrev start : State
+  start = start_of p (wiring_of p Ranked)
+
+  -- the steps play the events that are added
+  pub added_plays : (more : List Event) → AddsSteps r r' more → Plays p (wiring_of p Ranked) start (events ++ more) (steps_in r') (state_in r')
+  added_plays more adds =
+      let own : Plays p (wiring_of p Ranked) (state_in r) more adds.added (state_in r') =
+      subst (λ (q : Plan). Plays q (wiring_of p Ranked) (state_in r) more adds.added (state_in r')) h.plan
+      (subst (λ (w : Wiring). Plays (plan_in r) w (state_in r) more adds.added (state_in r')) h.wiring adds.plays) in
+      subst (λ (l : List Step). Plays p (wiring_of p Ranked) start (events ++ more) l (state_in r')) (sym adds.steps)
+      (plays_on p (wiring_of p Ranked) events more (steps_in r) adds.added start (state_in r) (state_in r') h.plays own)
+
+  -- a piece of an instance of task i
+  pub adds_piece : (more : List Event) (i instances : ℕ) (place : Place) (places' : ℕ → Place) (ends' : List (List ℕ)) → AddsPiece r r' more i instances place
+      → places' i ≡ place → ((j : ℕ) → j ≢ i → places' j ≡ places j) → instances ≡ length (get_or ends' i []) → ((j : ℕ) → j ≢ i → length (get_or ends' j []) ≡ length (get_or ends j []))
+      → HasEndedRows p (state_in r') (table_in r') → IsRecorded p b (events ++ more) places' ends' r'
+  adds_piece more i instances place places' ends' adds here others ended ended_others rows = record {
+    plan = adds.steps.plan ∙ h.plan;
+    wiring = adds.steps.wiring ∙ h.wiring;
+    plays = added_plays more adds.steps;
+    rows = rows;
+    released = ap (λ (q : ReleaserPart). q.place) adds.changes.releaser ∙ h.released;
+    aimed = λ j jl. ap (λ (q : ReleaserPart). (entry_in q j).aimed) adds.changes.releaser ∙ h.aimed j jl;
+    gates = λ j jl. ⊎_elim
+        (λ (e : j ≡ i). subst (λ (k : ℕ). (task (state_in r') k).words.gate ≡ release_count p.batches b k) (sym e) (adds.changes.gate ∙ subst (λ (k : ℕ). (task (state_in r) k).words.gate ≡ release_count p.batches b k) e (h.gates j jl)))
+        (λ (ne : j ≢ i). ap (λ (t : TaskState). t.words.gate) (adds.changes.others j ne) ∙ h.gates j jl)
+        (cases_eq j i);
+    ended = λ j jl. ⊎_elim
+        (λ (e : j ≡ i). subst (λ (k : ℕ). (task (state_in r') k).part.ended ≡ length (get_or ends' k [])) (sym e) (adds.changes.ended ∙ ended))
+        (λ (ne : j ≢ i). ap (λ (t : TaskState). t.part.ended) (adds.changes.others j ne) ∙ h.ended j jl ∙ sym (ended_others j ne))
+        (cases_eq j i);
+    place = λ j jl. ⊎_elim
+        (λ (e : j ≡ i). subst (λ (k : ℕ). (task (state_in r') k).part.place ≡ places' k) (sym e) (adds.changes.place ∙ sym here))
+        (λ (ne : j ≢ i). ap (λ (t : TaskState). t.part.place) (adds.changes.others j ne) ∙ h.place j jl ∙ sym (others j ne))
+        (cases_eq j i);
+  }
+
+  -- a piece in which no instance ends
+  pub same_ended : (more : List Event) (i : ℕ) (place : Place) → AddsPiece r r' more i (task (state_in r) i).part.ended place → (j : ℕ) → (task (state_in r') j).part.ended ≡ (task (state_in r) j).part.ended
+  same_ended more i place adds j = ⊎_elim
+      (λ (e : j ≡ i). subst (λ (k : ℕ). (task (state_in r') k).part.ended ≡ (task (state_in r) k).part.ended) (sym e) adds.changes.ended)
+      (λ (ne : j ≢ i). ap (λ (t : TaskState). t.part.ended) (adds.changes.others j ne))
+      (cases_eq j i)
+
+  pub goes_on : (more : List Event) (i : ℕ) (place : Place) (places' : ℕ → Place) → i < length p.diagram.tasks → AddsPiece r r' more i (task (state_in r) i).part.ended place
+      → places' i ≡ place → ((j : ℕ) → j ≢ i → places' j ≡ places j) → table_in r' ≡ table_in r → IsRecorded p b (events ++ more) places' ends r'
+  goes_on more i place places' il adds here others table =
+      adds_piece more i (task (state_in r) i).part.ended place places' ends adds here others (h.ended i il) (λ j ne. refl)
+      (same_rows p r r' (same_ended more i place adds) table h.rows)
+
+idle_if : (a b : Bool) (x : Place) → b ≡ true → (if a || b then Idle else x) ≡ Idle
+idle_if true b x is = refl
+idle_if false b x is = rw is refl
+
+-- idle where all is left
+pub place_all : (p : Plan) (i : ℕ) → place_of p i (declared p i).cost ≡ Idle
+place_all p i = idle_if ((declared p i).cost == 0) ((declared p i).cost == (declared p i).cost) (place_after p i ((declared p i).cost - (declared p i).cost)) (eq-eqb (declared p i).cost (declared p i).cost refl)
+
+-- and under way where some is
+pub place_some : (p : Plan) (i rest : ℕ) → 0 < rest → rest < (declared p i).cost → place_of p i rest ≡ place_after p i ((declared p i).cost - rest)
+place_some p i rest some less = rw (ne_eqb rest 0 (λ e. omega (arith, e, some)), ne_eqb rest (declared p i).cost (λ e. omega (arith, e, less))) refl
+
+-- the release of the batch with the number b, of whose tasks nothing was left
+pub adds_batch : (p : Plan) (r r' : Recorder) (b : ℕ) (events : List Event) (rest rest' : List ℕ) (ends : List (List ℕ)) → IsRecorded p b events (λ i. place_of p i (get_or rest i 0)) ends r
+    → AddsSteps r r' (batch_events p (batch_at p b)) → ReleasesBatch p (state_in r) (state_in r') b (batch_at p b) → table_in r' ≡ table_in r
+    → Renewed p (batch_at p b) rest rest' → ((i : ℕ) → names i (batch_at p b) ≡ true → get_or rest i 0 ≡ 0)
+    → IsRecorded p (b + 1) (events ++ batch_events p (batch_at p b)) (λ i. place_of p i (get_or rest' i 0)) ends r'
+adds_batch p r r' b events rest rest' ends h adds releases table renewed free = record {
+  plan = adds.plan ∙ h.plan;
+  wiring = adds.wiring ∙ h.wiring;
+  plays = added_plays p r r' b events (λ i. place_of p i (get_or rest i 0)) ends h (batch_events p (batch_at p b)) adds;
+  rows = same_rows p r r' (λ i. ap (λ t. t.ended) (releases.parts i)) table h.rows;
+  released = releases.released;
+  aimed = releases.aimed;
+  gates = releases.gates;
+  ended = λ i il. ap (λ t. t.ended) (releases.parts i) ∙ h.ended i il;
+  place = λ i il. ap (λ t. t.place) (releases.parts i) ∙ h.place i il ∙ ⊎_elim
+      (λ (e : names i (batch_at p b) ≡ true). ap (place_of p i) (free i e) ∙ sym (ap (place_of p i) (renewed.named i e) ∙ place_all p i))
+      (λ (e : names i (batch_at p b) ≡ false). ap (place_of p i) (sym (renewed.others i e)))
+      (cases_Bool (names i (batch_at p b)));
+}
+
+-- the tasks of a batch of which nothing is left have ended their aimed instances
+pub has_ended : (p : Plan) (r : Recorder) (b : ℕ) (events : List Event) (places : ℕ → Place) (ends : List (List ℕ)) → IsRecorded p b events places ends r
+    → ((i : ℕ) → names i (batch_at p b) ≡ true → (i < length p.diagram.tasks) × (length (get_or ends i []) ≡ release_count p.batches b i)) → HasEnded (state_in r) (batch_at p b)
+has_ended p r b events places ends h all i named = h.ended i (all i named).0 ∙ (all i named).1 ∙ sym (h.aimed i (all i named).0)

@@ -1,0 +1,231 @@
+-- The steps of a simulation: one runs, none runs, a batch is released.
+use Rattle.std.proofs.Common.{◌≡◌, ◌≢◌, ℕ, zero, suc, ◌+◌, ◌-◌, ◌<◌, ◌≤◌, ◌⊎◌, ◌↔◌, Bool, true, false, List, [], ◌∷◌, ◌++◌, length, get_or, Option, Some, None, refl, sym, ap, ◌∙◌, subst, inl, inr, ⊎_elim, arith}
+use Rattle.std.proofs.lemmas.List.{length_push, get_or_push, get_or_append_left}
+use Rattle.std.proofs.lemmas.Bool.{cases_lt, cases_eq, cases_Bool}
+use Rattle.dbp_plan.specs.declared.plan.Plan.{Plan}
+use Rattle.dbp_plan.specs.declared.schedule.Batch.{Batch}
+use Rattle.dbp_plan.specs.Occurrences.{names, times_of}
+use Rattle.dbp_plan.specs.Lookups.{declared}
+use Rattle.rank_order.specs.Instances.{Instance, IsInstance, before_it, release_of}
+use Rattle.rank_order.specs.Service.{GoesBefore, IsFirst, IsService, Waits, left_of, served_ticks}
+use Rattle.rank_order.specs.Ends.{IsEnd, IsOverrun, Late, NoOverrun}
+use Rattle.instance_steps.specs.Releases.{no_batch}
+use Rattle.virtual_sim.specs.State.{release_count, instance, busy_count, EndsAt, IsSimulatedTo, NoBatchBefore, Sets}
+use Rattle.rank_order.proofs.Choices.{same_instance, cases_instance}
+use Rattle.rank_order.proofs.Jump.{Ran, runs, serves, rests}
+use Rattle.rank_order.proofs.OneService.{serves_waiting}
+use Rattle.rank_order.proofs.ServedTicks.{served_grows, unserved, unserved_after}
+use Rattle.virtual_sim.proofs.PlanRules as rules
+use Rattle.dbp_plan.proofs.OccurrenceBatches.{IsOfBatch, batch_of}
+use Rattle.dbp_plan.proofs.TaskTimes.{more-named, more-other, some-of, some-rise}
+use Rattle.virtual_sim.proofs.Times.{time_at, when}
+
+pub busy_count_one : (n : ℕ) → 0 < n → busy_count n ≡ 1
+busy_count_one zero lt = absurd (omega (arith, lt))
+busy_count_one (suc n) lt = refl
+
+pub busy_count_none : (n : ℕ) → n ≡ 0 → busy_count n ≡ 0
+busy_count_none n e = ap busy_count e
+
+module _ (P : Plan) (serve : ℕ → Option Instance) (service : IsService P serve) where
+  -- what is left grows less
+  pub left_falls : (x : Instance) (t u : ℕ) → t ≤ u → left_of P serve x u ≤ left_of P serve x t
+  left_falls x t u le =
+      let same : t + (u - t) ≡ u = omega (arith, le) in
+      let grows = served_grows serve x t (u - t) in
+      let k = ap (λ (n : ℕ). served_ticks serve x n) same in
+      omega (arith, grows, k)
+
+  pub is_end : (x : Instance) (e : ℕ) → EndsAt P serve x e → IsEnd serve x e
+  is_end x e f = record {
+    last = e - 1;
+    served = f.last;
+    no_later = λ t lt. let above = f.above in unserved_after P serve (serves_waiting P serve service) x e t f.done (omega (arith, lt, above));
+    after = let above = f.above in omega (arith, above);
+  }
+
+  -- the batch of an instance
+  pub batch_of_instance : (x : Instance) → IsInstance P x → (k : ℕ) × IsOfBatch P.batches x.task (x.number - 1) k
+  batch_of_instance x here = batch_of P.batches x.task (x.number - 1) (let a = here.from_one in let c = here.within in omega (arith, a, c))
+
+  pub number_by : (x : Instance) (k b : ℕ) → IsInstance P x → IsOfBatch P.batches x.task (x.number - 1) k → k < b → x.number ≤ release_count P.batches b x.task
+  number_by x k b here at lt =
+      let up = more-named P.batches x.task k no_batch at.within (at.named no_batch) in
+      let grows = some-rise P.batches x.task (k + 1) b (omega (arith, lt)) in
+      let n = at.number in
+      let a = here.from_one in
+      omega (arith, up, grows, n, a)
+
+  module _ (b now : ℕ) (rest : List ℕ) (ends : List (List ℕ)) (at : IsSimulatedTo P serve b now rest ends) where
+    -- one whose end is noted has nothing left
+    pub ended_left : (i n : ℕ) → i < length P.diagram.tasks → 0 < n → n ≤ length (get_or ends i []) → left_of P serve (instance i n) now ≡ 0
+    ended_left i n small above le =
+        let f = at.ended i (n - 1) small (omega (arith, above, le)) in
+        let past = at.past i (n - 1) small (omega (arith, above, le)) in
+        let same : n - 1 + 1 ≡ n = omega (arith, above) in
+        let done = subst (λ (m : ℕ). left_of P serve (instance i m) (get_or (get_or ends i []) (n - 1) 0) ≡ 0) same f.done in
+        let falls = left_falls (instance i n) (get_or (get_or ends i []) (n - 1) 0) now past in
+        omega (arith, done, falls)
+
+    module _ (limit : ℕ) (until : NoBatchBefore P b limit) where
+      -- what is released before the limit is released already
+      pub released_by : (x : Instance) → IsInstance P x → release_of P x < limit → (release_of P x ≤ now) × (x.number ≤ release_count P.batches b x.task)
+      released_by x here lt =
+          let k = batch_of_instance x here in
+          let w = when k.1 no_batch in
+          let before : k.0 < b = ⊎_elim (λ (l : k.0 < b). l) (λ (g : b ≤ k.0). let u = until.later k.0 no_batch g k.1.within in absurd (omega (arith, u, w, lt))) (cases_lt k.0 b) in
+          let e = at.early k.0 no_batch before k.1.within in
+          (omega (arith, e, w), number_by x k.0 b here k.1 before)
+
+      pub quiet : (d : ℕ) → now + d ≤ limit → (y : Instance) → IsInstance P y → release_of P y < now + d → release_of P y ≤ now
+      quiet d le y here lt = (released_by y here (omega (arith, le, lt))).0
+
+      -- those that wait are the tasks' latest instances that need something
+      pub waits_is : now < limit → (x : Instance) → Waits P (left_of P serve) now x → (0 < get_or rest x.task 0) × (x.number ≡ release_count P.batches b x.task)
+      waits_is lt x w =
+          let number = (released_by x w.instance (let r = w.released in omega (arith, r, lt))).1 in
+          let count = at.counts x.task w.instance.task in
+          let more : length (get_or ends x.task []) < x.number =
+          ⊎_elim (λ (l : length (get_or ends x.task []) < x.number). l)
+          (λ (g : x.number ≤ length (get_or ends x.task [])).
+          let none = ended_left x.task x.number w.instance.task w.instance.from_one g in
+          let some = w.unfinished in
+          absurd (omega (arith, none, some)))
+          (cases_lt (length (get_or ends x.task [])) x.number) in
+          ⊎_elim
+          (λ (e : get_or rest x.task 0 ≡ 0). let z = busy_count_none (get_or rest x.task 0) e in absurd (omega (arith, z, count, more, number)))
+          (λ (ne : get_or rest x.task 0 ≡ 0 → ⊥).
+          let some : 0 < get_or rest x.task 0 = omega (arith, ne) in
+          let one = busy_count_one (get_or rest x.task 0) some in
+          (some, omega (arith, one, count, more, number)))
+          (cases_eq (get_or rest x.task 0) 0)
+
+    pub in_plan : (i : ℕ) → i < length P.diagram.tasks → 0 < get_or rest i 0 → IsInstance P (instance i (release_count P.batches b i))
+    in_plan i small some =
+        let count = at.counts i small in
+        let one = busy_count_one (get_or rest i 0) some in
+        record { task = small; from_one = omega (arith, one, count); within = some-of P.batches i b }
+
+    pub waits_from : (i : ℕ) → i < length P.diagram.tasks → 0 < get_or rest i 0 → Waits P (left_of P serve) now (instance i (release_count P.batches b i))
+    waits_from i small some =
+        let here = in_plan i small some in
+        let k = batch_of_instance (instance i (release_count P.batches b i)) here in
+        let w = when k.1 no_batch in
+        let n = k.1.number in
+        let one = here.from_one in
+        let before : k.0 < b = ⊎_elim (λ (l : k.0 < b). l) (λ (g : b ≤ k.0). let u = some-rise P.batches i b k.0 g in absurd (omega (arith, u, n, one))) (cases_lt k.0 b) in
+        let e = at.early k.0 no_batch before k.1.within in
+        let u = at.under i small some in
+        record { instance = here; released = omega (arith, e, w); unfinished = omega (arith, u, some) }
+
+    -- the task's latest instance runs for d ticks
+    module _ (limit i d : ℕ) (until : NoBatchBefore P b limit) (small : i < length P.diagram.tasks) (some : 0 < get_or rest i 0) (le : now + d ≤ limit)
+        (first : IsFirst (GoesBefore P) (Waits P (left_of P serve) now) (Some (instance i (release_count P.batches b i)))) (fits : d ≤ get_or rest i 0) where
+      x : Instance
+      x = instance i (release_count P.batches b i)
+
+      ran : Ran serve (instance i (release_count P.batches b i)) now d
+      ran = let u = at.under i small some in
+          runs P serve service now d (quiet limit until d le) (instance i (release_count P.batches b i)) first (omega (arith, fits, u)) d (omega arith)
+
+      other_left : (j n : ℕ) → j ≢ i → left_of P serve (instance j n) (now + d) ≡ left_of P serve (instance j n) now
+      other_left j n ne =
+          let o = ran.others (instance j n) (λ e. ne (ap (λ (z : Instance). z.task) e)) in
+          omega (arith, o)
+
+      own_left : left_of P serve (instance i (release_count P.batches b i)) (now + d) ≡ get_or rest i 0 - d
+      own_left = let o = ran.own in let u = at.under i small some in omega (arith, o, u)
+
+      -- and is not done
+      pub runs_on : (rest' : List ℕ) → d < get_or rest i 0 → Sets 0 rest i (get_or rest i 0 - d) rest' → IsSimulatedTo P serve b (now + d) rest' ends
+      runs_on rest' lt set = record {
+        rests = set.long ∙ at.rests;
+        lists = at.lists;
+        counts = λ j jl. ⊎_elim
+            (λ (e : j ≡ i). subst (λ (m : ℕ). length (get_or ends m []) + busy_count (get_or rest' m 0) ≡ release_count P.batches b m) (sym e)
+            (let c = at.counts i small in let one = busy_count_one (get_or rest i 0) some in let new = busy_count_one (get_or rest' i 0) (let s = set.same in omega (arith, s, lt)) in omega (arith, c, one, new)))
+            (λ (ne : j ≢ i). let o = set.others j ne in subst (λ (m : ℕ). length (get_or ends j []) + busy_count m ≡ release_count P.batches b j) (sym o) (at.counts j jl))
+            (cases_eq j i);
+        ended = at.ended;
+        past = λ j k jl kl. let p = at.past j k jl kl in omega (arith, p);
+        under = λ j jl more. ⊎_elim
+            (λ (e : j ≡ i). subst (λ (m : ℕ). get_or rest' m 0 ≡ left_of P serve (instance m (release_count P.batches b m)) (now + d)) (sym e) (set.same ∙ sym own_left))
+            (λ (ne : j ≢ i). let o = set.others j ne in o ∙ at.under j jl (omega (arith, o, more)) ∙ sym (other_left j (release_count P.batches b j) ne))
+            (cases_eq j i);
+        early = λ k e kl kb. let p = at.early k e kl kb in omega (arith, p);
+        in_time = at.in_time;
+      }
+
+      -- and ends
+      pub runs_out : (rest' : List ℕ) (ends' : List (List ℕ)) → d ≡ get_or rest i 0 → Sets 0 rest i 0 rest' → Sets [] ends i (get_or ends i [] ++ (now + d) ∷ []) ends' → IsSimulatedTo P serve b (now + d) rest' ends'
+      runs_out rest' ends' same set noted =
+          let grown : length (get_or ends' i []) ≡ length (get_or ends i []) + 1 = ap (length {A = ℕ}) noted.same ∙ length_push (get_or ends i []) (now + d) in
+          let count = at.counts i small in
+          let one = busy_count_one (get_or rest i 0) some in
+          let number : length (get_or ends i []) + 1 ≡ release_count P.batches b i = omega (arith, count, one) in
+          record {
+            rests = set.long ∙ at.rests;
+            lists = noted.long ∙ at.lists;
+            counts = λ j jl. ⊎_elim
+                (λ (e : j ≡ i). subst (λ (m : ℕ). length (get_or ends' m []) + busy_count (get_or rest' m 0) ≡ release_count P.batches b m) (sym e)
+                (let new = busy_count_none (get_or rest' i 0) set.same in omega (arith, number, grown, new)))
+                (λ (ne : j ≢ i). subst (λ (m : ℕ). length (get_or ends' j []) + busy_count m ≡ release_count P.batches b j) (sym (set.others j ne))
+                (subst (λ (l : List ℕ). length l + busy_count (get_or rest j 0) ≡ release_count P.batches b j) (sym (noted.others j ne)) (at.counts j jl)))
+                (cases_eq j i);
+            ended = λ j k jl kl. ⊎_elim
+                (λ (e : j ≡ i). subst (λ (m : ℕ). EndsAt P serve (instance m (k + 1)) (get_or (get_or ends' m []) k 0)) (sym e)
+                (let kl' = subst (λ (m : ℕ). k < length (get_or ends' m [])) e kl in
+                subst (λ (l : List ℕ). EndsAt P serve (instance i (k + 1)) (get_or l k 0)) (sym noted.same)
+                (⊎_elim
+                (λ (old : k < length (get_or ends i [])).
+                subst (EndsAt P serve (instance i (k + 1))) (sym (get_or_append_left (get_or ends i []) ((now + d) ∷ []) 0 k old)) (at.ended i k small old))
+                (λ (new : length (get_or ends i []) ≤ k).
+                let is : length (get_or ends i []) ≡ k = omega (arith, new, kl', grown) in
+                let its : release_count P.batches b i ≡ k + 1 = omega (arith, number, is) in
+                subst (EndsAt P serve (instance i (k + 1))) (sym (get_or_push (get_or ends i []) (now + d) 0 k is))
+                (subst (λ (n : ℕ). EndsAt P serve (instance i n) (now + d)) its
+                (record {
+                  above = omega (arith, same, some);
+                  last =
+                      let u = at.under i small some in
+                      let before : now + (d - 1) ≡ now + d - 1 = omega (arith, same, some) in
+                      subst (λ (t : ℕ). serve t ≡ Some (instance i (release_count P.batches b i))) before
+                      (serves P serve service now d (quiet limit until d le) (instance i (release_count P.batches b i)) first (omega (arith, fits, u)) (d - 1) (omega (arith, same, some)));
+                  done = own_left ∙ (let z : get_or rest i 0 - d ≡ 0 = omega (arith, same) in z);
+                })))
+                (cases_lt k (length (get_or ends i []))))))
+                (λ (ne : j ≢ i). subst (λ (l : List ℕ). EndsAt P serve (instance j (k + 1)) (get_or l k 0)) (sym (noted.others j ne))
+                (at.ended j k jl (subst (λ (l : List ℕ). k < length l) (noted.others j ne) kl)))
+                (cases_eq j i);
+            past = λ j k jl kl. ⊎_elim
+                (λ (e : j ≡ i). subst (λ (m : ℕ). get_or (get_or ends' m []) k 0 ≤ now + d) (sym e)
+                (let kl' = subst (λ (m : ℕ). k < length (get_or ends' m [])) e kl in
+                subst (λ (l : List ℕ). get_or l k 0 ≤ now + d) (sym noted.same)
+                (⊎_elim
+                (λ (old : k < length (get_or ends i [])). let p = at.past i k small old in let q = get_or_append_left (get_or ends i []) ((now + d) ∷ []) 0 k old in omega (arith, p, q))
+                (λ (new : length (get_or ends i []) ≤ k). let q = get_or_push (get_or ends i []) (now + d) 0 k (omega (arith, new, kl', grown)) in omega (arith, q))
+                (cases_lt k (length (get_or ends i []))))))
+                (λ (ne : j ≢ i). let p = at.past j k jl (subst (λ (l : List ℕ). k < length l) (noted.others j ne) kl) in
+                subst (λ (l : List ℕ). get_or l k 0 ≤ now + d) (sym (noted.others j ne)) (omega (arith, p)))
+                (cases_eq j i);
+            under = λ j jl more. ⊎_elim
+                (λ (e : j ≡ i). let z = set.same in let m = subst (λ (m : ℕ). 0 < get_or rest' m 0) e more in absurd (omega (arith, z, m)))
+                (λ (ne : j ≢ i). let o = set.others j ne in o ∙ at.under j jl (omega (arith, o, more)) ∙ sym (other_left j (release_count P.batches b j) ne))
+                (cases_eq j i);
+            early = λ k e kl kb. let p = at.early k e kl kb in omega (arith, p);
+            in_time = at.in_time;
+          }
+
+    -- nothing runs until the limit
+    pub waits_out : (limit : ℕ) → NoBatchBefore P b limit → now < limit → ((i : ℕ) → i < length P.diagram.tasks → get_or rest i 0 ≡ 0) → IsSimulatedTo P serve b limit rest ends
+    waits_out limit until lt none =
+        record {
+          rests = at.rests;
+          lists = at.lists;
+          counts = at.counts;
+          ended = at.ended;
+          past = λ j k jl kl. let p = at.past j k jl kl in omega (arith, p, lt);
+          under = λ j jl more. let z = none j jl in absurd (omega (arith, z, more));
+          early = λ k e kl kb. let p = at.early k e kl kb in omega (arith, p, lt);
+          in_time = at.in_time;
+        }

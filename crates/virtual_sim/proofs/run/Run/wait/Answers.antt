@@ -1,0 +1,18 @@
+use Rattle.std.proofs.Common.{arith, ℕ, List, ◌≡◌, ◌<◌, ◌≤◌, get_or, length, refl, sym, ap, ◌∙◌, subst}
+use Rattle.std.proofs.lemmas.List.{get_or_default}
+use Rattle.dbp_plan.specs.declared.schedule.Batch.{Batch}
+use Rattle.instance_steps.specs.Releases.{batch_at, no_batch}
+use Rattle.virtual_sim.specs.State.{NoBatchBefore}
+use Rattle.virtual_sim.proofs.PlanRules as rules
+use Rattle.virtual_sim.proofs.Running.{rested, until_next}
+use Rattle.virtual_sim.proofs.run.Run.wait.Goals as goal
+
+pub returns-clause-run : goal.returns-clause-run
+returns-clause-run c =
+    let plan = c.args.plan.now in
+    let r = c.args.self.now in
+    let is : get_or c.items.result.now r.released c.index-items-self.result ≡ batch_at plan r.released =
+    ap (λ (l : List Batch). get_or l r.released c.index-items-self.result) c.items.ensures.value ∙ get_or_default plan.batches r.released c.index-items-self.result no_batch c.requires.more in
+    let limit = ap (λ (b : Batch). b.time) is in
+    let early = rules.small_times plan r.released no_batch c.requires.more in
+    rested plan r c.requires.run c.requires.none _ _ (until_next plan r.released c.requires.more) c.requires.ahead early limit refl refl refl refl

@@ -1,0 +1,46 @@
+use Rattle.std.proofs.Common.{arith, ℕ, ◌≡◌, ◌<◌, ◌+◌, ◌++◌, ◌∙◌, length, refl, sym, ap, subst, length-append}
+use Rattle.dbp_plan.specs.declared.plan.Plan.{Plan}
+use Rattle.dbp_plan.specs.Lookups.{declared}
+use Rattle.rank_order.specs.ServiceOf.{service}
+use Rattle.dbp_rules.specs.Places.{task}
+use Rattle.dbp_rules.specs.declared.wiring.Wiring.{Wiring}
+use Rattle.instance_steps.specs.Recorders.{plan_in, state_in}
+use Rattle.instance_steps.specs.TaskPieces.{MayStep, place_after}
+use Rattle.virtual_sim.specs.Record.{begin_events_at, events_so_far}
+use Rattle.virtual_sim.proofs.Budgets.{begin_few}
+use Rattle.virtual_sim.proofs.PlanRules.{closed_task}
+use Rattle.virtual_sim.proofs.Running.{first_small}
+use Rattle.virtual_sim.proofs.Serving.{events_few, may, reads_first, recorded_length, with_here}
+use Rattle.virtual_sim.proofs.simulation.Simulation.make_steps.Goals as goal
+
+pub make_reads-requires : goal.make_reads-requires
+make_reads-requires c =
+    let p = c.args.plan.now in
+    let s = c.args.self.now in
+    let h = c.requires.simulation in
+    let i = c.args.task in
+    let first = c.requires.first in
+    let r = c.begin.new.self.recorder in
+    let g = c.in_ok-begin.ensures.recorded in
+    let small = first_small p s.run h.run i first in
+    record {
+      task = subst (λ (q : Plan). i < length q.diagram.tasks) (sym g.plan) small;
+      free = subst (λ (w : Wiring). MayStep w (state_in r) i) (sym g.wiring) (may p s h i c.args.served first c.requires.served c.requires.until (state_in r) g.ended g.aimed);
+      place = subst (λ (q : Plan). (task (state_in r) i).part.place ≡ place_after q i c.args.served) (sym g.plan) (g.place i small ∙ with_here p s.run.rest.items i (place_after p i c.args.served));
+      rows = λ all. absurd (cc (all, ap (λ (w : Wiring). w.count) g.wiring));
+      room =
+          let few = events_few p s h in
+          let long = recorded_length p _ _ _ _ r g in
+          let begin = begin_few p i (service p) c.args.served in
+          let all = length-append (events_so_far p (service p) s.run.released s.run.time) (begin_events_at p (service p) i c.args.served) in
+          let reads = (closed_task p i small).reads in
+          let same = ap (λ (q : Plan). length (declared q i).reads) g.plan in
+          omega (arith, few, long, begin, all, reads, same);
+    }
+
+pub returns : goal.returns
+returns c = record {
+  run = c.in_ok-begin.ensures.run;
+  recorded = reads_first c.args.plan.now c.args.self.now c.requires.simulation c.args.task c.args.served c.requires.first c.requires.served c.begin.new.self.recorder c.make_reads.new.self
+      c.in_ok-begin.ensures.recorded c.in_ok-make_reads.ensures.piece c.in_ok-make_reads.ensures.table;
+}

@@ -1,0 +1,20 @@
+use Rattle.std.proofs.Common.{◌∙◌, ap, subst}
+use Rattle.dbp_plan.specs.declared.plan.Plan.{Plan}
+use Rattle.dbp_rules.specs.Start.{start_of}
+use Rattle.dbp_rules.specs.Wired.{wiring_of}
+use Rattle.dbp_rules.specs.declared.step.Count.TheVariants.{Ranked}
+use Rattle.instance_steps.specs.EndedRows.{HasEndedRows}
+use Rattle.instance_steps.specs.Recorders.{state_in, table_in}
+use Rattle.virtual_sim.proofs.Finals.{starts}
+use Rattle.virtual_sim.proofs.simulation.Simulation.new.Goals as goal
+
+pub returns-clause-simulation : goal.returns-clause-simulation
+returns-clause-simulation c =
+    let e = c.in_ok-copy.ensures in
+    let r = c.in_ok-recorder.ensures in
+    starts c.args.plan.now _ c.in_ok-run.ensures.run c.in_ok-run.ensures.time c.in_ok-run.ensures.released c.in_ok-run.ensures.rest c.in_ok-run.ensures.ends
+    (r.plan ∙ e) r.count (r.start ∙ ap (λ (q : Plan). start_of q (wiring_of q Ranked)) e) r.steps
+    (subst (λ (q : Plan). HasEndedRows q (state_in c.in_ok-recorder.recorder) (table_in c.in_ok-recorder.recorder)) e r.rows)
+
+pub returns-clause-released : goal.returns-clause-released
+returns-clause-released c = c.in_ok-run.ensures.released

@@ -1,0 +1,75 @@
+use Rattle.std.proofs.Common.{arith, ℕ, ◌≡◌, ◌<◌, ◌≤◌, ◌+◌, ◌*◌, ◌∙◌, List, [], length, get_or, refl, sym, ap, subst}
+use Rattle.std.proofs.Math.Nat.{mul-le-mul_left}
+use Rattle.std.proofs.lemmas.List.{get_or_read}
+use Rattle.dbp_plan.specs.declared.plan.Plan.{Plan}
+use Rattle.rank_order.specs.Ends.{IsOverrun}
+use Rattle.rank_order.specs.Service.{left_of}
+use Rattle.rank_order.specs.ServiceOf.{service}
+use Rattle.instance_steps.specs.Recorders.{plan_in, state_in}
+use Rattle.instance_steps.specs.Releases.{HasEnded, HasReleased, batch_at}
+use Rattle.virtual_sim.specs.State.{instance}
+use Rattle.virtual_sim.proofs.Running.{few_ends}
+use Rattle.virtual_sim.proofs.Serving.{batch_ended, batch_few, events_few, recorded_length, renews}
+use Rattle.virtual_sim.proofs.Whole.{overruns}
+use Rattle.virtual_sim.proofs.simulation.Simulation.release.Goals as goal
+
+pub bounds-items-task : goal.bounds-items-task
+bounds-items-task c = omega (arith, c.in-Some.ensures.small, c.requires.simulation.run.at.lists, ap (length {A = List ℕ}) c.items.ensures.value)
+
+pub overflow_add-result : goal.overflow_add-result
+overflow_add-result c =
+    let s = c.args.self.now in
+    let i = c.in-Some.task in
+    let there : i < length s.run.ends = omega (arith, c.in-Some.ensures.small, c.requires.simulation.run.at.lists) in
+    let is = c.index-items-task.is ∙ ap (λ (l : List (List ℕ)). get_or l i c.index-items-task.result) c.items.ensures.value in
+    let read = get_or_read s.run.ends i c.index-items-task.result there is [] in
+    let few = few_ends c.args.plan.now s.run c.requires.simulation.run i c.in-Some.ensures.small in
+    omega (arith, c.len.ensures, few, ap length read)
+
+pub returns-in-Some : goal.returns-in-Some
+returns-in-Some c =
+    let p = c.args.plan.now in
+    let s = c.args.self.now in
+    let i = c.in-Some.task in
+    let there : i < length s.run.ends = omega (arith, c.in-Some.ensures.small, c.requires.simulation.run.at.lists) in
+    let is = c.index-items-task.is ∙ ap (λ (l : List (List ℕ)). get_or l i c.index-items-task.result) c.items.ensures.value in
+    let read = get_or_read s.run.ends i c.index-items-task.result there is [] in
+    let over = overruns p s.run c.requires.simulation.run c.requires.more c.requires.due i c.in-Some.ensures in
+    subst (λ (n : ℕ). IsOverrun p (left_of p (service p)) s.run.time (instance i (n + 2))) (sym (c.len.ensures ∙ ap length read)) over
+
+pub release_batch-requires : goal.release_batch-requires
+release_batch-requires c =
+    let p = c.args.plan.now in
+    let s = c.args.self.now in
+    let h = c.requires.simulation in
+    let b = s.run.released in
+    record {
+      batch = subst (λ (q : Plan). b < length q.batches) (sym h.recorded.plan) c.requires.more;
+      released = subst (λ (q : Plan). HasReleased q (state_in s.recorder) b) (sym h.recorded.plan) h.recorded.released;
+      ended = subst (λ (q : Plan). HasEnded (state_in s.recorder) (batch_at q b)) (sym h.recorded.plan) (batch_ended p s h c.requires.more c.in_default.ensures);
+      room =
+          let few = events_few p s h in
+          let long = recorded_length p _ _ _ _ s.recorder h.recorded in
+          let tasks = batch_few p b c.requires.more in
+          let links = p.rules.ranked.closed.links in
+          let most : length (batch_at p b).tasks * (length p.diagram.links + 3) ≤ length (batch_at p b).tasks * 131 = mul-le-mul_left (length (batch_at p b).tasks) (omega (arith, links)) in
+          let same = ap (λ (q : Plan). length (batch_at q b).tasks * (length q.diagram.links + 3)) h.recorded.plan in
+          omega (arith, few, long, tasks, most, same);
+    }
+
+pub renew-requires : goal.renew-requires
+renew-requires c = record {
+  run = c.requires.simulation.run;
+  more = c.requires.more;
+  due = c.requires.due;
+  free = c.in_default.ensures;
+}
+
+pub returns : goal.returns
+returns c =
+    let p = c.args.plan.now in
+    let s = c.args.self.now in (
+      renews p s _ c.requires.simulation c.requires.more c.requires.due c.in_default.ensures c.renew.ensures.run c.renew.ensures.time c.renew.ensures.released c.renew.ensures.rest c.renew.ensures.ends
+          c.in-Ok.ensures.steps c.in-Ok.ensures.state c.in-Ok.ensures.table,
+      c.renew.ensures.released,
+    )

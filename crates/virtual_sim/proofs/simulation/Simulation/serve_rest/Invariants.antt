@@ -1,0 +1,12 @@
+use Rattle.std.proofs.Common.{◌≡◌, ◌≤◌, ◌-◌}
+use Rattle.virtual_sim.specs.Simulations.{IsSimulation}
+use Rattle.virtual_sim.proofs.simulation.Simulation.serve_rest.Given as goal
+
+abbrev pub invariant-loop-task : goal.invariant-loop-task
+invariant-loop-task l = record {
+  simulation : IsSimulation l.plan l.self;
+  released : l.self.run.released ≡ l.initial.self.run.released;
+}
+
+abbrev pub decreases-loop-task : goal.decreases-loop-task
+decreases-loop-task l = 3300000000000000 - l.self.run.time

@@ -1,0 +1,46 @@
+use Rattle.std.proofs.Common.{arith, ℕ, ◌≡◌, ◌<◌, ◌≤◌, ◌∙◌, List, length, get_or, refl, sym, ap, subst}
+use Rattle.instance_steps.specs.Releases.{batch_at}
+use Rattle.virtual_sim.specs.State.{NoBatchBefore}
+use Rattle.virtual_sim.proofs.Running.{all_idle, until_next}
+use Rattle.virtual_sim.proofs.Serving.{idles}
+use Rattle.virtual_sim.proofs.simulation.Simulation.serve_until_batch.Goals as goal
+
+pub wait-requires : goal.wait-requires
+wait-requires c =
+    let inv = c.loop-self.invariant in
+    record {
+      run = inv.simulation.run;
+      more = omega (arith, c.requires.more, inv.released);
+      ahead = omega (arith, c.loop-self-test.true, inv.limit);
+      none = c.in_default.ensures;
+    }
+
+pub returns-in_default-clause-simulation : goal.returns-in_default-clause-simulation
+returns-in_default-clause-simulation c =
+    let p = c.args.plan.now in
+    let s = c.loop-self.self in
+    let inv = c.loop-self.invariant in
+    let more : s.run.released < length p.batches = omega (arith, c.requires.more, inv.released) in
+    idles p s _ inv.simulation _ (until_next p s.run.released more) (omega (arith, c.loop-self-test.true, inv.limit)) (all_idle p s.run inv.simulation.run c.in_default.ensures)
+    c.wait.ensures.run c.wait.ensures.time c.wait.ensures.released c.wait.ensures.rest c.wait.ensures.ends refl
+
+pub serve-requires : goal.serve-requires
+serve-requires c =
+    let p = c.args.plan.now in
+    let s = c.loop-self.self in
+    let inv = c.loop-self.invariant in
+    let more : s.run.released < length p.batches = omega (arith, c.requires.more, inv.released) in
+    record {
+      simulation = inv.simulation;
+      first = c.in-Some.ensures;
+      until = subst (λ (t : ℕ). NoBatchBefore p s.run.released t) (sym inv.limit) (until_next p s.run.released more);
+      ahead = c.loop-self-test.true;
+    }
+
+pub loop-self-preserved : goal.loop-self-preserved
+loop-self-preserved c = record {
+  simulation = c.in_ok-serve.ensures.simulation;
+  limit = c.loop-self.invariant.limit ∙ ap (λ (b : ℕ). (batch_at c.args.plan.now b).time) (sym c.in_ok-serve.ensures.released);
+  released = c.in_ok-serve.ensures.released ∙ c.loop-self.invariant.released;
+  in_time = c.in_ok-serve.ensures.limit;
+}

@@ -1,0 +1,15 @@
+use Rattle.std.proofs.Common.{◌≡◌, ◌≤◌, ◌-◌}
+use Rattle.instance_steps.specs.Releases.{batch_at}
+use Rattle.virtual_sim.specs.Simulations.{IsSimulation}
+use Rattle.virtual_sim.proofs.simulation.Simulation.serve_until_batch.Given as goal
+
+abbrev pub invariant-loop-self : goal.invariant-loop-self
+invariant-loop-self l = record {
+  simulation : IsSimulation l.plan l.self;
+  limit : l.limit ≡ (batch_at l.plan l.self.run.released).time;
+  released : l.self.run.released ≡ l.initial.self.run.released;
+  in_time : l.self.run.time ≤ l.limit;
+}
+
+abbrev pub decreases-loop-self : goal.decreases-loop-self
+decreases-loop-self l = l.limit - l.self.run.time

@@ -1,0 +1,61 @@
+-- The recorded list of a simulation, tick by tick.
+use Rattle.std.specs.Prelude.{◌≡◌, ℕ, zero, suc, ◌+◌, ◌≤◌, ◌==◌, if◌then◌else◌, All, List, [], ◌++◌, filter, take, Option, Some, None}
+use Rattle.std.specs.List.{flat_map}
+use Rattle.dbp_plan.specs.declared.plan.Plan.{Plan}
+use Rattle.dbp_plan.specs.declared.schedule.Batch.{Batch}
+use Rattle.rank_order.specs.Ends.{NoOverrun}
+use Rattle.rank_order.specs.Instances.{Instance, IsInstance}
+use Rattle.rank_order.specs.Service.{left_of, served_ticks}
+use Rattle.rank_order.specs.ServiceOf.{service}
+use Rattle.dbp_rules.specs.Start.{start_of}
+use Rattle.dbp_rules.specs.Wired.{wiring_of}
+use Rattle.dbp_rules.specs.declared.state.State.{State}
+use Rattle.dbp_rules.specs.declared.step.Count.TheVariants.{Ranked}
+use Rattle.dbp_rules.specs.declared.step.Step.{Step}
+use Rattle.instance_steps.specs.Events.{Event, batch_events, begin_events, end_events, read_events}
+use Rattle.instance_steps.specs.Plays.{Plays}
+
+module _ (p : Plan) (serve : ℕ → Option Instance) where
+  -- 1. the instance that was served in the tick before ends, if nothing is left of it
+  abbrev pub end_events_of : Option Instance → ℕ → List Event
+  end_events_of None t = []
+  end_events_of (Some x) t = if left_of p serve x t == 0 then end_events p x.task else []
+
+  abbrev pub end_events_at : ℕ → List Event
+  end_events_at zero = []
+  end_events_at (suc t) = end_events_of (serve t) (suc t)
+
+  -- 2. the batch of the tick is released
+  abbrev pub release_events_at : List Batch → ℕ → List Event
+  release_events_at batches t = flat_map (batch_events p) (filter (λ b. b.time == t) batches)
+
+  -- 3. the first of those that wait is served: one that hasn't been served before begins, and then each read is made whose
+  -- tick of service this is
+  abbrev pub begin_events_at : ℕ → ℕ → List Event
+  begin_events_at i served = if served == 0 then begin_events p i else []
+
+  abbrev pub service_events_of : Option Instance → ℕ → List Event
+  service_events_of None t = []
+  service_events_of (Some x) t = begin_events_at x.task (served_ticks serve x t) ++ read_events p x.task (served_ticks serve x t)
+
+  abbrev pub events_at : ℕ → List Event
+  events_at t = end_events_at t ++ (release_events_at p.batches t ++ service_events_of (serve t) t)
+
+  -- those of all ticks before t
+  unfoldable pub events_before : ℕ → List Event
+  events_before zero = []
+  events_before (suc t) = events_before t ++ events_at t
+
+  -- those so far at t, where the first b batches are released: those of the ticks before, and of this tick its end and these batches
+  abbrev pub events_so_far : ℕ → ℕ → List Event
+  events_so_far b t = events_before t ++ (end_events_at t ++ release_events_at (take b p.batches) t)
+
+-- No release comes too early, and the steps play the events of all ticks up to one at which all batches are released and nothing is
+-- left of any instance. Later ticks have no events.
+pub record IsRecord (p : Plan) (script : List Step) : Type 0 where
+  pub in_time : NoOverrun p (left_of p (service p))
+  pub last : ℕ
+  pub released : All (λ b. b.time ≤ last) p.batches
+  pub ended : (x : Instance) → IsInstance p x → left_of p (service p) x last ≡ 0
+  pub state : State
+  pub plays : Plays p (wiring_of p Ranked) (start_of p (wiring_of p Ranked)) (events_before p (service p) (last + 1)) script state

@@ -1,0 +1,16 @@
+-- What a simulation keeps from one event to the next.
+use Rattle.std.specs.Prelude.{◌+◌, ◌*◌, ◌≤◌, length, slice_index, take}
+use Rattle.dbp_plan.specs.declared.plan.Plan.{Plan}
+use Rattle.dbp_plan.specs.Occurrences.{occurrence_count}
+use Rattle.rank_order.specs.ServiceOf.{service}
+use Rattle.virtual_sim.specs.declared.simulation.Simulation.{Simulation}
+use Rattle.virtual_sim.specs.Budgets.{steps_below}
+use Rattle.virtual_sim.specs.Record.{events_so_far}
+use Rattle.virtual_sim.specs.Recordings.{IsRecorded, place_of}
+use Rattle.virtual_sim.specs.Runs.{IsRun}
+
+-- its time is right, the protocol stands where the time has it, and its steps are not too many
+pub record IsSimulation (p : Plan) (s : Simulation) : Type 0 where
+  pub run : IsRun p s.run
+  pub recorded : IsRecorded p s.run.released (events_so_far p (service p) s.run.released s.run.time) (λ i. place_of p i (slice_index s.run.rest.items i)) s.run.ends s.recorder
+  pub few : length (events_so_far p (service p) s.run.released s.run.time) ≤ 131 * occurrence_count (take s.run.released p.batches) + steps_below p s.run.rest.items s.run.ends (length p.diagram.tasks)

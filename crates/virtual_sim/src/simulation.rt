@@ -1,0 +1,200 @@
+// A simulation, from one event to the next.
+
+ghost use Rattle.std.specs.Prelude.{◌≡◌, ◌+◌, ◌<◌, ◌≤◌, ◌++◌, ℕ, length, slice_index, IfOk, OnOk, MatchResult};
+ghost use Rattle.virtual_sim.specs.Events.{IsNextEvent};
+ghost use Rattle.virtual_sim.specs.Outcomes.{IsSimFail, IsSimRun};
+
+use crate::outcome::{SimFail, SimRun};
+use crate::run::Run;
+use dbp_core::Count;
+use dbp_plan::{NoMemory, Plan, Task};
+use instance_steps::Recorder;
+use std::alloc::Global;
+
+// Its time, and the protocol that is taken through it.
+#[derive(Drop)]
+pub(crate) struct Simulation {
+    pub(crate) run: Run,
+    pub(crate) recorder: Recorder,
+}
+
+impl Simulation {
+    ghost use Rattle.dbp_plan.specs.Lookups.{declared};
+    ghost use Rattle.rank_order.specs.Queue.{IsServedFirst};
+    ghost use Rattle.rank_order.specs.ServiceOf.{service};
+    ghost use Rattle.instance_steps.specs.Events.{read_events};
+    ghost use Rattle.instance_steps.specs.Releases.{batch_at};
+    ghost use Rattle.instance_steps.specs.TaskPieces.{place_after};
+    ghost use Rattle.virtual_sim.specs.Record.{begin_events_at, events_so_far};
+    ghost use Rattle.virtual_sim.specs.Recordings.{IsRecorded, places_with};
+    ghost use Rattle.virtual_sim.specs.Simulations.{IsSimulation};
+    ghost use Rattle.virtual_sim.specs.State.{NoBatchBefore};
+
+    // Nothing is released yet.
+    fn new(alloc: Global, plan: &Plan) -> Result<Simulation, NoMemory>
+        ensures simulation { IfOk result (λ s. IsSimulation plan.now s) }
+        ensures released { IfOk result (λ s. s.run.released ≡ 0) }
+    {
+        let recorder = Recorder::new(alloc, plan.copy()?, Count::Ranked)?;
+        let run = Run::new(alloc, plan)?;
+        Ok(Simulation { run, recorder })
+    }
+
+    // The first instance begins, if it hasn't been served before.
+    fn begin(&mut self, plan: &Plan, task: u32, served: u64) -> Result<(), NoMemory>
+        requires simulation { IsSimulation plan.now self.old }
+        requires first { IsServedFirst self.old.run.ready task }
+        requires until { NoBatchBefore plan.now self.old.run.released (self.old.run.time + 1) }
+        requires served { served + slice_index self.old.run.rest.items task ≡ (declared plan.now task).cost }
+        ensures run { OnOk result (self.new.run ≡ self.old.run) }
+        ensures recorded { OnOk result (IsRecorded plan.now self.old.run.released
+            (events_so_far plan.now (service plan.now) self.old.run.released self.old.run.time ++ begin_events_at plan.now (service plan.now) task served)
+            (places_with plan.now self.old.run.rest.items task (place_after plan.now task served)) self.old.run.ends self.new.recorder) }
+    {
+        if served > 0 {
+            return Ok(());
+        }
+        self.recorder.begin_instance(task)?;
+        Ok(())
+    }
+
+    // The steps of the first instance, which was served so many ticks, in the tick in which it is served.
+    fn make_steps(&mut self, plan: &Plan, task: u32, served: u64) -> Result<(), NoMemory>
+        requires simulation { IsSimulation plan.now self.old }
+        requires first { IsServedFirst self.old.run.ready task }
+        requires until { NoBatchBefore plan.now self.old.run.released (self.old.run.time + 1) }
+        requires served { served + slice_index self.old.run.rest.items task ≡ (declared plan.now task).cost }
+        ensures run { OnOk result (self.new.run ≡ self.old.run) }
+        ensures recorded { OnOk result (IsRecorded plan.now self.old.run.released
+            (events_so_far plan.now (service plan.now) self.old.run.released self.old.run.time
+            ++ (begin_events_at plan.now (service plan.now) task served ++ read_events plan.now task served))
+            (places_with plan.now self.old.run.rest.items task (place_after plan.now task (served + 1))) self.old.run.ends self.new.recorder) }
+    {
+        self.begin(plan, task, served)?;
+        self.recorder.make_reads(task, served)?;
+        Ok(())
+    }
+
+    // Serves the first instance until its next event or the limit, whichever comes first.
+    fn serve(&mut self, plan: &Plan, task: u32, limit: u64) -> Result<(), NoMemory>
+        requires simulation { IsSimulation plan.now self.old }
+        requires first { IsServedFirst self.old.run.ready task }
+        requires until { NoBatchBefore plan.now self.old.run.released limit }
+        requires ahead { self.old.run.time < limit }
+        ensures simulation { OnOk result (IsSimulation plan.now self.new) }
+        ensures later { OnOk result (self.old.run.time < self.new.run.time) }
+        ensures limit { OnOk result (self.new.run.time ≤ limit) }
+        ensures released { OnOk result (self.new.run.released ≡ self.old.run.released) }
+    {
+        let body = &plan.diagram.tasks.items()[task as usize];
+        let rest = self.run.rest[task as usize];
+        let served = body.cost - rest;
+        let ticks = ticks_to_event(body, served).min(limit - self.run.time);
+        self.make_steps(plan, task, served)?;
+        if ticks < rest {
+            self.run.pause(plan, task, ticks);
+            return Ok(());
+        }
+        self.recorder.end_instance(task)?;
+        self.run.finish(plan, task)?;
+        Ok(())
+    }
+
+    // Serves until the next batch.
+    fn serve_until_batch(&mut self, plan: &Plan) -> Result<(), NoMemory>
+        requires simulation { IsSimulation plan.now self.old }
+        requires more { self.old.run.released < length plan.now.batches }
+        ensures simulation { OnOk result (IsSimulation plan.now self.new) }
+        ensures time { OnOk result (self.new.run.time ≡ (batch_at plan.now self.old.run.released).time) }
+        ensures released { OnOk result (self.new.run.released ≡ self.old.run.released) }
+    {
+        let limit = plan.batches.items()[self.run.released as usize].time;
+        while self.run.time < limit {
+            let Some(task) = self.run.ready.first() else {
+                self.run.wait(plan);
+                return Ok(());
+            };
+            self.serve(plan, task, limit)?;
+        }
+        Ok(())
+    }
+
+    // Serves until all instances have ended.
+    fn serve_rest(&mut self, plan: &Plan) -> Result<(), NoMemory>
+        requires simulation { IsSimulation plan.now self.old }
+        requires last { self.old.run.released ≡ length plan.now.batches }
+        ensures simulation { OnOk result (IsSimulation plan.now self.new) }
+        ensures idle { OnOk result ((i : ℕ) → i < length plan.now.diagram.tasks → slice_index self.new.run.rest.items i ≡ 0) }
+        ensures released { OnOk result (self.new.run.released ≡ self.old.run.released) }
+    {
+        while let Some(task) = self.run.ready.first() {
+            self.serve(plan, task, u64::MAX)?;
+        }
+        Ok(())
+    }
+
+    // Releases the next batch, unless it comes too early.
+    fn release(&mut self, plan: &Plan) -> Result<(), SimFail>
+        requires simulation { IsSimulation plan.now self.old }
+        requires more { self.old.run.released < length plan.now.batches }
+        requires due { self.old.run.time ≡ (batch_at plan.now self.old.run.released).time }
+        ensures { MatchResult result
+            (λ _. IsSimulation plan.now self.new × (self.new.run.released ≡ self.old.run.released + 1))
+            (λ why. IsSimFail plan.now why) }
+    {
+        if let Some(task) = self.run.late_task(plan) {
+            return Err(SimFail::Overrun {
+                task,
+                instance: self.run.ends.items()[task as usize].len() + 2,
+                time: self.run.time,
+            });
+        }
+        let Ok(()) = self.recorder.release_batch(self.run.released) else {
+            return Err(SimFail::NoMemory);
+        };
+        self.run.renew(plan);
+        Ok(())
+    }
+}
+
+// After how many ticks of its service the task's instance, which was served so many, makes its next reads or ends.
+fn ticks_to_event(task: &Task, served: u64) -> u64
+    requires { served < task.now.cost }
+    ensures { IsNextEvent task.now served result }
+{
+    let mut next = task.cost;
+    for read in task.reads.items() {
+        if served < read.at && read.at < next {
+            next = read.at;
+        }
+    }
+    next - served
+}
+
+/// The simulation of the plan in virtual time: on one processor tasks are served by their policy, by ticks, and their
+/// buffers step by the protocol under `Ranked`. It goes from one event to the next: the next batch, the next reads of the
+/// instance that is served, or its end. The table is the zero-time meaning's, the script is the one recorded list that
+/// the plan has, and each instance's end is that of the plan's service.
+pub fn simulate(alloc: Global, plan: &Plan) -> Result<SimRun, SimFail>
+    ensures { MatchResult result (λ run. IsSimRun plan.now run) (λ why. IsSimFail plan.now why) }
+{
+    let Ok(mut simulation) = Simulation::new(alloc, plan) else {
+        return Err(SimFail::NoMemory);
+    };
+    for _ in 0..plan.batches.len() {
+        let Ok(()) = simulation.serve_until_batch(plan) else {
+            return Err(SimFail::NoMemory);
+        };
+        simulation.release(plan)?;
+    }
+    let Ok(()) = simulation.serve_rest(plan) else {
+        return Err(SimFail::NoMemory);
+    };
+    let Simulation { run, recorder } = simulation;
+    let (script, table) = recorder.finish();
+    Ok(SimRun {
+        table,
+        script,
+        ends: run.ends,
+    })
+}
