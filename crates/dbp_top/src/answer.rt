@@ -1,7 +1,9 @@
 // What a command makes of an input.
 
-ghost use Rattle.std.specs.Prelude.{◌≡◌, ◌≤◌, length, IfErr, IfOk};
+ghost use Rattle.std.specs.Prelude.{◌≡◌, ◌≤◌, ℕ, Bool, List as Items, length, IfErr, IfOk};
 ghost use Rattle.dbp_plan.specs.declared.limits.TheConstants.{MAX_TEXT};
+ghost use Rattle.trace_io.specs.Texts.{Accepts};
+ghost use Rattle.virtual_sim.specs.Outcomes.{IsSimFail};
 ghost use Rattle.dbp_top.specs.Answer.{Answers, Makes, count_of};
 ghost use Rattle.dbp_top.specs.Stops.{IsStopOf};
 ghost use Rattle.dbp_top.specs.declared.command.Command.TheVariants.{Mean, Form, Plan as Slots, Replay, Sim};
@@ -92,7 +94,7 @@ fn simulation_of(alloc: Global, record_it: bool, input: &[u8]) -> Result<Vec<u8>
 
 /// Why the simulation of the plan has no text.
 fn stop_of(plan: &Plan, fail: SimFail) -> Stop
-    requires { FailsAt plan.now fail }
+    requires { IsSimFail plan.now fail }
     ensures { (input : Items ℕ) (record_it : Bool) → Accepts input plan.now → IsStopOf input (Sim record_it) result }
 {
     match fail {
