@@ -10,7 +10,8 @@ use Rattle.rank_order.specs.Ends.{IsOverrun}
 use Rattle.rank_order.specs.Instances.{Instance}
 use Rattle.rank_order.specs.Service.{left_of}
 use Rattle.rank_order.specs.ServiceOf.{service}
-use Rattle.virtual_sim.specs.Record.{IsRecord}
+use Rattle.rank_order.proofs.Overruns.{one_overrun, one_time}
+use Rattle.virtual_sim.proofs.OneRecord.{one_record}
 use Rattle.dbp_replay.specs.Texts.{script_text}
 use Rattle.dbp_replay.proofs.OneReplay.{refused-once, text-not-refused, text-once}
 use Rattle.dbp_replay.proofs.OneScript.{fault-once, script-no-fault, script-once}
@@ -72,13 +73,13 @@ refusal-of-plan doc p command r (no_script ranked l c fault) = refl
 refusal-of-plan doc p command r (illegal ranked es k why script broken) = refl
 
 -- a document and its plan have one text of a command, or one refusal, and never both
-one-plan-text : (one_record : (p : Plan) (es fs : List Step) → IsRecord p es → IsRecord p fs → es ≡ fs) (one_meaning : (p : Plan) (y z : Table) → IsMeaning p.diagram p.samples p.batches y → IsMeaning p.diagram p.samples p.batches z → y ≡ z)
+one-plan-text : (one_meaning : (p : Plan) (y z : Table) → IsMeaning p.diagram p.samples p.batches y → IsMeaning p.diagram p.samples p.batches z → y ≡ z)
     (doc : Doc) (p : Plan) (command : Command) (text other : List ℕ) → PlanText doc p command text → PlanText doc p command other → text ≡ other
-one-plan-text record one doc p command text other (meaning y here) (meaning z there) = ap (λ (t : Table). lines_of p.diagram p.batches t) (one p y z here there)
-one-plan-text record one doc p command text other (simulation y in_time here) (simulation z also there) = ap (λ (t : Table). lines_of p.diagram p.batches t) (one p y z here there)
-one-plan-text record one doc p command text other (record_of es is) (record_of fs was) = ap (λ (gs : List Step). script_text p.diagram gs) (record p es fs is was)
-one-plan-text record one doc p command text other slots slots = refl
-one-plan-text record one doc p command text other (replay ranked es a script is) (replay ranked' fs b also was) =
+one-plan-text one doc p command text other (meaning y here) (meaning z there) = ap (λ (t : Table). lines_of p.diagram p.batches t) (one p y z here there)
+one-plan-text one doc p command text other (simulation y in_time here) (simulation z also there) = ap (λ (t : Table). lines_of p.diagram p.batches t) (one p y z here there)
+one-plan-text one doc p command text other (record_of es is) (record_of fs was) = ap (λ (gs : List Step). script_text p.diagram gs) (one_record p es fs is was)
+one-plan-text one doc p command text other slots slots = refl
+one-plan-text one doc p command text other (replay ranked es a script is) (replay ranked' fs b also was) =
     let same : es ≡ fs = script-once p.diagram doc es fs script also in
     text-once p (count_of ranked') fs a b (subst (λ (gs : List Step). IsReplay p (count_of ranked') gs a) same is) was
 
@@ -130,8 +131,6 @@ module _
     (no_fault : (text : List ℕ) (p : Plan) (line : ℕ) (code : Code) → Accepts text p → Refuses text line code → ⊥)
     (one_fault : (text : List ℕ) (line other : ℕ) (code another : Code) → Refuses text line code → Refuses text other another → (line ≡ other) × IsSameCode code another)
     (one_meaning : (p : Plan) (y z : Table) → IsMeaning p.diagram p.samples p.batches y → IsMeaning p.diagram p.samples p.batches z → y ≡ z)
-    (one_record : (p : Plan) (es fs : List Step) → IsRecord p es → IsRecord p fs → es ≡ fs)
-    (one_overrun : (p : Plan) (t u : ℕ) (x y : Instance) → IsOverrun p (left_of p (service p)) t x → IsOverrun p (left_of p (service p)) u y → (t ≡ u) × (x ≡ y))
   where
     -- a text's document and plan are those that it is accepted with
     same-accepted : (input : List ℕ) (p q : Plan) (a : Accepts input p) (b : Accepts input q) (P : Doc → Plan → Type 0) → P a.doc p → P b.doc q
@@ -144,7 +143,7 @@ module _
     one-text input command text other (canonical d spelled) (of_plan c q b y makes) = absurd (false≢true (text-of-plan y.doc q Form other makes))
     one-text input command text other (of_plan c p a x makes) (canonical e again) = absurd (false≢true (text-of-plan x.doc p Form text makes))
     one-text input command text other (of_plan c p a x here) (of_plan d q b y there) =
-        one-plan-text one_record one_meaning y.doc q command text other (same-accepted input p q x y (λ doc plan. PlanText doc plan command text) here) there
+        one-plan-text one_meaning y.doc q command text other (same-accepted input p q x y (λ doc plan. PlanText doc plan command text) here) there
 
     no-refusal : (input : List ℕ) (command : Command) (text : List ℕ) (r : Refusal) → Makes input command text → IsRefused input command r → ⊥
     no-refusal input command text r (canonical d spelled) (no_text l c fault) = no-fault-of-a-document input d l c spelled fault
@@ -174,8 +173,9 @@ module _
     one-overrun-line : (p : Plan) (command : Command) (x y : Instance) (t u : ℕ) → PlanOverrun p command x t → PlanOverrun p command y u
         → overrun_line (declared p x.task).name x.number t ≡ overrun_line (declared p y.task).name y.number u
     one-overrun-line p command x y t u (overrun record_it a b late) (overrun record_it' c d again) =
-        let same = one_overrun p t u x y late again in
-        λ i. overrun_line (declared p (same.1 i).task).name (same.1 i).number (same.0 i)
+        let times : t ≡ u = one_time p (left_of p (service p)) t u x y late again in
+        let same : x ≡ y = one_overrun p (left_of p (service p)) t u x y late again in
+        λ i. overrun_line (declared p (same i).task).name (same i).number (times i)
 
     one-overrun-of : (input : List ℕ) (command : Command) (a b : List ℕ) (m n t u : ℕ) → Overruns input command a m t → Overruns input command b n u → overrun_line a m t ≡ overrun_line b n u
     one-overrun-of input command a b m n t u (of_plan_overrun p x v accepted late) (of_plan_overrun q y w also again) =
