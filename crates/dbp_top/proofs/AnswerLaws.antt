@@ -5,6 +5,14 @@ use Rattle.dbp_rules.specs.declared.step.Illegal.{Illegal as Broken}
 use Rattle.dbp_rules.specs.declared.step.Step.{Step}
 use Rattle.dbp_plan.specs.declared.plan.Plan.{Plan}
 use Rattle.dbp_plan.specs.declared.table.Table.{Table}
+use Rattle.dbp_plan.specs.Lookups.{declared}
+use Rattle.rank_order.specs.Ends.{IsOverrun}
+use Rattle.rank_order.specs.Instances.{Instance}
+use Rattle.rank_order.specs.Service.{left_of}
+use Rattle.rank_order.specs.ServiceOf.{service}
+use Rattle.rank_order.proofs.Overruns.{one_overrun, one_time}
+use Rattle.virtual_sim.proofs.OneRecord.{one_record}
+use Rattle.dbp_replay.specs.Texts.{script_text}
 use Rattle.dbp_replay.proofs.OneReplay.{refused-once, text-not-refused, text-once}
 use Rattle.dbp_replay.proofs.OneScript.{fault-once, script-no-fault, script-once}
 use Rattle.dbp_replay.specs.Replays.{IsIllegal, IsReplay}
@@ -21,7 +29,8 @@ use Rattle.trace_io.specs.declared.code.Code.{Code}
 use Rattle.trace_io.specs.declared.code.Code.TheVariants.{Reading, Checking, Tracing}
 use Rattle.trace_io.specs.Lines.{lines_of}
 use Rattle.trace_io.specs.Texts.{Accepts, Refuses, IsSameCode}
-use Rattle.dbp_top.specs.Answer.{Answers, IsRefused, Makes, PlanRefusal, PlanText, canonical, count_of, illegal, made, meaning, needs_plan, no_plan, no_script, no_text, of_plan, of_plan_refused, refused, replay, slots}
+use Rattle.dbp_top.specs.Answer.{Answers, IsInTime, IsRefused, Makes, Overruns, PlanOverrun, PlanRefusal, PlanText, canonical, count_of, illegal, made, meaning, needs_plan, no_plan, no_script, no_text, of_plan, of_plan_overrun, of_plan_refused, overran, overrun, record_of, refused, replay, simulation, slots}
+use Rattle.dbp_top.specs.OverrunLines.{overrun_line}
 use Rattle.dbp_top.specs.Refusals.{check_name, code_text, refusal_line}
 use Rattle.dbp_top.specs.SlotLines.{slot_lines}
 use Rattle.dbp_top.specs.declared.command.Command.{Command}
@@ -54,6 +63,8 @@ same-line line other a b lines texts = rw (lines, texts) refl
 -- a command that makes something of a plan, or refuses it, checks the whole document
 text-of-plan : (doc : Doc) (p : Plan) (command : Command) (text : List ℕ) → PlanText doc p command text → needs_plan command ≡ true
 text-of-plan doc p command text (meaning y here) = refl
+text-of-plan doc p command text (simulation y in_time here) = refl
+text-of-plan doc p command text (record_of es is) = refl
 text-of-plan doc p command text slots = refl
 text-of-plan doc p command text (replay ranked es a script is) = refl
 
@@ -65,6 +76,8 @@ refusal-of-plan doc p command r (illegal ranked es k why script broken) = refl
 one-plan-text : (one_meaning : (p : Plan) (y z : Table) → IsMeaning p.diagram p.samples p.batches y → IsMeaning p.diagram p.samples p.batches z → y ≡ z)
     (doc : Doc) (p : Plan) (command : Command) (text other : List ℕ) → PlanText doc p command text → PlanText doc p command other → text ≡ other
 one-plan-text one doc p command text other (meaning y here) (meaning z there) = ap (λ (t : Table). lines_of p.diagram p.batches t) (one p y z here there)
+one-plan-text one doc p command text other (simulation y in_time here) (simulation z also there) = ap (λ (t : Table). lines_of p.diagram p.batches t) (one p y z here there)
+one-plan-text one doc p command text other (record_of es is) (record_of fs was) = ap (λ (gs : List Step). script_text p.diagram gs) (one_record p es fs is was)
 one-plan-text one doc p command text other slots slots = refl
 one-plan-text one doc p command text other (replay ranked es a script is) (replay ranked' fs b also was) =
     let same : es ≡ fs = script-once p.diagram doc es fs script also in
@@ -72,6 +85,8 @@ one-plan-text one doc p command text other (replay ranked es a script is) (repla
 
 no-plan-refusal : (doc : Doc) (p : Plan) (command : Command) (text : List ℕ) (r : Refusal) → PlanText doc p command text → PlanRefusal doc p command r → ⊥
 no-plan-refusal doc p command text r (meaning y here) refuses = elim refuses [ ]
+no-plan-refusal doc p command text r (simulation y in_time here) refuses = elim refuses [ ]
+no-plan-refusal doc p command text r (record_of es is) refuses = elim refuses [ ]
 no-plan-refusal doc p command text r slots refuses = elim refuses [ ]
 no-plan-refusal doc p command text r (replay ranked es a script is) (no_script ranked' l c fault) = script-no-fault p.diagram doc es l c script fault
 no-plan-refusal doc p command text r (replay ranked es a script is) (illegal ranked' fs k why also broken) =
@@ -88,6 +103,26 @@ one-plan-refusal doc p command r s (illegal ranked es k why script broken) (ille
     let same : es ≡ fs = script-once p.diagram doc es fs script also in
     let both = refused-once p (count_of ranked') fs k l why other (subst (λ (gs : List Step). IsIllegal p (count_of ranked') gs k why) same broken) again in
     λ i. Illegal (both.0 i) (both.1 i)
+
+-- ---- overruns
+
+overrun-of-plan : (p : Plan) (command : Command) (x : Instance) (t : ℕ) → PlanOverrun p command x t → needs_plan command ≡ true
+overrun-of-plan p command x t (overrun record_it y u late) = refl
+
+-- a plan with an overrun has no text of the command, and no refusal
+in-time : (p : Plan) (t : ℕ) (x : Instance) → IsInTime p → IsOverrun p (left_of p (service p)) t x → ⊥
+in-time p t x none late = none.none t x late.late
+
+no-plan-overrun : (doc : Doc) (p : Plan) (command : Command) (text : List ℕ) (x : Instance) (t : ℕ) → PlanText doc p command text → PlanOverrun p command x t → ⊥
+no-plan-overrun doc p command text x t (meaning y here) late = elim late [ ]
+no-plan-overrun doc p command text x t (simulation y none here) (overrun record_it z u late) = in-time p t x none late
+no-plan-overrun doc p command text x t (record_of es is) (overrun record_it z u late) = in-time p t x is.in_time late
+no-plan-overrun doc p command text x t slots late = elim late [ ]
+no-plan-overrun doc p command text x t (replay ranked es a script is) late = elim late [ ]
+
+not-refused-overrun : (doc : Doc) (p : Plan) (command : Command) (r : Refusal) (x : Instance) (t : ℕ) → PlanRefusal doc p command r → PlanOverrun p command x t → ⊥
+not-refused-overrun doc p command r x t (no_script ranked l c fault) late = elim late [ ]
+not-refused-overrun doc p command r x t (illegal ranked es k why script broken) late = elim late [ ]
 
 -- ---- what a command makes of an input
 
@@ -135,8 +170,36 @@ module _
     one-refusal input command r s (of_plan_refused e p t x here) (of_plan_refused f q u y there) =
         ap (λ (w : Refusal). refusal_line w) (one-plan-refusal y.doc q command r s (same-accepted input p q x y (λ doc plan. PlanRefusal doc plan command r) here) there)
 
+    one-overrun-line : (p : Plan) (command : Command) (x y : Instance) (t u : ℕ) → PlanOverrun p command x t → PlanOverrun p command y u
+        → overrun_line (declared p x.task).name x.number t ≡ overrun_line (declared p y.task).name y.number u
+    one-overrun-line p command x y t u (overrun record_it a b late) (overrun record_it' c d again) =
+        let times : t ≡ u = one_time p (left_of p (service p)) t u x y late again in
+        let same : x ≡ y = one_overrun p (left_of p (service p)) t u x y late again in
+        λ i. overrun_line (declared p (same i).task).name (same i).number (times i)
+
+    one-overrun-of : (input : List ℕ) (command : Command) (a b : List ℕ) (m n t u : ℕ) → Overruns input command a m t → Overruns input command b n u → overrun_line a m t ≡ overrun_line b n u
+    one-overrun-of input command a b m n t u (of_plan_overrun p x v accepted late) (of_plan_overrun q y w also again) =
+        one-overrun-line q command x y t u (subst (λ (r : Plan). PlanOverrun r command x t) (one_plan input p q accepted also) late) again
+        
+
+    text-or-overrun : (input : List ℕ) (command : Command) (text name : List ℕ) (n t : ℕ) → Makes input command text → Overruns input command name n t → ⊥
+    text-or-overrun input command text name n t (canonical d spelled) (of_plan_overrun q y w also again) = false≢true (overrun-of-plan q Form y t again)
+    text-or-overrun input command text name n t (of_plan c p a accepted makes) (of_plan_overrun q y w also again) =
+        no-plan-overrun accepted.doc p command text y t makes (subst (λ (r : Plan). PlanOverrun r command y t) (one_plan input q p also accepted) again)
+
+    refusal-or-overrun : (input : List ℕ) (command : Command) (r : Refusal) (name : List ℕ) (n t : ℕ) → IsRefused input command r → Overruns input command name n t → ⊥
+    refusal-or-overrun input command r name n t (no_text l c fault) (of_plan_overrun q y w also again) = false≢true (overrun-of-plan q Form y t again)
+    refusal-or-overrun input command r name n t (no_plan e l c checks fault) (of_plan_overrun q y w also again) = no_fault input q l c also fault
+    refusal-or-overrun input command r name n t (of_plan_refused e p s accepted refuses) (of_plan_overrun q y w also again) =
+        not-refused-overrun accepted.doc p command r y t refuses (subst (λ (r : Plan). PlanOverrun r command y t) (one_plan input q p also accepted) again)
+
     pub one-answer : (input : List ℕ) (command : Command) (s t : Status) (text other : List ℕ) → Answers input command s text → Answers input command t other → (s ≡ t) × (text ≡ other)
     one-answer input command s t text other (made a makes) (made b again) = (refl, one-text input command a b makes again)
     one-answer input command s t text other (made a makes) (refused r is) = absurd (no-refusal input command a r makes is)
     one-answer input command s t text other (refused r is) (made a makes) = absurd (no-refusal input command a r makes is)
     one-answer input command s t text other (refused r is) (refused q was) = (refl, one-refusal input command r q is was)
+    one-answer input command s t text other (made a makes) (overran name n u late) = absurd (text-or-overrun input command a name n u makes late)
+    one-answer input command s t text other (overran name n u late) (made a makes) = absurd (text-or-overrun input command a name n u makes late)
+    one-answer input command s t text other (refused r is) (overran name n u late) = absurd (refusal-or-overrun input command r name n u is late)
+    one-answer input command s t text other (overran name n u late) (refused r is) = absurd (refusal-or-overrun input command r name n u is late)
+    one-answer input command s t text other (overran name n u late) (overran name' n' u' again) = (refl, one-overrun-of input command name name' n n' u u' late again)

@@ -5,7 +5,7 @@ use Rattle.std.proofs.lemmas.List.{get_or-map, length-map}
 use lib.Pointwise.{pointwise}
 use Rattle.dbp_top.specs.Commands.{HasAllCommands, command_list, command_words, commands, listed_words, said_by}
 use Rattle.dbp_top.specs.declared.command.Command.{Command}
-use Rattle.dbp_top.specs.declared.command.Command.TheVariants.{Mean, Form, Plan, Replay}
+use Rattle.dbp_top.specs.declared.command.Command.TheVariants.{Mean, Form, Plan, Replay, Sim}
 use Rattle.dbp_top.specs.declared.command.Row.{Row}
 
 abbrev Said : Type 0
@@ -42,10 +42,12 @@ row-words rows k d all below =
 
 place : (c d : Command) → (k : ℕ) × (k < length commands) × (get_or commands k d ≡ c)
 place Mean d = (0, lit< tt, refl)
-place Form d = (1, lit< tt, refl)
-place Plan d = (2, lit< tt, refl)
-place (Replay false) d = (3, lit< tt, refl)
-place (Replay true) d = (4, lit< tt, refl)
+place (Sim false) d = (1, lit< tt, refl)
+place (Sim true) d = (2, lit< tt, refl)
+place Form d = (3, lit< tt, refl)
+place Plan d = (4, lit< tt, refl)
+place (Replay false) d = (5, lit< tt, refl)
+place (Replay true) d = (6, lit< tt, refl)
 
 -- each command has a row
 pub row-of : (rows : List Row) (c : Command) (d : Row) → HasAllCommands rows → (k : ℕ) × (k < length rows) × ((get_or rows k d).command ≡ c)
@@ -61,6 +63,8 @@ first-with words (c ∷ cs) = if pointwise (pointwise eqb) words (command_words 
 
 found : (c : Command) → first-with (command_words c) commands ≡ Some c
 found Mean = refl
+found (Sim false) = refl
+found (Sim true) = refl
 found Form = refl
 found Plan = refl
 found (Replay false) = refl

@@ -4,26 +4,34 @@ use Rattle.dbp_rules.specs.declared.step.Count.{Count}
 use Rattle.dbp_rules.specs.declared.step.Count.TheVariants.{Ranked, All}
 use Rattle.dbp_rules.specs.declared.step.Illegal.{Illegal as Broken}
 use Rattle.dbp_rules.specs.declared.step.Step.{Step}
+use Rattle.dbp_plan.specs.Lookups.{declared}
 use Rattle.dbp_plan.specs.declared.plan.Plan.{Plan}
 use Rattle.dbp_plan.specs.declared.table.Table.{Table}
 use Rattle.dbp_replay.specs.Replays.{IsIllegal, IsReplay}
 use Rattle.dbp_replay.specs.Scripts.{IsScript, IsScriptFault}
+use Rattle.dbp_replay.specs.Texts.{script_text}
 use Rattle.dbp_replay.specs.declared.fail.ScriptCode.{ScriptCode}
 use Rattle.dia_lines.specs.declared.fault.ReadCode.{ReadCode}
 use Rattle.dia_read.specs.declared.document.Doc.{Doc}
 use Rattle.dia_read.specs.Canonical.{canonical_text}
 use Rattle.dia_read.specs.Documents.{Spells, IsFirstFault}
+use Rattle.rank_order.specs.Ends.{IsOverrun, NoOverrun}
+use Rattle.rank_order.specs.Instances.{Instance}
+use Rattle.rank_order.specs.Service.{left_of}
+use Rattle.rank_order.specs.ServiceOf.{service}
 use Rattle.sync_meaning.specs.Meaning.{IsMeaning}
 use Rattle.trace_io.specs.declared.code.Code.{Code}
 use Rattle.trace_io.specs.declared.code.Code.TheVariants.{Reading}
 use Rattle.trace_io.specs.Lines.{lines_of}
 use Rattle.trace_io.specs.Texts.{Accepts, Refuses}
+use Rattle.virtual_sim.specs.Record.{IsRecord}
 use Rattle.dbp_top.specs.declared.command.Command.{Command}
-use Rattle.dbp_top.specs.declared.command.Command.TheVariants.{Mean, Form, Plan as Slots, Replay}
+use Rattle.dbp_top.specs.declared.command.Command.TheVariants.{Mean, Form, Plan as Slots, Replay, Sim}
 use Rattle.dbp_top.specs.declared.refusal.Refusal.{Refusal}
 use Rattle.dbp_top.specs.declared.refusal.Refusal.TheVariants.{Document, Script, Illegal}
 use Rattle.dbp_top.specs.declared.status.Status.{Status}
-use Rattle.dbp_top.specs.declared.status.Status.TheVariants.{Ok, Refused}
+use Rattle.dbp_top.specs.declared.status.Status.TheVariants.{Ok, Overrun, Refused}
+use Rattle.dbp_top.specs.OverrunLines.{overrun_line}
 use Rattle.dbp_top.specs.Refusals.{refusal_line}
 use Rattle.dbp_top.specs.SlotLines.{slot_lines}
 
@@ -32,11 +40,19 @@ abbrev pub count_of : Bool → Count
 count_of true = Ranked
 count_of false = All
 
+-- no release of the plan meets an unfinished instance
+abbrev pub IsInTime : Plan → Type 0
+IsInTime plan = NoOverrun plan (left_of plan (service plan))
+
 -- the text that a command makes of an accepted document and its plan: the lines of the one table that meets the plan's
--- equations, the slots of its tasks, or the steps of the document's script with what they hear
+-- equations (for `sim` if no release overruns), the recorded steps of its simulation, the slots of its tasks, or the steps
+-- of the document's script with what they hear
 pub data PlanText (doc : Doc) (plan : Plan) : Command → List ℕ → Type 0 where
   meaning : (table : Table) → IsMeaning plan.diagram plan.samples plan.batches table
       → PlanText doc plan Mean (lines_of plan.diagram plan.batches table)
+  simulation : (table : Table) → IsInTime plan → IsMeaning plan.diagram plan.samples plan.batches table
+      → PlanText doc plan (Sim false) (lines_of plan.diagram plan.batches table)
+  record_of : (steps : List Step) → IsRecord plan steps → PlanText doc plan (Sim true) (script_text plan.diagram steps)
   slots : PlanText doc plan Slots (slot_lines plan.diagram)
   replay : (ranked : Bool) (steps : List Step) (text : List ℕ) → IsScript plan.diagram doc steps
       → IsReplay plan (count_of ranked) steps text → PlanText doc plan (Replay ranked) text
@@ -48,6 +64,11 @@ pub data PlanRefusal (doc : Doc) (plan : Plan) : Command → Refusal → Type 0 
       → PlanRefusal doc plan (Replay ranked) (Script line code)
   illegal : (ranked : Bool) (steps : List Step) (step : ℕ) (why : Broken) → IsScript plan.diagram doc steps
       → IsIllegal plan (count_of ranked) steps step why → PlanRefusal doc plan (Replay ranked) (Illegal step why)
+
+-- the overrun that a command meets in a plan: the release of an instance, and its time
+pub data PlanOverrun (plan : Plan) : Command → Instance → ℕ → Type 0 where
+  overrun : (record_it : Bool) (x : Instance) (time : ℕ) → IsOverrun plan (left_of plan (service plan)) time x
+      → PlanOverrun plan (Sim record_it) x time
 
 -- whether the command checks the whole document; `form` reads it alone
 abbrev pub needs_plan : Command → Bool
@@ -70,7 +91,15 @@ pub data IsRefused (input : List ℕ) : Command → Refusal → Type 0 where
   of_plan_refused : (command : Command) (plan : Plan) (refusal : Refusal) (accepted : Accepts input plan)
       → PlanRefusal accepted.doc plan command refusal → IsRefused input command refusal
 
+-- a command meets an overrun in the plan of an accepted input: the name of the task whose release it is, the number of the
+-- released instance, and the time
+pub data Overruns (input : List ℕ) (command : Command) : List ℕ → ℕ → ℕ → Type 0 where
+  of_plan_overrun : (plan : Plan) (x : Instance) (time : ℕ) → Accepts input plan → PlanOverrun plan command x time
+      → Overruns input command (declared plan x.task).name x.number time
+
 -- the status and the text that a command gives to an input
 pub data Answers (input : List ℕ) (command : Command) : Status → List ℕ → Type 0 where
   made : (text : List ℕ) → Makes input command text → Answers input command Ok text
   refused : (refusal : Refusal) → IsRefused input command refusal → Answers input command Refused (refusal_line refusal)
+  overran : (name : List ℕ) (number time : ℕ) → Overruns input command name number time
+      → Answers input command Overrun (overrun_line name number time)

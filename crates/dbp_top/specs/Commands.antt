@@ -4,16 +4,18 @@ use Rattle.std.specs.List.{flat_map}
 use Rattle.std.specs.declared.alloc.Global.{Global}
 use Rattle.std.specs.declared.string.String.{String}
 use Rattle.dbp_top.specs.declared.command.Command.{Command}
-use Rattle.dbp_top.specs.declared.command.Command.TheVariants.{Mean, Form, Plan, Replay}
+use Rattle.dbp_top.specs.declared.command.Command.TheVariants.{Mean, Form, Plan, Replay, Sim}
 use Rattle.dbp_top.specs.declared.command.Row.{Row}
 
 -- all commands, in the order in which they are listed
 abbrev pub commands : List Command
-commands = Mean ∷ Form ∷ Plan ∷ Replay false ∷ Replay true ∷ []
+commands = Mean ∷ Sim false ∷ Sim true ∷ Form ∷ Plan ∷ Replay false ∷ Replay true ∷ []
 
 -- the words of each command
 abbrev pub command_words : Command → List (List ℕ)
 command_words Mean = codes "mean" ∷ []
+command_words (Sim false) = codes "sim" ∷ []
+command_words (Sim true) = codes "sim" ∷ codes "--record" ∷ []
 command_words Form = codes "form" ∷ []
 command_words Plan = codes "plan" ∷ []
 command_words (Replay false) = codes "replay" ∷ []

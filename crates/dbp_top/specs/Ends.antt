@@ -9,13 +9,14 @@ use Rattle.dbp_top.specs.Commands.{Names, NamesNone, NamesSome}
 use Rattle.dbp_top.specs.Outside.{LosesFront, AppendsFront}
 use Rattle.dbp_top.specs.declared.command.Command.{Command}
 use Rattle.dbp_top.specs.declared.status.Status.{Status}
-use Rattle.dbp_top.specs.declared.status.Status.TheVariants.{Ok, Refused, Usage, ReadFault, WriteFault, NoMemory, TooLarge}
+use Rattle.dbp_top.specs.declared.status.Status.TheVariants.{Ok, Overrun, Refused, Usage, ReadFault, WriteFault, NoMemory, TooLarge}
 use Rattle.dbp_top.specs.declared.top.TheConstants.{MAX_DOCUMENT}
 
 -- the statuses with which a command's answer is written
 pub data TellsAnswer : Status → Type 0 where
   text : TellsAnswer Ok
   refusal : TellsAnswer Refused
+  overrun : TellsAnswer Overrun
 
 module _ {S K : Type 0} (left : S → Option (List ℕ)) (source_faults : S → ℕ) (written : K → Option (List ℕ)) (sink_faults : K → ℕ) where
   -- the source was read to its end, which is within the limit, and no read failed
@@ -61,6 +62,7 @@ module _ {S K : Type 0} (left : S → Option (List ℕ)) (source_faults : S → 
   abbrev pub Ends : List (String Global) → S → S → K → K → Status → Type 0
   Ends words source new_source sink new_sink Ok = NamesSome words (λ command. WroteWhole source new_source sink new_sink command Ok)
   Ends words source new_source sink new_sink Refused = NamesSome words (λ command. WroteWhole source new_source sink new_sink command Refused)
+  Ends words source new_source sink new_sink Overrun = NamesSome words (λ command. WroteWhole source new_source sink new_sink command Overrun)
   Ends words source new_source sink new_sink Usage = NamesNone words × (new_source ≡ source) × (new_sink ≡ sink)
   Ends words source new_source sink new_sink ReadFault = NamesSome words (λ _. ReadFailed source new_source sink new_sink)
   Ends words source new_source sink new_sink WriteFault = NamesSome words (λ command. WrotePart source new_source sink new_sink command)

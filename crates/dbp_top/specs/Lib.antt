@@ -3,6 +3,7 @@ pub mod Commands
 pub mod Ends
 pub mod Notes
 pub mod Outside
+pub mod OverrunLines
 pub mod Refusals
 pub mod SlotLines
 pub mod Stops

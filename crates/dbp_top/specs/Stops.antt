@@ -1,5 +1,5 @@
 -- Why a command makes no text of an input.
-use Rattle.std.specs.Prelude.{ℕ, List}
+use Rattle.std.specs.Prelude.{◌≡◌, ℕ, List}
 use Rattle.dbp_replay.specs.declared.fail.ReplayFail.{ReplayFail}
 use Rattle.dbp_replay.specs.declared.fail.ReplayFail.TheVariants as replay
 use Rattle.dbp_replay.specs.declared.fail.ScriptFail.{ScriptFail}
@@ -12,11 +12,11 @@ use Rattle.trace_io.specs.declared.code.Code.TheVariants.{Reading, Checking, Tra
 use Rattle.trace_io.specs.Traces.{TraceFail}
 use Rattle.trace_io.specs.Traces as trace
 use Rattle.trace_io.specs.Texts.{Refuses}
-use Rattle.dbp_top.specs.Answer.{IsRefused}
+use Rattle.dbp_top.specs.Answer.{IsRefused, Overruns}
 use Rattle.dbp_top.specs.declared.command.Command.{Command}
 use Rattle.dbp_top.specs.declared.refusal.Refusal.TheVariants.{Document, Script, Illegal}
 use Rattle.dbp_top.specs.declared.stop.Stop.{Stop}
-use Rattle.dbp_top.specs.declared.stop.Stop.TheVariants.{Refused, NoMemory}
+use Rattle.dbp_top.specs.declared.stop.Stop.TheVariants.{Refused, Overrun, NoMemory}
 
 abbrev pub stop_of_reading : ReadFail → Stop
 stop_of_reading (read.Refused line code) = Refused (Document line (Reading code))
@@ -42,9 +42,11 @@ stop_of_replay replay.NoMemory = NoMemory
 abbrev pub IsFaultOf : List ℕ → Stop → Type 0
 IsFaultOf input (Refused (Document line code)) = Refuses input line code
 IsFaultOf input (Refused _) = ⊥
+IsFaultOf input (Overrun _ _ _) = ⊥
 IsFaultOf input NoMemory = Unit {0}
 
 -- what a stop tells of the input and the command; want of memory tells nothing
 abbrev pub IsStopOf : List ℕ → Command → Stop → Type 0
 IsStopOf input command (Refused refusal) = IsRefused input command refusal
+IsStopOf input command (Overrun task instance time) = Overruns input command task instance time
 IsStopOf input command NoMemory = Unit {0}

@@ -1,24 +1,28 @@
 // What a command makes of an input.
 
-ghost use Rattle.std.specs.Prelude.{◌≡◌, ◌≤◌, length, IfErr, IfOk};
+ghost use Rattle.std.specs.Prelude.{◌≡◌, ◌≤◌, ℕ, Bool, List as Items, length, IfErr, IfOk};
 ghost use Rattle.dbp_plan.specs.declared.limits.TheConstants.{MAX_TEXT};
+ghost use Rattle.trace_io.specs.Texts.{Accepts};
+ghost use Rattle.virtual_sim.specs.Outcomes.{IsSimFail};
 ghost use Rattle.dbp_top.specs.Answer.{Answers, Makes, count_of};
 ghost use Rattle.dbp_top.specs.Stops.{IsStopOf};
-ghost use Rattle.dbp_top.specs.declared.command.Command.TheVariants.{Mean, Form, Plan as Slots, Replay};
+ghost use Rattle.dbp_top.specs.declared.command.Command.TheVariants.{Mean, Form, Plan as Slots, Replay, Sim};
 
 use crate::Status;
 use crate::command::Command;
+use crate::overrun_line::overrun_line;
 use crate::plan::{accepted, plan_of};
 use crate::refusal::refusal_line;
 use crate::slot_lines::slot_lines;
 use crate::stop::Stop;
 use dbp_core::Count;
-use dbp_plan::NoMemory;
-use dbp_replay::{read_script, replay_owned};
+use dbp_plan::{NoMemory, Plan};
+use dbp_replay::{print_script, read_script, replay_owned};
 use dia_read::{print_doc, read_doc};
 use std::alloc::Global;
 use sync_meaning::mean;
 use trace_io::lines;
+use virtual_sim::{SimFail, simulate};
 
 /// The status and the text that the command gives to an input that isn't too large.
 pub(crate) fn answer(
@@ -32,6 +36,14 @@ pub(crate) fn answer(
     match text_of(alloc, command, input) {
         Ok(text) => Ok((Status::Ok, text)),
         Err(Stop::Refused(refusal)) => Ok((Status::Refused, refusal_line(alloc, &refusal)?)),
+        Err(Stop::Overrun {
+            task,
+            instance,
+            time,
+        }) => Ok((
+            Status::Overrun,
+            overrun_line(alloc, task.bytes(), instance, time)?,
+        )),
         Err(Stop::NoMemory) => Err(NoMemory),
     }
 }
@@ -44,6 +56,7 @@ fn text_of(alloc: Global, command: Command, input: &[u8]) -> Result<Vec<u8>, Sto
 {
     match command {
         Command::Mean => meaning_of(alloc, input),
+        Command::Sim { record_it } => simulation_of(alloc, record_it, input),
         Command::Form => form_of(alloc, input),
         Command::Plan => slots_of(alloc, input),
         Command::Replay { ranked } => replay_of(alloc, ranked, input),
@@ -59,6 +72,43 @@ fn meaning_of(alloc: Global, input: &[u8]) -> Result<Vec<u8>, Stop>
     let plan = plan_of(alloc, input)?;
     let table = mean(alloc, &plan)?;
     Ok(lines(alloc, &plan, &table)?)
+}
+
+/// What the simulation of the input's plan writes: the lines of its table, or the steps of its record.
+fn simulation_of(alloc: Global, record_it: bool, input: &[u8]) -> Result<Vec<u8>, Stop>
+    requires { length input.now ≤ MAX_TEXT }
+    ensures text { IfOk result (λ text. Makes input.now (Sim record_it) text.items) }
+    ensures stop { IfErr result (λ stop. IsStopOf input.now (Sim record_it) stop) }
+{
+    let plan = plan_of(alloc, input)?;
+    let run = match simulate(alloc, &plan) {
+        Ok(run) => run,
+        Err(fail) => return Err(stop_of(&plan, fail)),
+    };
+    if record_it {
+        Ok(print_script(alloc, &plan.diagram, &run.script)?)
+    } else {
+        Ok(lines(alloc, &plan, &run.table)?)
+    }
+}
+
+/// Why the simulation of the plan has no text.
+fn stop_of(plan: &Plan, fail: SimFail) -> Stop
+    requires { IsSimFail plan.now fail }
+    ensures { (input : Items ℕ) (record_it : Bool) → Accepts input plan.now → IsStopOf input (Sim record_it) result }
+{
+    match fail {
+        SimFail::Overrun {
+            task,
+            instance,
+            time,
+        } => Stop::Overrun {
+            task: plan.diagram.tasks.items()[task as usize].name,
+            instance,
+            time,
+        },
+        SimFail::NoMemory => Stop::NoMemory,
+    }
 }
 
 /// The canonical text of the input's document.

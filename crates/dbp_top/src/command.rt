@@ -12,6 +12,8 @@ use std::alloc::Global;
 pub(crate) enum Command {
     /// Writes the lines of the meaning's table.
     Mean,
+    /// Simulates the plan in virtual time, and writes the lines of the table or the steps of the record.
+    Sim { record_it: bool },
     /// Writes the canonical text.
     Form,
     /// Writes the slots of each task.
@@ -27,10 +29,18 @@ struct Row {
 }
 
 // All commands. What a user is told of them is made of this table too.
-static ROWS: [Row; 5] = [
+static ROWS: [Row; 7] = [
     Row {
         words: &["mean"],
         command: Command::Mean,
+    },
+    Row {
+        words: &["sim"],
+        command: Command::Sim { record_it: false },
+    },
+    Row {
+        words: &["sim", "--record"],
+        command: Command::Sim { record_it: true },
     },
     Row {
         words: &["form"],

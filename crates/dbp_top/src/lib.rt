@@ -5,6 +5,7 @@ mod answer;
 mod command;
 mod laws;
 mod outside;
+mod overrun_line;
 mod plan;
 mod refusal;
 mod slot_lines;

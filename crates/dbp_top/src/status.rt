@@ -10,6 +10,8 @@ pub enum Status {
     Ok = 0,
     /// The document was refused, or a step of its script isn't allowed, and the line that says so was written whole.
     Refused = 1,
+    /// A release meets an unfinished instance of its task in the simulation, and the line that says so was written whole.
+    Overrun = 3,
     /// The words are no command. Nothing was read or written.
     Usage = 2,
     /// A read failed. Nothing was written.
@@ -26,7 +28,9 @@ const _: () = prove!(
     Status::Ok as u8 == 0 && Status::Refused as u8 == 1 && Status::Usage as u8 == 2
 );
 
-const _: () = prove!(Status::ReadFault as u8 == 4 && Status::WriteFault as u8 == 5);
+const _: () = prove!(
+    Status::Overrun as u8 == 3 && Status::ReadFault as u8 == 4 && Status::WriteFault as u8 == 5
+);
 
 const _: () = prove!(Status::NoMemory as u8 == 6 && Status::TooLarge as u8 == 7);
 
@@ -37,6 +41,7 @@ pub fn note(status: Status) -> &'static str
     match status {
         Status::Ok => "done",
         Status::Refused => "the document was refused",
+        Status::Overrun => "a release meets an unfinished instance",
         Status::Usage => "usage: dbp COMMAND < DOCUMENT, where COMMAND is one of:",
         Status::ReadFault => "a read of the input failed; nothing was written",
         Status::WriteFault => "a write of the output failed; not all of it was written",
