@@ -4,7 +4,8 @@ ghost use Rattle.std.specs.Prelude.{◌≡◌, ◌≤◌, ℕ, Bool, List as Ite
 ghost use Rattle.dbp_plan.specs.declared.limits.TheConstants.{MAX_TEXT};
 ghost use Rattle.trace_io.specs.Texts.{Accepts};
 ghost use Rattle.virtual_sim.specs.Outcomes.{IsSimFail};
-ghost use Rattle.dbp_top.specs.Answer.{Answers, Makes, count_of};
+ghost use Rattle.dia_read.specs.declared.document.Doc.{Doc as Document};
+ghost use Rattle.dbp_top.specs.Answer.{Answers, Makes, PlanText, count_of};
 ghost use Rattle.dbp_top.specs.Stops.{IsStopOf};
 ghost use Rattle.dbp_top.specs.declared.command.Command.TheVariants.{Mean, Form, Plan as Slots, Replay, Sim};
 
@@ -74,21 +75,29 @@ fn meaning_of(alloc: Global, input: &[u8]) -> Result<Vec<u8>, Stop>
     Ok(lines(alloc, &plan, &table)?)
 }
 
-/// What the simulation of the input's plan writes: the lines of its table, or the steps of its record.
+/// What the simulation of the input's plan writes.
 fn simulation_of(alloc: Global, record_it: bool, input: &[u8]) -> Result<Vec<u8>, Stop>
     requires { length input.now ≤ MAX_TEXT }
     ensures text { IfOk result (λ text. Makes input.now (Sim record_it) text.items) }
     ensures stop { IfErr result (λ stop. IsStopOf input.now (Sim record_it) stop) }
 {
     let plan = plan_of(alloc, input)?;
-    let run = match simulate(alloc, &plan) {
+    simulation_text(alloc, record_it, &plan)
+}
+
+/// What the simulation of the plan writes: the steps of its record, or the lines of its table.
+fn simulation_text(alloc: Global, record_it: bool, plan: &Plan) -> Result<Vec<u8>, Stop>
+    ensures text { IfOk result (λ text. (doc : Document) → PlanText doc plan.now (Sim record_it) text.items) }
+    ensures stop { IfErr result (λ stop. (input : Items ℕ) → Accepts input plan.now → IsStopOf input (Sim record_it) stop) }
+{
+    let run = match simulate(alloc, plan) {
         Ok(run) => run,
-        Err(fail) => return Err(stop_of(&plan, fail)),
+        Err(fail) => return Err(stop_of(plan, fail)),
     };
     if record_it {
         Ok(print_script(alloc, &plan.diagram, &run.script)?)
     } else {
-        Ok(lines(alloc, &plan, &run.table)?)
+        Ok(lines(alloc, plan, &run.table)?)
     }
 }
 

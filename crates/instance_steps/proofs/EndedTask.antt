@@ -12,7 +12,7 @@ use Rattle.sync_meaning.specs.SomeMeaning.{meaning_of}
 use Rattle.sync_meaning.specs.SomeMeaningTables.{rows_in}
 use Rattle.sync_meaning.proofs.Tables.{row_fits}
 use Rattle.dbp_rules.specs.Places.{task, task_entry, wired}
-use Rattle.dbp_rules.specs.Shapes.{IsTaskWired, TaskShape, running}
+use Rattle.dbp_rules.specs.Shapes.{IsTaskWired, TaskShape, running_count}
 use Rattle.dbp_rules.specs.SoundParts.{last_shut, shut_by}
 use Rattle.dbp_rules.specs.declared.parts.Place.TheVariants as place
 use Rattle.instance_steps.specs.EndedRows.{HasEndedRows}
@@ -44,7 +44,7 @@ module _ (a b : Recorder) (i : ℕ) (us : List Event) (piece : AddsPiece a b us 
   few : (task (state_in a) i).part.ended < MAX_OCCURRENCES
   few =
       omega
-      (arith, piece.changes.ended, ap running piece.changes.place, shape_b.gate, shape_b.aimed, b.core.shape.aimed i (wired_there b i named_b), (own_in b).whole.releases.aims_times (state_in b).releaser.place i, wired_b.few, ap length wired_b.times)
+      (arith, piece.changes.ended, ap running_count piece.changes.place, shape_b.gate, shape_b.aimed, b.core.shape.aimed i (wired_there b i named_b), (own_in b).whole.releases.aims_times (state_in b).releaser.place i, wired_b.few, ap length wired_b.times)
 
   module _ (row : List ℤ) (is : row ≡ (task (state_in b) i).work.row) (old : TaskRows) (at : slice_get (table_in b).tasks i ≡ Some old) where
     wide : length row ≡ length (declared (plan_in b) i).outs

@@ -32,11 +32,11 @@ third_fails true true c fails = fails refl refl
 third_fails true false c fails = refl
 third_fails false b c fails = refl
 
-pub unblocked_from : (c : Count) (w : Wiring) (s : State) (i : ℕ) → (c ≡ Ranked → (r : ℕ) → r < length w.tasks → rule.blocks w s i r ≡ false) → rule.unblocked c w s i ≡ None
+pub unblocked_from : (c : Count) (w : Wiring) (s : State) (i : ℕ) → (c ≡ Ranked → (r : ℕ) → r < length w.tasks → rule.blocks w s i r ≡ false) → rule.blocker_refusal c w s i ≡ None
 unblocked_from All w s i free = refl
 unblocked_from Ranked w s i free = ap (λ (o : Option ℕ). rule.none_of o broken.HigherUnfinished i) (highest_none w (rule.blocks w s i) (length w.tasks) (free refl))
 
-pub may_step_free : (w : Wiring) (s : State) (i : ℕ) → MayStep w s i → rule.unblocked w.count w s i ≡ None
+pub may_step_free : (w : Wiring) (s : State) (i : ℕ) → MayStep w s i → rule.blocker_refusal w.count w s i ≡ None
 may_step_free w s i may = unblocked_from w.count w s i (λ ranked r below. third_fails
     (nat_lt (wired w r).rank (wired w i).rank)
     (nat_lt (task s r).part.ended (task_entry s r).aimed)
@@ -97,7 +97,7 @@ module _ (p : Plan) (w : Wiring) (s : State) (i : ℕ) (named : i < length p.dia
       (ap (λ (x : Place). (rule.place_kind (wired w i) x).0) at ∙ same)
       (ap (λ (x : Place). (rule.place_kind (wired w i) x).1) at ∙ also)
 
-  free : rule.unblocked w.count w s i ≡ None
+  free : rule.blocker_refusal w.count w s i ≡ None
   free = may_step_free w s i may
 
   -- a start
