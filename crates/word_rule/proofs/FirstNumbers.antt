@@ -1,7 +1,6 @@
 -- The words of the table before the first step have their numbers.
-use Rattle.std.proofs.Common.{◌≡◌, ◌≢◌, ℕ, zero, suc, ℤ, pos, ◌+◌, ◌<◌, ◌≤◌, true, false, List, length, get_or, set, map, replicate, refl, sym, ◌∙◌, ap, subst, arith, inl, inr, length-set, get_or-set_same, get_or-set_other}
+use Rattle.std.proofs.Common.{◌≡◌, ◌≢◌, ℕ, zero, suc, pos, ◌+◌, ◌<◌, true, false, List, length, get_or, set, map, replicate, refl, sym, ◌∙◌, ap, arith, length-set, get_or-set_same, get_or-set_other}
 use Rattle.std.specs.Prelude.{nat_lt}
-use Rattle.std.proofs.lemmas.Bool.{cases_lt}
 use Rattle.std.proofs.lemmas.Bool.Decides.{nat_tests}
 use Rattle.std.proofs.lemmas.List.{length-replicate}
 use mathlib.Core.Logic.{dite}
@@ -13,7 +12,6 @@ use Rattle.dbp_slots.specs.TableWords.{IsWord, Sizes, TableWord, SlotSizes, addr
 use Rattle.dbp_slots.proofs.Spots.{one_word, word_inside}
 use Rattle.dbp_rules.specs.LoadedWords.{start_number}
 use Rattle.dbp_rules.specs.SharedWords.{signed_value}
-use Rattle.dbp_rules.specs.Start.{first_row}
 use Rattle.dbp_rules.specs.Wired.{wiring_of}
 use Rattle.dbp_rules.specs.Places.{wired}
 use Rattle.dbp_rules.specs.declared.step.Count.TheVariants.{All}

@@ -1,6 +1,6 @@
 -- A step that its party's part allows is one of the state that the table shows: what it loads, what it stores, and what it
 -- makes of the part.
-use Rattle.std.proofs.Common.{◌≡◌, ◌≢◌, ℕ, zero, suc, ℤ, pos, ◌+◌, ◌^◌, ◌<◌, ◌≤◌, List, length, get_or, Option, Some, None, true, inl, inr, refl, sym, ◌∙◌, ap, subst, arith}
+use Rattle.std.proofs.Common.{◌≡◌, ℕ, ℤ, pos, ◌+◌, ◌^◌, ◌<◌, List, length, Some, None, true, inl, inr, refl, sym, ◌∙◌, ap, subst, arith}
 use Rattle.std.proofs.lemmas.Bool.{cases_Bool}
 use Rattle.std.proofs.lemmas.Option.{same_Some}
 use Rattle.std.specs.Prelude.{FitsSigned, slice_index_or}
@@ -8,17 +8,16 @@ use Rattle.std.specs.Int.{w64}
 use Rattle.dbp_plan.specs.declared.plan.Plan.{Plan}
 use Rattle.dbp_plan.specs.Lookups.{declared, no_read}
 use Rattle.sync_meaning.specs.SomeMeaning.{meaning_of, meaning_of-is}
-use Rattle.dbp_slots.specs.TableWords.{IsWord, Sizes, TableWord, address_of, sizes_of}
+use Rattle.dbp_slots.specs.TableWords.{IsWord, Sizes, TableWord, sizes_of}
 use Rattle.dbp_rules.specs.LoadedWords.{loaded_by, loaded_in, loaded_of, number_of_releaser, number_of_task, number_to_load, stored_number}
 use Rattle.dbp_rules.specs.PartyRules.{Loaded, is_stamp_of, no_word, read_order_in, releaser_after, releaser_refusal, task_after, task_refusal, turn_at}
-use Rattle.dbp_rules.specs.Places.{link, no_task, task, wired}
+use Rattle.dbp_rules.specs.Places.{link, task, wired}
 use Rattle.dbp_rules.specs.Promises.{IsMeant}
 use Rattle.dbp_rules.specs.Rules as rule
 use Rattle.dbp_rules.specs.SharedWords.{made_by, maker_part, stored_by, stored_in, value_in}
 use Rattle.dbp_rules.specs.Sound.{Sound}
 use Rattle.dbp_rules.specs.SoundParts.{shut_by}
 use Rattle.dbp_rules.specs.WordRanges.{PutWordFits, SlotWordsFit}
-use Rattle.dbp_rules.specs.declared.parts.Place.{Place}
 use Rattle.dbp_rules.specs.declared.parts.ReleaserPart.{ReleaserPart}
 use Rattle.dbp_rules.specs.declared.parts.TaskPart.{TaskPart}
 use Rattle.dbp_rules.specs.declared.state.State.{State}
@@ -28,7 +27,7 @@ use Rattle.dbp_rules.specs.declared.step.Step.{Step}
 use Rattle.dbp_rules.specs.declared.step.Step.TheVariants.{Seen, Aim, Claim, OpenGate, Start, Hear, Look, Take, Shut, Put, Done, End}
 use Rattle.dbp_rules.specs.declared.wiring.Wiring.{Wiring}
 use Rattle.dbp_rules.proofs.LoadedWords.{loaded_inside, loads_number}
-use Rattle.dbp_rules.proofs.Parties.{releaser_in_shape, releaser_loads, releaser_moved, releaser_refused, task_in_shape, task_loads, task_moved, task_refused}
+use Rattle.dbp_rules.proofs.Parties.{releaser_loads, releaser_moved, releaser_refused, task_loads, task_moved, task_refused}
 use Rattle.dbp_rules.proofs.SoundAnswers.{delayed_hears}
 use Rattle.dbp_rules.proofs.SoundOwn.{own_wiring}
 use Rattle.dbp_rules.proofs.StepPlaces.{at_put}

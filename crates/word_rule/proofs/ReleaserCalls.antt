@@ -1,19 +1,19 @@
 -- The calls of the releaser: each is one step of its part, which the table allows, and its data are those of its view afterwards.
-use Rattle.std.proofs.Common.{◌≡◌, ℕ, ◌+◌, ◌*◌, ◌<◌, ◌≤◌, ◌^◌, List, length, slice_get, Option, Some, None, refl, sym, ◌∙◌, ap, subst, arith}
+use Rattle.std.proofs.Common.{◌≡◌, ℕ, ◌+◌, ◌*◌, ◌<◌, ◌≤◌, ◌^◌, List, length, slice_get, Some, None, refl, sym, ◌∙◌, ap, subst, arith}
 use mathlib.Core.Option.{none}
 use Rattle.atomic_table.specs.Table.{Allows, step}
 use Rattle.dbp_plan.specs.declared.diagram.Link.{Link}
 use Rattle.dbp_plan.specs.declared.plan.Plan.{Plan}
 use Rattle.dbp_plan.specs.declared.limits.TheConstants.{MAX_OCCURRENCES}
 use Rattle.dbp_slots.specs.Layout.{sizes}
-use Rattle.dbp_slots.specs.TableWords.{IsWord, Sizes, TableWord, address_of, aim, claim, ended, gate, sizes_of}
+use Rattle.dbp_slots.specs.TableWords.{Sizes, TableWord, address_of, aim, claim, ended, gate, sizes_of}
 use Rattle.release_list.specs.declared.release.Release.{Release}
 use Rattle.release_list.specs.declared.release.Release.TheVariants as release
-use Rattle.dbp_rules.specs.LoadedWords.{loaded_of, number_of_releaser, order_of, sizes_of_wiring}
+use Rattle.dbp_rules.specs.LoadedWords.{order_of}
 use Rattle.dbp_rules.specs.Moves.{claim_order}
 use Rattle.dbp_rules.specs.PartyRules.{Loaded, a_number, next_claim, no_word, release_kind, releaser_after, releaser_refusal}
-use Rattle.dbp_rules.specs.PartyShapes.{IsNamedIn, LinksFit, ReleaserLoads, ReleaserShape}
-use Rattle.dbp_rules.specs.Places.{entry_in, link, wired}
+use Rattle.dbp_rules.specs.PartyShapes.{IsNamedIn, LinksFit, ReleaserShape}
+use Rattle.dbp_rules.specs.Places.{entry_in, link}
 use Rattle.dbp_rules.specs.Rules.{IsNamed, IsNamedWithin}
 use Rattle.dbp_rules.specs.SharedWords.{made_by, order_value}
 use Rattle.dbp_rules.specs.Shapes.{IsWired}
@@ -34,14 +34,13 @@ use Rattle.dbp_rules.proofs.WordNumbers.{order_back}
 use Rattle.std.proofs.lemmas.Option.{slice_get_within}
 use Rattle.word_rule.specs.OwnSteps.{IsOwnStep}
 use Rattle.word_rule.specs.Plays.{Aims, Claims, IsReleaser, Makes, OneStep, Opens, Seated, Sees, seats_split}
-use Rattle.word_rule.specs.Roles.{PutFits, RoleLoads, RoleShape, number_stored, role_after, role_refusal, run_wiring, task_of, word_loaded, word_stored}
+use Rattle.word_rule.specs.Roles.{PutFits, RoleLoads, RoleShape, number_stored, role_after, role_refusal, run_wiring, task_of}
 use Rattle.word_rule.specs.Seats.{ReleaserSits}
 use Rattle.word_rule.specs.Showing.{Keeps}
 use Rattle.word_rule.specs.declared.seats.ReleaserSeat.{ReleaserSeat}
 use Rattle.word_rule.specs.declared.seats.SlotWords.{SlotWords}
 use Rattle.word_rule.specs.declared.views.Role.{Role}
-use Rattle.word_rule.specs.declared.views.Role.TheVariants.{Releaser, Task}
-use Rattle.word_rule.specs.declared.views.View.{View}
+use Rattle.word_rule.specs.declared.views.Role.TheVariants.{Releaser}
 use Rattle.word_rule.proofs.SeatSteps.{may_load, may_store, same_links, same_tasks, sizes_are, wiring_is}
 
 -- what a releaser's seat has after its step

@@ -1,20 +1,15 @@
 -- A step of a seat is one that the table allows it, and its play is told.
-use Rattle.std.proofs.Common.{◌≡◌, ℕ, ◌+◌, ◌<◌, ◌≤◌, List, length, get_or, Option, Some, None, refl, sym, ◌∙◌, ap, subst, arith}
-use mathlib.Core.Option.{none}
+use Rattle.std.proofs.Common.{◌≡◌, ℕ, ◌<◌, length, get_or, Some, refl, sym, ◌∙◌, ap, subst, arith}
 use Rattle.atomic_table.specs.Table.{Allows, keeps}
-use Rattle.dbp_plan.specs.declared.diagram.Diagram.{Diagram}
 use Rattle.dbp_plan.specs.declared.plan.Plan.{Plan}
 use Rattle.dbp_slots.specs.Layout.{sizes}
-use Rattle.dbp_slots.specs.TableWords.{IsWord, Sizes, TableWord, address_of, sizes_of, word_count}
+use Rattle.dbp_slots.specs.TableWords.{IsWord, TableWord, address_of, sizes_of, word_count}
 use Rattle.dbp_slots.proofs.Spots.{word_inside}
 use Rattle.dbp_rules.specs.LoadedWords.{loaded_of}
-use Rattle.dbp_rules.specs.Rules.{IsNamed}
-use Rattle.dbp_rules.specs.SharedWords.{made_by}
 use Rattle.dbp_rules.specs.declared.step.Step.{Step}
-use Rattle.dbp_rules.specs.declared.wiring.Wiring.{Wiring}
 use Rattle.word_rule.specs.OwnSteps.{IsOwnStep, view_after}
 use Rattle.word_rule.specs.Plays.{Makes, OneStep, Seated}
-use Rattle.word_rule.specs.Roles.{PutFits, number_stored, role_refusal, run_wiring, task_of, word_loaded, word_stored}
+use Rattle.word_rule.specs.Roles.{number_stored, run_wiring, word_loaded, word_stored}
 use Rattle.word_rule.specs.Showing.{Keeps}
 use Rattle.word_rule.specs.declared.seats.SlotWords.{SlotWords}
 use Rattle.word_rule.specs.declared.views.View.{View}

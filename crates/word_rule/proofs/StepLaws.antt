@@ -1,6 +1,6 @@
 -- The two general laws of a step of a party, by its own part: one that loads a word, and one that stores one. The words and
 -- views afterwards show the next state, which is sound, and all other views stay.
-use Rattle.std.proofs.Common.{◌≡◌, ◌≢◌, ◌⊎◌, ⊎_elim, ℕ, zero, suc, ◌+◌, ◌<◌, ◌≤◌, List, length, get_or, set, Option, Some, None, refl, sym, ◌∙◌, ap, subst, arith, length-set, get_or-set_same, get_or-set_other}
+use Rattle.std.proofs.Common.{◌≡◌, ◌≢◌, ⊎_elim, ℕ, zero, suc, ◌<◌, ◌≤◌, List, length, get_or, set, Option, Some, None, refl, sym, ◌∙◌, ap, subst, arith, length-set, get_or-set_same, get_or-set_other}
 use Rattle.std.proofs.lemmas.List.{set-get_or}
 use Rattle.std.proofs.lemmas.Option.{same_Some}
 use mathlib.Core.Logic.{dite}
@@ -13,11 +13,11 @@ use Rattle.dbp_slots.specs.TableWords.{IsWord, TableWord, address_of, sizes_of}
 use Rattle.dbp_slots.proofs.Spots.{one_word, word_inside}
 use Rattle.sync_meaning.proofs.OneMeaning.{meaning_solves}
 use Rattle.sync_meaning.specs.SomeMeaning.{meaning_of, meaning_of-is}
-use Rattle.dbp_rules.specs.LoadedWords.{loaded_by, loaded_in, loaded_of}
+use Rattle.dbp_rules.specs.LoadedWords.{loaded_by, loaded_of}
 use Rattle.dbp_rules.specs.PartyRules.{Loaded, no_word}
 use Rattle.dbp_rules.specs.Places.{no_task, task}
 use Rattle.dbp_rules.specs.Rules as rule
-use Rattle.dbp_rules.specs.SharedWords.{KeepsOtherParts, KeepsOtherWords, made_by, stored_by, stored_in, value_in}
+use Rattle.dbp_rules.specs.SharedWords.{KeepsOtherParts, made_by, stored_by, value_in}
 use Rattle.dbp_rules.specs.Sound.{Sound}
 use Rattle.dbp_rules.specs.WordRanges.{SlotWordsFit}
 use Rattle.dbp_rules.specs.declared.state.State.{State}
@@ -29,7 +29,7 @@ use Rattle.dbp_rules.proofs.StoredWords.{parts_kept, words_kept}
 use Rattle.dbp_rules.proofs.WordRanges.{step_fits}
 use Rattle.word_rule.specs.OwnSteps.{view_after}
 use Rattle.word_rule.specs.Roles.{PutFits, RoleLoads, RolePromise, RoleShape, meaning_row, number_stored, role_after, role_refusal, run_wiring, task_of, task_part_of, word_loaded, word_stored}
-use Rattle.word_rule.specs.Showing.{Keeps, Shows, ShowsRole, TableState}
+use Rattle.word_rule.specs.Showing.{Keeps, ShowsRole, TableState}
 use Rattle.word_rule.specs.declared.views.Role.{Role}
 use Rattle.word_rule.specs.declared.views.Role.TheVariants.{Releaser, Task}
 use Rattle.word_rule.specs.declared.views.View.{View}

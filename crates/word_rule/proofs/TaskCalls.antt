@@ -1,18 +1,16 @@
 -- The calls of a task: each is one step of its part, which the table allows, and its data are those of its view afterwards.
-use Rattle.std.proofs.Common.{◌≡◌, ℕ, zero, suc, ◌+◌, ◌*◌, ◌<◌, ◌≤◌, ◌^◌, List, length, Option, Some, None, refl, sym, ◌∙◌, ap, subst, arith}
+use Rattle.std.proofs.Common.{◌≡◌, ℕ, zero, suc, ◌+◌, ◌*◌, ◌<◌, ◌≤◌, ◌^◌, List, length, Some, None, refl, sym, ◌∙◌, ap, subst, arith}
 use Rattle.std.proofs.lemmas.Option.{same_Some}
 use mathlib.Core.Option.{none}
 use Rattle.atomic_table.specs.Table.{Allows, step}
 use Rattle.dbp_plan.specs.declared.diagram.Link.{Link}
 use Rattle.dbp_plan.specs.declared.plan.Plan.{Plan}
-use Rattle.dbp_plan.specs.declared.limits.TheConstants.{MAX_OCCURRENCES, MAX_READS}
 use Rattle.dbp_slots.specs.Layout.{sizes}
-use Rattle.dbp_slots.specs.TableWords.{IsWord, Sizes, TableWord, address_of, gate, sizes_of}
+use Rattle.dbp_slots.specs.TableWords.{IsWord, Sizes, address_of, gate, sizes_of}
 use Rattle.dbp_rules.specs.LoadedWords.{order_of, sizes_of_wiring, word_of_order}
 use Rattle.dbp_rules.specs.PartyRules.{Loaded, a_number, an_order, hears_at, task_after, task_refusal}
-use Rattle.dbp_rules.specs.PartyShapes.{TaskLoads, TaskPartShape}
-use Rattle.dbp_rules.specs.Places.{link, wired}
-use Rattle.dbp_rules.specs.SharedWords.{made_by}
+use Rattle.dbp_rules.specs.PartyShapes.{TaskPartShape}
+use Rattle.dbp_rules.specs.Places.{wired}
 use Rattle.dbp_rules.specs.Shapes.{IsTaskWired, IsWired, OrderFits, PlaceIn, heard_by, link_in, place_number, slot_owner}
 use Rattle.dbp_rules.specs.declared.parts.Order.{Order}
 use Rattle.dbp_rules.specs.declared.parts.Place.{Place}
@@ -30,14 +28,14 @@ use Rattle.dbp_rules.proofs.WiringParts.{wired_tasks}
 use Rattle.dbp_rules.proofs.Wirings.{wiring-whole}
 use Rattle.word_rule.specs.OwnSteps.{IsOwnStep}
 use Rattle.word_rule.specs.Plays.{Hears, IsTask, Makes, OneStep, Seated, Starts}
-use Rattle.word_rule.specs.Roles.{PutFits, RoleLoads, RoleShape, role_after, role_refusal, run_wiring, task_of, task_part_of, word_loaded}
+use Rattle.word_rule.specs.Roles.{PutFits, RoleLoads, RoleShape, role_after, role_refusal, run_wiring, task_of, word_loaded}
 use Rattle.word_rule.specs.Seats.{TaskSits}
 use Rattle.word_rule.specs.Showing.{Keeps}
 use Rattle.word_rule.specs.declared.seats.SlotWords.{SlotWords}
 use Rattle.word_rule.specs.declared.seats.TaskSeat.{TaskSeat}
 use Rattle.word_rule.specs.declared.views.Role.{Role}
-use Rattle.word_rule.specs.declared.views.Role.TheVariants.{Releaser, Task}
-use Rattle.word_rule.proofs.SeatSteps.{may_load, same_links, same_tasks, sizes_are, wiring_is}
+use Rattle.word_rule.specs.declared.views.Role.TheVariants.{Task}
+use Rattle.word_rule.proofs.SeatSteps.{may_load, same_tasks, sizes_are, wiring_is}
 
 -- what a task's seat has after its step
 pub task_then : (me new : Seated) (i : ℕ) (t : TaskPart) (e : Step) (l : Loaded) → IsTask me i t → OneStep me new → Makes e l me new → IsTask new i (task_after (wired (run_wiring me.0.plan) i) t e l)

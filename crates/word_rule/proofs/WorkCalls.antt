@@ -1,21 +1,21 @@
 -- The calls of a task at its instance: each is one step of its part, which the table allows, and its data are those of its view afterwards.
-use Rattle.std.proofs.Common.{◌≡◌, ◌≢◌, ℕ, zero, suc, ℤ, pos, ◌+◌, ◌*◌, ◌<◌, ◌≤◌, ◌^◌, FitsSigned, w64, true, false, ne_eqb, List, length, get_or, Option, Some, None, refl, sym, ◌∙◌, ap, subst, arith}
+use Rattle.std.proofs.Common.{◌≡◌, ◌≢◌, ℕ, ℤ, pos, ◌+◌, ◌*◌, ◌<◌, ◌≤◌, ◌^◌, FitsSigned, w64, true, false, ne_eqb, length, get_or, Some, None, refl, sym, ◌∙◌, ap, subst, arith}
 use mathlib.Core.Option.{none}
 use Rattle.atomic_table.specs.Table.{Allows, step}
 use Rattle.dbp_plan.specs.declared.plan.Plan.{Plan}
-use Rattle.dbp_plan.specs.declared.limits.TheConstants.{MAX_OCCURRENCES, MAX_OUTS}
+use Rattle.dbp_plan.specs.declared.limits.TheConstants.{MAX_OCCURRENCES}
 use Rattle.dbp_plan.specs.Lookups.{declared, no_read}
 use Rattle.dbp_slots.specs.Layout.{sizes}
 use Rattle.dbp_slots.specs.TableWords.{IsSlot, IsWord, Sizes, SlotSizes, TableWord, address_of, ended, sizes_of, stamp, task_sizes, word}
 use Rattle.sync_meaning.specs.SomeMeaning.{meaning_of}
-use Rattle.dbp_rules.specs.LoadedWords.{loaded_of, number_of_task, sizes_of_wiring, value_of_word}
-use Rattle.dbp_rules.specs.Moves.{heard_order, own_slot}
+use Rattle.dbp_rules.specs.LoadedWords.{loaded_of, number_of_task, value_of_word}
+use Rattle.dbp_rules.specs.Moves.{own_slot}
 use Rattle.dbp_rules.specs.PartyRules.{Loaded, a_number, place_kind, a_value, is_stamp_of, no_word, read_order_in, task_after, task_refusal, turn_at}
 use Rattle.dbp_rules.specs.Places.{link, read_at, wired}
 use Rattle.dbp_rules.specs.Promises.{IsMeant}
 use Rattle.dbp_rules.specs.SharedWords.{made_by, signed_value}
 use Rattle.dbp_rules.specs.Rules.{IsNamed}
-use Rattle.dbp_rules.specs.Shapes.{IsReadWired, IsTaskWired, IsWired, OrderFits, PlaceIn, heard_by, place_number, slot_owner}
+use Rattle.dbp_rules.specs.Shapes.{IsReadWired, OrderFits, PlaceIn, heard_by, place_number}
 use Rattle.dbp_rules.specs.declared.parts.Order.{Order}
 use Rattle.dbp_rules.specs.declared.parts.Place.{Place}
 use Rattle.dbp_rules.specs.declared.parts.Place.TheVariants as place
@@ -28,16 +28,15 @@ use Rattle.dbp_rules.specs.declared.wiring.TaskWiring.{TaskWiring}
 use Rattle.dbp_rules.specs.declared.wiring.Wiring.{Wiring}
 use Rattle.dbp_rules.proofs.Allowed.{at_next, next_none}
 use Rattle.dbp_rules.proofs.TableSizes.{is_slot, same_sizes, sizes_of_task}
-use Rattle.dbp_rules.proofs.WordNumbers.{value_number}
 use Rattle.word_rule.specs.OwnSteps.{IsOwnStep}
 use Rattle.word_rule.specs.Plays.{Ends, Finishes, IsTask, Looks, Makes, OneStep, Puts, Seated, Shuts, Takes}
-use Rattle.word_rule.specs.Roles.{PutFits, RolePromise, meaning_row, number_stored, role_refusal, run_wiring, task_of, word_loaded, word_stored}
+use Rattle.word_rule.specs.Roles.{PutFits, RolePromise, meaning_row, number_stored, role_refusal, run_wiring, word_loaded, word_stored}
 use Rattle.word_rule.specs.Seats.{TaskSits}
 use Rattle.word_rule.specs.Showing.{Keeps}
 use Rattle.word_rule.specs.declared.seats.SlotWords.{SlotWords}
 use Rattle.word_rule.specs.declared.seats.TaskSeat.{TaskSeat}
 use Rattle.word_rule.specs.declared.views.Role.{Role}
-use Rattle.word_rule.specs.declared.views.Role.TheVariants.{Releaser, Task}
+use Rattle.word_rule.specs.declared.views.Role.TheVariants.{Task}
 use Rattle.word_rule.proofs.SeatSteps.{may_load, may_store, sizes_are, wiring_is}
 use Rattle.word_rule.proofs.TaskCalls.{inside, one_task, own_free, role_task, shape, task_then, task_wired, task_word, wired_is}
 

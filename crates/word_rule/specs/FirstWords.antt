@@ -1,5 +1,5 @@
 -- The words of the table before the first step.
-use Rattle.std.specs.Prelude.{◌≡◌, ◌≢◌, ℕ, zero, ℤ, pos, ◌<◌, nat_lt, if◌then◌else◌, List, length, map, slice_index, slice_index_or}
+use Rattle.std.specs.Prelude.{◌≡◌, ◌≢◌, ℕ, zero, pos, ◌<◌, nat_lt, if◌then◌else◌, List, length, map, slice_index, slice_index_or}
 use Rattle.dbp_plan.specs.declared.diagram.Out.{Out}
 use Rattle.dbp_plan.specs.declared.plan.Plan.{Plan}
 use Rattle.dbp_slots.specs.TableWords.{IsWord, Sizes, TableWord, address_of, sizes_of, stamp, word, word_count}

@@ -1,8 +1,6 @@
 -- What each kind of step tells the seat that makes it, and what a seat knows.
-use Rattle.std.specs.Prelude.{◌≡◌, ℕ, zero, suc, ◌+◌, ◌<◌, ◌≤◌, ◌^◌, List, [], length, Some, None}
+use Rattle.std.specs.Prelude.{◌≡◌, ℕ, ◌+◌, ◌<◌, ◌^◌, [], length, Some, None}
 use Rattle.atomic_table.specs.Table.{Me, Step as WordStep}
-use Rattle.dbp_plan.specs.declared.limits.TheConstants.{MAX_OCCURRENCES}
-use Rattle.dbp_plan.specs.declared.plan.Plan.{Plan}
 use Rattle.dbp_slots.specs.TableWords.{TableWord, address_of, aim, claim, ended, gate, sizes_of}
 use Rattle.dbp_rules.specs.LoadedWords.{order_of, value_of_word}
 use Rattle.dbp_rules.specs.PartyRules.{Loaded, a_number, a_value, an_order, no_word}

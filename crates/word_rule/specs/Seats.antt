@@ -6,7 +6,6 @@ use Rattle.dbp_rules.specs.declared.step.Step.TheVariants.{Start}
 use Rattle.word_rule.specs.declared.seats.ReleaserSeat.{ReleaserSeat}
 use Rattle.word_rule.specs.declared.seats.SlotWords.{SlotWords}
 use Rattle.word_rule.specs.declared.seats.TaskSeat.{TaskSeat}
-use Rattle.word_rule.specs.Plays.{seats_split}
 
 -- the seat belongs to these words
 abbrev pub ReleaserSits : SlotWords → ReleaserSeat → Type 0

@@ -1,10 +1,9 @@
-use Rattle.std.proofs.Common.{◌≡◌, ◌<◌, FitsSigned, rules, w64, ℕ, ℤ, pos, length, get_or, map, sym, ap, ◌∙◌, subst, arith}
+use Rattle.std.proofs.Common.{◌≡◌, FitsSigned, rules, w64, pos, get_or, map, sym, ap, ◌∙◌, arith}
 use Rattle.std.proofs.lemmas.Int.{to_z-of_z}
 use Rattle.std.proofs.lemmas.List.{get_or-map}
 use Rattle.dbp_plan.specs.declared.diagram.Out.{Out}
 use Rattle.dbp_slots.specs.Layout.{sizes}
 use Rattle.dbp_rules.specs.SharedWords.{signed_value}
-use Rattle.word_rule.specs.FirstWords.{HasSlotFilled}
 use Rattle.word_rule.proofs.FirstNumbers.{filled_more, filled_none, word_address}
 use Rattle.word_rule.proofs.first_words.fill_first_slot.Goals as goal
 

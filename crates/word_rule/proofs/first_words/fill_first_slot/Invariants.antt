@@ -1,4 +1,3 @@
-use Rattle.std.proofs.Common.{◌≡◌}
 use Rattle.dbp_slots.specs.Layout.{sizes}
 use Rattle.word_rule.specs.FirstWords.{HasSlotFilled}
 use Rattle.word_rule.proofs.first_words.fill_first_slot.Given as goal

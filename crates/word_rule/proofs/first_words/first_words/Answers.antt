@@ -3,7 +3,6 @@ use Rattle.dbp_plan.specs.declared.diagram.Task.{Task}
 use Rattle.dbp_plan.specs.declared.diagram.Out.{Out}
 use Rattle.dbp_plan.specs.Lookups.{declared, no_declared}
 use Rattle.std.proofs.lemmas.List.{get_or_default, take-append-le, take_all}
-use Rattle.dbp_slots.specs.Layout.{sizes}
 use Rattle.dbp_slots.specs.TableWords.{Sizes, sizes_of, task_sizes}
 use Rattle.word_rule.specs.FirstWords.{HasNumbersSoFar, HasSlotFilled}
 use Rattle.word_rule.proofs.FirstNumbers.{ports_are, so_far_all, so_far_more, some_slot, task_count_is}

@@ -1,4 +1,3 @@
-use Rattle.std.proofs.Common.{◌≡◌}
 use Rattle.word_rule.specs.FirstWords.{HasNumbersSoFar}
 use Rattle.word_rule.proofs.first_words.first_words.Given as goal
 

@@ -1,4 +1,4 @@
-use Rattle.std.proofs.Common.{◌≡◌, ◌∙◌, ap, arith}
+use Rattle.std.proofs.Common.{◌∙◌, ap}
 use Rattle.dbp_rules.specs.SharedWords.{order_value}
 use Rattle.word_rule.proofs.ReleaserCalls.{aim_aimed, aim_place, aim_store, aim_then}
 use Rattle.word_rule.proofs.seats.SlotWords.aim.Goals as goal

@@ -1,4 +1,4 @@
-use Rattle.std.proofs.Common.{◌≡◌, ◌∙◌, ap, arith}
+use Rattle.std.proofs.Common.{◌∙◌, ap}
 use Rattle.dbp_rules.specs.SharedWords.{order_value}
 use Rattle.word_rule.proofs.ReleaserCalls.{claim_kept, claim_place, claim_reader, claim_store, claim_then}
 use Rattle.word_rule.proofs.seats.SlotWords.claim.Goals as goal

@@ -1,4 +1,4 @@
-use Rattle.std.proofs.Common.{◌≡◌, ◌+◌, ◌∙◌, ap, arith}
+use Rattle.std.proofs.Common.{◌+◌, ap}
 use Rattle.word_rule.proofs.WorkCalls.{done_store, done_then, done_word}
 use Rattle.word_rule.proofs.seats.SlotWords.done.Goals as goal
 

@@ -1,4 +1,4 @@
-use Rattle.std.proofs.Common.{◌≡◌, ◌+◌, ◌∙◌, ap, sym, arith}
+use Rattle.std.proofs.Common.{◌+◌, ap}
 use Rattle.word_rule.proofs.TaskCalls.{task_in_layout}
 use Rattle.word_rule.proofs.WorkCalls.{end_ended, end_store, end_then}
 use Rattle.word_rule.proofs.seats.SlotWords.end.Goals as goal

@@ -1,8 +1,8 @@
-use Rattle.std.proofs.Common.{◌≡◌, ◌∙◌, length, ap, arith}
+use Rattle.std.proofs.Common.{◌∙◌, length, ap, arith}
 use Rattle.dbp_rules.specs.PartyRules.{an_order, task_after}
 use Rattle.dbp_rules.specs.declared.step.Step.TheVariants.{Hear}
 use Rattle.dbp_rules.specs.declared.wiring.TaskWiring.{TaskWiring}
-use Rattle.word_rule.proofs.TaskCalls.{hear_fits, hear_links, hear_load, hear_number, hear_room, hear_then, task_named}
+use Rattle.word_rule.proofs.TaskCalls.{hear_fits, hear_links, hear_load, hear_number, hear_room, hear_then}
 use Rattle.word_rule.proofs.seats.SlotWords.hear.Goals as goal
 
 pub load-found-requires : goal.load-found-requires

@@ -1,5 +1,5 @@
-use Rattle.std.proofs.Common.{◌≡◌, ◌+◌, ℕ, Bool, sym, ◌∙◌, ap, arith}
-use Rattle.dbp_rules.specs.Moves.{after_look, after_take}
+use Rattle.std.proofs.Common.{◌≡◌, ◌+◌, ℕ, Bool, sym, ◌∙◌, ap}
+use Rattle.dbp_rules.specs.Moves.{after_look}
 use Rattle.dbp_rules.specs.PartyRules.{is_stamp_of, read_order_in, turn_at}
 use Rattle.dbp_rules.specs.Places.{read_at}
 use Rattle.dbp_rules.specs.declared.wiring.TaskWiring.{TaskWiring}

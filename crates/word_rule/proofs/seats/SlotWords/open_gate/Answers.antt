@@ -1,4 +1,4 @@
-use Rattle.std.proofs.Common.{◌≡◌, ◌∙◌, ap, arith}
+use Rattle.std.proofs.Common.{◌∙◌}
 use Rattle.word_rule.proofs.ReleaserCalls.{entry_there, open_place, open_store, open_then, task_in_layout}
 use Rattle.word_rule.proofs.seats.SlotWords.open_gate.Goals as goal
 

@@ -1,4 +1,4 @@
-use Rattle.std.proofs.Common.{◌≡◌, ◌+◌, ◌-◌, ◌<◌, length, subst, arith}
+use Rattle.std.proofs.Common.{◌+◌, ◌-◌, ◌<◌, length, subst, arith}
 use Rattle.dbp_rules.specs.Places.{wired}
 use Rattle.dbp_rules.specs.Shapes.{PlaceIn}
 use Rattle.dbp_rules.specs.declared.parts.Place.{Place}

@@ -1,4 +1,4 @@
-use Rattle.std.proofs.Common.{FitsSigned, rules, w64, ◌≡◌, ◌+◌, ◌∙◌, ap, arith}
+use Rattle.std.proofs.Common.{FitsSigned, rules, w64, ◌+◌, ◌∙◌, ap}
 use Rattle.std.proofs.lemmas.Int.{to_z-of_z}
 use Rattle.dbp_rules.specs.SharedWords.{signed_value}
 use Rattle.dbp_rules.specs.Moves.{at_place, put_place}

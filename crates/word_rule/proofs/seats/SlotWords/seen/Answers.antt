@@ -1,4 +1,3 @@
-use Rattle.std.proofs.Common.{◌≡◌, ◌∙◌, ap, arith}
 use Rattle.word_rule.proofs.ReleaserCalls.{entry_there, seen_known, seen_load, seen_then, task_in_layout}
 use Rattle.word_rule.proofs.seats.SlotWords.seen.Goals as goal
 

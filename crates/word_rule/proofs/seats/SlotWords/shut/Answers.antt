@@ -1,4 +1,3 @@
-use Rattle.std.proofs.Common.{◌≡◌, ◌+◌, ◌∙◌, ap, arith}
 use Rattle.word_rule.proofs.WorkCalls.{shut_store, shut_then, shut_word}
 use Rattle.word_rule.proofs.seats.SlotWords.shut.Goals as goal
 

@@ -1,4 +1,4 @@
-use Rattle.std.proofs.Common.{◌≡◌, ◌⊎◌, ⊎_elim, ℕ, ◌+◌, List, [], ◌∷◌, ◌++◌, length, slice_get, Some, sym, ap, ◌∙◌, subst, arith, length-append}
+use Rattle.std.proofs.Common.{◌≡◌, ⊎_elim, ℕ, List, [], ◌∷◌, ◌++◌, length, slice_get, Some, sym, ap, ◌∙◌, subst, arith, length-append}
 use Rattle.word_rule.specs.FirstSeats.{IsFirstTask}
 use Rattle.word_rule.specs.declared.seats.TaskSeat.{TaskSeat}
 use Rattle.word_rule.proofs.Begins.{get_push}

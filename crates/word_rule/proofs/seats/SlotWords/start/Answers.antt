@@ -1,4 +1,3 @@
-use Rattle.std.proofs.Common.{◌≡◌, ◌∙◌, ap, arith}
 use Rattle.word_rule.proofs.TaskCalls.{start_ended, start_load, start_then, task_in_layout}
 use Rattle.word_rule.proofs.seats.SlotWords.start.Goals as goal
 
