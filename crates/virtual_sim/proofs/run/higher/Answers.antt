@@ -1,5 +1,5 @@
 use Rattle.std.proofs.Common.{arith, ℕ, length, ap}
-use Rattle.rank_order.proofs.PlanNumbers.{length-ranks}
+use Rattle.dbp_plan.proofs.RankLaws.{length-ranks}
 use Rattle.virtual_sim.proofs.run.higher.Goals as goal
 
 pub bounds-ranks-other : goal.bounds-ranks-other
