@@ -19,8 +19,6 @@ mod reading;
 #[cfg(test)]
 mod scripts;
 #[cfg(test)]
-mod shared_words;
-#[cfg(test)]
 mod timing;
 #[cfg(test)]
 mod words;
