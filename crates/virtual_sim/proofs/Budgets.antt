@@ -1,6 +1,6 @@
 -- The steps of a simulation fit a list.
 use Rattle.std.specs.Prelude.{count_by, nat_lt, ◌==◌, ◌||◌, if◌then◌else◌}
-use Rattle.std.proofs.Common.{◌≡◌, ◌≢◌, ℕ, zero, suc, ◌+◌, ◌-◌, ◌*◌, ◌<◌, ◌≤◌, ◌⊎◌, true, false, Bool, List, [], ◌∷◌, ◌++◌, length, take, map, get_or, Option, refl, sym, ap, ◌∙◌, subst, inl, inr, ⊎_elim, arith, length-append, replicate}
+use Rattle.std.proofs.Common.{◌≡◌, ◌≢◌, ℕ, zero, suc, ◌+◌, ◌-◌, ◌*◌, ◌<◌, ◌≤◌, true, false, Bool, List, [], ◌∷◌, ◌++◌, length, map, get_or, Option, refl, sym, ap, ◌∙◌, ⊎_elim, arith, length-append}
 use Rattle.std.specs.List.{flat_map, filter, range_with_len}
 use Rattle.std.proofs.lemmas.Bool.{cases_eq, cases_lt, cases_Bool, eq-eqb, ne_eqb, lt-ltb, le-ltb}
 use Rattle.std.proofs.lemmas.List.{get_or_default, length-map, length-replicate}
@@ -17,7 +17,7 @@ use Rattle.release_list.specs.Releases.{links_into}
 use Rattle.release_list.proofs.IntoLinks.{into_few}
 use Rattle.rank_order.specs.Instances.{Instance}
 use Rattle.dbp_rules.specs.declared.step.Step.TheVariants.{Claim, Done, End, Hear, OpenGate, Put}
-use Rattle.instance_steps.specs.Events.{Event, step_of, aim_events, batch_events, begin_events, claim_events, end_events, look_events, put_events, read_events, reads_at}
+use Rattle.instance_steps.specs.Events.{step_of, aim_events, batch_events, begin_events, claim_events, end_events, look_events, put_events, read_events, reads_at}
 use Rattle.virtual_sim.specs.Budgets.{early_reads, step_bound, steps_below}
 use Rattle.virtual_sim.specs.Record.{begin_events_at}
 use Rattle.virtual_sim.proofs.PlanRules as rules

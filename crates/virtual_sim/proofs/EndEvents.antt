@@ -3,7 +3,7 @@ use Rattle.std.proofs.Common.{◌≡◌, ◌≢◌, ℕ, zero, suc, ◌+◌, ◌
 use Rattle.std.proofs.lemmas.Bool.{cases_eq, cases_lt}
 use Rattle.dbp_plan.specs.declared.plan.Plan.{Plan}
 use Rattle.rank_order.specs.Ends.{IsEnd}
-use Rattle.rank_order.specs.Instances.{Instance, IsInstance}
+use Rattle.rank_order.specs.Instances.{Instance}
 use Rattle.rank_order.specs.Service.{IsService, left_of, served_ticks}
 use Rattle.rank_order.specs.ServiceOf.{service}
 use Rattle.rank_order.proofs.Choices.{tick_cases, tick_of}
@@ -16,7 +16,7 @@ use Rattle.dbp_rules.specs.Wired.{wiring_of}
 use Rattle.dbp_rules.specs.declared.state.State.{State}
 use Rattle.dbp_rules.specs.declared.step.Count.TheVariants.{Ranked}
 use Rattle.dbp_rules.specs.declared.step.Step.{Step}
-use Rattle.instance_steps.specs.Events.{Event, end_events}
+use Rattle.instance_steps.specs.Events.{end_events}
 use Rattle.instance_steps.proofs.PlaysLaws.{plays_leads}
 use Rattle.virtual_sim.specs.Record.{IsRecord, end_events_at, end_events_of, events_before}
 use Rattle.virtual_sim.proofs.Recorded.{an_end, no_end}

@@ -1,26 +1,23 @@
 -- The instance that is served first may step under the condition on ranks.
-use Rattle.std.specs.Prelude.{IsTrue, unwrap_or, nat_lt, ◌&&◌, ◌||◌, not}
-use Rattle.std.proofs.Common.{◌≡◌, ◌≢◌, ℕ, ◌+◌, ◌-◌, ◌<◌, ◌≤◌, ◌⊎◌, true, false, Bool, List, [], length, get_or, slice_get, Some, refl, sym, ap, ◌∙◌, subst, inl, inr, ⊎_elim, arith}
+use Rattle.std.specs.Prelude.{IsTrue, unwrap_or}
+use Rattle.std.proofs.Common.{◌≡◌, ℕ, ◌+◌, ◌-◌, ◌<◌, ◌≤◌, true, List, [], length, get_or, slice_get, Some, refl, sym, ap, ◌∙◌, subst, ⊎_elim, arith}
 use Rattle.std.proofs.lemmas.Bool.{cases_eq, cases_lt, lt-ltb}
 use Rattle.std.proofs.lemmas.Bool.Decides.{nat_tests}
 use Rattle.std.proofs.lemmas.Option.{slice_get-get_or}
-use Rattle.dbp_plan.specs.declared.diagram.Diagram.{Diagram}
 use Rattle.dbp_plan.specs.declared.diagram.Policy.{Policy}
 use Rattle.dbp_plan.specs.declared.diagram.Policy.TheVariants.{Fp, Edf}
-use Rattle.dbp_plan.specs.declared.diagram.Task.{Task}
 use Rattle.dbp_plan.specs.declared.plan.Plan.{Plan}
 use Rattle.dbp_plan.specs.Lookups.{declared, no_declared}
 use Rattle.dbp_plan.specs.Occurrences.{times_of}
-use Rattle.dbp_plan.specs.Ranks.{is_above, is_more_urgent, ranks_of}
+use Rattle.dbp_plan.specs.Ranks.{is_above, ranks_of}
 use Rattle.dbp_plan.proofs.RankLaws.{above-lesser, length-ranks_of}
 use Rattle.rank_order.specs.Instances.{Instance, release_of}
-use Rattle.rank_order.specs.Order.{deadline_of, goes_before, is_before, key_by, key_of}
+use Rattle.rank_order.specs.Order.{goes_before, is_before, key_by}
 use Rattle.rank_order.specs.Queue.{IsServedFirst}
-use Rattle.rank_order.specs.Service.{GoesBefore, Waits, left_of}
+use Rattle.rank_order.specs.Service.{GoesBefore}
 use Rattle.rank_order.specs.ServiceOf.{service}
-use Rattle.rank_order.specs.declared.key.Key.{Key}
 use Rattle.rank_order.proofs.SomeService.{service_is}
-use Rattle.dbp_rules.specs.Places.{task, task_entry, wired}
+use Rattle.dbp_rules.specs.Places.{task, task_entry}
 use Rattle.dbp_rules.specs.Rules.{own_time}
 use Rattle.dbp_rules.specs.Wired.{wiring_of}
 use Rattle.dbp_rules.specs.declared.state.State.{State}

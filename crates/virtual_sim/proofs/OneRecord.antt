@@ -1,15 +1,13 @@
 -- A plan has one recorded list at most.
-use Rattle.std.proofs.Common.{◌≡◌, ◌≢◌, ℕ, zero, suc, ◌+◌, ◌-◌, ◌<◌, ◌≤◌, ◌⊎◌, All, List, [], ◌∷◌, ◌++◌, length, get_or, Option, Some, None, refl, sym, ap, ◌∙◌, subst, inl, inr, ⊎_elim, arith}
+use Rattle.std.proofs.Common.{◌≡◌, ℕ, zero, suc, ◌+◌, ◌-◌, ◌<◌, ◌≤◌, All, List, [], ◌∷◌, ◌++◌, Option, Some, None, refl, sym, ap, ◌∙◌, subst, ⊎_elim, arith}
 use Rattle.std.proofs.lemmas.Bool.{cases_lt}
 use Rattle.std.proofs.lemmas.List.{append-nil}
 use Rattle.dbp_plan.specs.declared.plan.Plan.{Plan}
-use Rattle.dbp_plan.specs.declared.schedule.Batch.{Batch}
 use Rattle.rank_order.specs.Instances.{Instance, IsInstance}
-use Rattle.rank_order.specs.Service.{IsService, left_of, served_ticks}
+use Rattle.rank_order.specs.Service.{IsService, left_of}
 use Rattle.rank_order.specs.ServiceOf.{service}
 use Rattle.rank_order.proofs.OneService.{serves_waiting}
 use Rattle.rank_order.proofs.SomeService.{service_is}
-use Rattle.dbp_rules.specs.Promises.{IsLeastAim}
 use Rattle.dbp_rules.specs.Rules.{next}
 use Rattle.dbp_rules.specs.Start.{start_of}
 use Rattle.dbp_rules.specs.Wired.{wiring_of}
@@ -20,7 +18,7 @@ use Rattle.dbp_rules.specs.declared.step.Step.TheVariants.{Aim}
 use Rattle.dbp_rules.specs.declared.wiring.Wiring.{Wiring}
 use Rattle.instance_steps.specs.Events.{Event, aim_of, step_of}
 use Rattle.instance_steps.specs.Plays.{IsStepOf, Plays}
-use Rattle.virtual_sim.specs.Record.{IsRecord, end_events_at, end_events_of, events_at, events_before, release_events_at, service_events_of}
+use Rattle.virtual_sim.specs.Record.{IsRecord, end_events_of, events_at, events_before, release_events_at, service_events_of}
 use Rattle.virtual_sim.proofs.Recorded.{next_events, no_releases}
 use Rattle.virtual_sim.proofs.Steps.{left_falls}
 

@@ -1,18 +1,15 @@
 -- A plan's rules, said of what stands at an index.
-use Rattle.std.proofs.Common.{◌≡◌, slice_index, ◌≢◌, ℕ, suc, ◌∷◌, ◌<◌, ◌≤◌, ◌⊎◌, inl, inr, All, List, [], length, map, get_or, Some, refl, sym, ap, ◌∙◌, subst, arith}
-use Rattle.std.specs.Prelude.{slice_get, sum_by}
+use Rattle.std.proofs.Common.{◌≡◌, ◌≢◌, ℕ, suc, ◌∷◌, ◌<◌, ◌≤◌, All, List, [], length, map, get_or, refl, ◌∙◌, arith}
 use Rattle.std.proofs.lemmas.List.{length-map, get_or_default}
 use Rattle.std.proofs.lemmas.List.Kept.{AllPairs-from_increasing}
 use Rattle.std.proofs.lemmas.List.Sums.{sum_by-cons}
 use Rattle.std.proofs.Math.ListN.{get_or-map}
-use Rattle.dbp_plan.specs.declared.diagram.Task.{Task}
 use Rattle.dbp_plan.specs.declared.plan.Plan.{Plan}
 use Rattle.dbp_plan.specs.declared.schedule.Batch.{Batch}
 use Rattle.dbp_plan.specs.Lookups.{declared, no_declared}
 use Rattle.dbp_plan.specs.Closed.{IsClosedTask}
 use Rattle.dbp_plan.specs.Occurrences.{occurrence_count}
 use Rattle.dbp_plan.specs.Lookups.{declared}
-use Rattle.rank_order.specs.Instances.{Instance, IsInstance, before_it, release_of}
 
 module _ (P : Plan) where
   pub rising : (j k : ℕ) (b c : Batch) → j < k → k < length P.batches → (get_or P.batches j b).time < (get_or P.batches k c).time

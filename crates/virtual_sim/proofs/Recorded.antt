@@ -1,21 +1,18 @@
 -- The events of a simulation that goes from one event to the next.
-use Rattle.std.proofs.Common.{◌≡◌, ◌≢◌, ℕ, zero, suc, ◌+◌, ◌-◌, ◌<◌, ◌≤◌, ◌⊎◌, eqb, false, Bool, List, [], ◌∷◌, ◌++◌, length, take, drop, get_or, Option, Some, None, refl, sym, ap, ◌∙◌, subst, inl, inr, ⊎_elim, arith, append_assoc, take-append-drop}
+use Rattle.std.proofs.Common.{◌≡◌, ◌≢◌, ℕ, suc, ◌+◌, ◌<◌, ◌≤◌, eqb, false, Bool, List, [], ◌∷◌, ◌++◌, length, take, drop, get_or, Option, Some, refl, sym, ap, ◌∙◌, arith, append_assoc, take-append-drop}
 use Rattle.std.specs.List.{flat_map, filter, range_with_len}
-use Rattle.std.proofs.lemmas.Bool.{ne_eqb, eq-eqb, cases_lt}
+use Rattle.std.proofs.lemmas.Bool.{ne_eqb, eq-eqb}
 use Rattle.std.proofs.lemmas.Grind.{flat_map-append}
-use Rattle.std.proofs.lemmas.List.{append-nil, take_more, length-drop, get_or-drop, get_or-take, length-take-le, take_all}
+use Rattle.std.proofs.lemmas.List.{append-nil, take_more, length-drop, get_or-drop}
 use Rattle.std.proofs.lemmas.List.Elements.{filter-append}
 use Rattle.std.proofs.lemmas.List.FromFn.{length-range_with_len, get_or-range_with_len}
 use Rattle.dbp_plan.specs.declared.plan.Plan.{Plan}
-use Rattle.dbp_plan.specs.declared.diagram.Read.{Read}
 use Rattle.dbp_plan.specs.declared.schedule.Batch.{Batch}
 use Rattle.dbp_plan.specs.Lookups.{declared, no_read}
-use Rattle.rank_order.specs.Instances.{Instance, IsInstance, release_of}
-use Rattle.rank_order.specs.Service.{GoesBefore, IsFirst, IsService, Waits, left_of, served_ticks}
-use Rattle.rank_order.proofs.Jump as jump
-use Rattle.rank_order.proofs.Jump.{IsQuiet}
-use Rattle.instance_steps.specs.Events.{Event, batch_events, begin_events, end_events, look_events, read_events, reads_at}
-use Rattle.virtual_sim.specs.Record.{begin_events_at, events_so_far, end_events_at, end_events_of, events_at, events_before, release_events_at, service_events_of}
+use Rattle.rank_order.specs.Instances.{Instance}
+use Rattle.rank_order.specs.Service.{left_of, served_ticks}
+use Rattle.instance_steps.specs.Events.{Event, batch_events, end_events, look_events, read_events}
+use Rattle.virtual_sim.specs.Record.{events_so_far, end_events_at, end_events_of, events_at, events_before, release_events_at, service_events_of}
 
 pub filter-none : {X : Type 0} (p : X → Bool) (xs : List X) → ((k : ℕ) (d : X) → k < length xs → p (get_or xs k d) ≡ false) → filter p xs ≡ []
 filter-none p [] none = refl

@@ -1,14 +1,12 @@
 -- A piece of an instance, and the release of a batch, added to what is recorded.
 use Rattle.std.specs.Prelude.{Bool, ◌||◌, ◌==◌, if◌then◌else◌}
-use Rattle.std.proofs.Common.{◌≡◌, ◌≢◌, ℕ, ◌+◌, ◌-◌, ◌<◌, ◌≤◌, ◌⊎◌, true, false, List, [], ◌++◌, length, take, get_or, refl, sym, ap, ◌∙◌, subst, inl, inr, ⊎_elim, arith}
+use Rattle.std.proofs.Common.{◌≡◌, ◌≢◌, ℕ, ◌+◌, ◌-◌, ◌<◌, true, false, List, [], ◌++◌, length, get_or, refl, sym, ap, ◌∙◌, subst, ⊎_elim, arith}
 use Rattle.std.proofs.lemmas.Bool.{cases_eq, cases_Bool, eq-eqb, ne_eqb}
 use Rattle.dbp_plan.specs.declared.plan.Plan.{Plan}
 use Rattle.dbp_plan.specs.declared.table.Table.{Table}
-use Rattle.dbp_plan.specs.declared.table.TaskRows.{TaskRows}
 use Rattle.dbp_plan.specs.Lookups.{declared}
 use Rattle.dbp_plan.specs.Occurrences.{names}
-use Rattle.dbp_plan.specs.Table.{HasRowsOf}
-use Rattle.dbp_rules.specs.Places.{entry_in, task, task_entry}
+use Rattle.dbp_rules.specs.Places.{entry_in, task}
 use Rattle.dbp_rules.specs.Start.{start_of}
 use Rattle.dbp_rules.specs.Wired.{wiring_of}
 use Rattle.dbp_rules.specs.declared.parts.Place.{Place}
@@ -22,7 +20,7 @@ use Rattle.dbp_rules.specs.declared.wiring.Wiring.{Wiring}
 use Rattle.instance_steps.specs.EndedRows.{HasEndedRows}
 use Rattle.instance_steps.specs.Events.{Event, batch_events}
 use Rattle.instance_steps.specs.Plays.{Plays}
-use Rattle.instance_steps.specs.Recorders.{AddsSteps, plan_in, state_in, steps_in, table_in, wiring_in}
+use Rattle.instance_steps.specs.Recorders.{AddsSteps, plan_in, state_in, steps_in, table_in}
 use Rattle.instance_steps.specs.Releases.{HasEnded, ReleasesBatch, batch_at}
 use Rattle.instance_steps.specs.TaskPieces.{AddsPiece, place_after}
 use Rattle.instance_steps.specs.declared.recorder.Recorder.{Recorder}

@@ -1,24 +1,22 @@
 -- A batch is released, or comes too early.
-use Rattle.std.proofs.Common.{◌≡◌, slice_index, ◌≢◌, ℕ, zero, suc, ◌+◌, ◌-◌, ◌<◌, ◌≤◌, ◌⊎◌, ◌↔◌, Bool, true, false, List, [], ◌∷◌, ◌++◌, length, get_or, Option, Some, None, refl, sym, ap, ◌∙◌, subst, inl, inr, ⊎_elim, arith}
-use Rattle.std.proofs.lemmas.Bool.{cases_lt, cases_eq, cases_Bool, false≢true}
+use Rattle.std.proofs.Common.{◌≡◌, slice_index, ℕ, ◌+◌, ◌-◌, ◌<◌, ◌≤◌, ◌⊎◌, true, false, List, [], length, get_or, Option, sym, ap, ◌∙◌, subst, inl, inr, ⊎_elim, arith}
+use Rattle.std.proofs.lemmas.Bool.{cases_lt, cases_eq, cases_Bool}
 use Rattle.std.proofs.lemmas.List.{get_or_default, take_all}
 use Rattle.dbp_plan.specs.declared.plan.Plan.{Plan}
 use Rattle.dbp_plan.specs.declared.schedule.Batch.{Batch}
 use Rattle.dbp_plan.specs.Occurrences.{names, times_of}
 use Rattle.dbp_plan.specs.Lookups.{declared}
 use Rattle.rank_order.specs.Instances.{Instance, IsInstance, before_it, release_of}
-use Rattle.rank_order.specs.Service.{GoesBefore, IsFirst, IsService, Waits, left_of, served_ticks}
-use Rattle.rank_order.specs.Ends.{IsEnd, IsOverrun, Late, NoOverrun}
-use Rattle.virtual_sim.specs.State.{Renewed, release_count, instance, busy_count, EndsAt, IsSimulatedTo, NoBatchBefore}
-use Rattle.rank_order.proofs.Choices.{same_instance}
+use Rattle.rank_order.specs.Service.{IsService, left_of}
+use Rattle.rank_order.specs.Ends.{IsOverrun, NoOverrun}
+use Rattle.virtual_sim.specs.State.{Renewed, release_count, instance, busy_count, IsSimulatedTo}
 use Rattle.rank_order.proofs.OneService.{serves_waiting}
 use Rattle.rank_order.proofs.ServedTicks.{unserved}
 use Rattle.virtual_sim.proofs.PlanRules as rules
-use Rattle.dbp_plan.proofs.OccurrenceBatches.{IsOfBatch}
-use Rattle.dbp_plan.proofs.TaskTimes.{more-named, more-other, some-of, some-rise}
+use Rattle.dbp_plan.proofs.TaskTimes.{more-named, more-other, some-of}
 use Rattle.virtual_sim.proofs.Times.{time_at, when}
 use Rattle.instance_steps.specs.Releases.{no_batch}
-use Rattle.virtual_sim.proofs.Steps.{busy_count_one, busy_count_none, batch_of_instance, number_by, ended_left, in_plan}
+use Rattle.virtual_sim.proofs.Steps.{busy_count_one, busy_count_none, batch_of_instance, number_by, ended_left}
 
 module _ (P : Plan) (serve : ℕ → Option Instance) (service : IsService P serve)
     (b now : ℕ) (rest : List ℕ) (ends : List (List ℕ)) (at : IsSimulatedTo P serve b now rest ends) (small : b < length P.batches) (due : (get_or P.batches b no_batch).time ≡ now) where

@@ -1,17 +1,13 @@
 -- The tasks of a batch begin their instances, one by one.
-use Rattle.std.proofs.Common.{◌≡◌, ◌≢◌, ℕ, zero, suc, ◌+◌, ◌-◌, ◌*◌, ◌<◌, ◌≤◌, ◌⊎◌, ◌↔◌, ◌||◌, Bool, true, false, eqb, List, [], ◌∷◌, ◌++◌, length, get_or, set, take, sum, replicate, Option, Some, None, refl, sym, ap, ◌∙◌, subst, inl, inr, ⊎_elim, arith, length-set, get_or-set_same, get_or-set_other}
-use Rattle.std.proofs.lemmas.Bool.{cases_lt, cases_eq, cases_Bool, false≢true, or_cases, or_left, or_right, or_from, or_parts, eqb-true, eqb-false, eq-eqb, ne_eqb}
+use Rattle.std.proofs.Common.{◌≡◌, ◌≢◌, ℕ, zero, suc, ◌+◌, ◌<◌, ◌⊎◌, ◌↔◌, ◌||◌, true, false, eqb, List, [], ◌∷◌, length, get_or, take, refl, sym, ◌∙◌, subst, inl, inr, ⊎_elim, arith}
+use Rattle.std.proofs.lemmas.Bool.{cases_eq, false≢true, or_cases, or_left, or_right, or_parts, eqb-true, eqb-false, eq-eqb}
 use Rattle.std.proofs.lemmas.List.Folds.{list_any_more}
 use Rattle.dbp_plan.specs.declared.plan.Plan.{Plan}
-use Rattle.dbp_plan.specs.declared.schedule.Batch.{Batch}
 use Rattle.rank_order.specs.declared.ready.Ready.{Ready}
-use Rattle.dbp_plan.specs.Occurrences.{names, times_of}
 use Rattle.dbp_plan.specs.Lookups.{declared}
-use Rattle.rank_order.specs.Instances.{Instance, IsInstance, before_it, release_of}
 use Rattle.virtual_sim.specs.State.{Sets}
-use Rattle.rank_order.specs.Queue.{Holds, IsServedFirst, MadeFor}
-use Rattle.instance_steps.specs.Releases.{batch_at, no_batch}
-use Rattle.virtual_sim.specs.Runs.{is_in, IsRun}
+use Rattle.rank_order.specs.Queue.{Holds, MadeFor}
+use Rattle.virtual_sim.specs.Runs.{is_in}
 
 -- after the first j tasks
 pub record Renewing (P : Plan) (tasks : List ℕ) (j time : ℕ) (rest rest' : List ℕ) (ready ready' : Ready) : Type 0 where

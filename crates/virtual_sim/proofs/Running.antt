@@ -1,23 +1,20 @@
 -- A running simulation, step by step.
 use Rattle.std.specs.Prelude.{IsTrue}
-use Rattle.std.proofs.Common.{◌≡◌, ◌≢◌, ℕ, zero, suc, ◌+◌, ◌-◌, ◌*◌, ◌<◌, ◌≤◌, ◌⊎◌, ◌↔◌, Bool, true, false, List, [], ◌∷◌, ◌++◌, length, get_or, set, sum, Option, Some, None, refl, sym, ap, ◌∙◌, subst, inl, inr, ⊎_elim, arith, length-set, get_or-set_same, get_or-set_other, take, drop}
-use Rattle.std.proofs.lemmas.Bool.{cases_lt, cases_eq, cases_Bool, false≢true}
+use Rattle.std.proofs.Common.{◌≡◌, ◌≢◌, ℕ, suc, ◌+◌, ◌-◌, ◌<◌, ◌≤◌, ◌↔◌, List, [], ◌∷◌, ◌++◌, length, get_or, set, sum, Some, refl, sym, ap, ◌∙◌, subst, inl, inr, ⊎_elim, arith, length-set, get_or-set_same, get_or-set_other, take, drop}
+use Rattle.std.proofs.lemmas.Bool.{cases_eq}
 use Rattle.std.proofs.lemmas.List.Sums.{sum_by-set, sum_by-cons, get_or-le-sum_by}
 use Rattle.std.proofs.lemmas.List.{get_or_default}
 use Rattle.dbp_plan.specs.declared.plan.Plan.{Plan}
 use Rattle.dbp_plan.specs.declared.schedule.Batch.{Batch}
-use Rattle.rank_order.specs.declared.ready.Ready.{Ready}
 use Rattle.virtual_sim.specs.declared.run.Run.{Run}
-use Rattle.dbp_plan.specs.Occurrences.{names, times_of}
-use Rattle.dbp_plan.specs.Lookups.{declared}
-use Rattle.rank_order.specs.Instances.{Instance, IsInstance, before_it, release_of}
-use Rattle.rank_order.specs.Service.{GoesBefore, IsFirst, IsService, Waits, left_of, served_ticks}
+use Rattle.rank_order.specs.Instances.{Instance, release_of}
+use Rattle.rank_order.specs.Service.{GoesBefore, IsFirst, Waits, left_of}
 use Rattle.rank_order.specs.ServiceOf.{service}
-use Rattle.virtual_sim.specs.State.{release_count, instance, busy_count, EndsAt, IsSimulatedTo, NoBatchBefore, Sets}
+use Rattle.virtual_sim.specs.State.{release_count, instance, NoBatchBefore, Sets}
 use Rattle.rank_order.specs.Order.{goes_before}
 use Rattle.rank_order.specs.Queue.{Holds, IsServedFirst, MadeFor}
 use Rattle.instance_steps.specs.Releases.{batch_at, no_batch}
-use Rattle.virtual_sim.specs.Runs.{Tracks, IsRun, latest}
+use Rattle.virtual_sim.specs.Runs.{IsRun}
 use Rattle.rank_order.proofs.Choices.{same_instance}
 use Rattle.dbp_plan.proofs.ListParts.{refilled}
 use Rattle.dbp_plan.proofs.TaskTimes.{some-of, times_few}

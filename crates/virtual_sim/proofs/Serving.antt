@@ -1,7 +1,7 @@
 -- A simulation goes on: the first instance begins and reads, runs to its next event or to its end, or none runs.
-use Rattle.std.specs.Prelude.{count_by, nat_lt, ◌==◌, if◌then◌else◌}
-use Rattle.std.proofs.Common.{◌≡◌, ◌≢◌, ℕ, zero, suc, ◌+◌, ◌-◌, ◌*◌, ◌<◌, ◌≤◌, ◌⊎◌, true, false, List, [], ◌∷◌, ◌++◌, length, take, set, get_or, Option, Some, None, refl, sym, ap, ◌∙◌, subst, inl, inr, ⊎_elim, arith, append_assoc, length-append, length-set, get_or-set_same, get_or-set_other}
-use Rattle.std.proofs.lemmas.Bool.{cases_eq, cases_lt, cases_Bool, eq-eqb, ne_eqb, le-ltb, lt-ltb}
+use Rattle.std.specs.Prelude.{count_by, nat_lt}
+use Rattle.std.proofs.Common.{◌≡◌, ◌≢◌, ℕ, suc, ◌+◌, ◌-◌, ◌<◌, ◌≤◌, true, false, List, [], ◌∷◌, ◌++◌, length, take, set, get_or, Some, refl, sym, ap, ◌∙◌, subst, ⊎_elim, arith, append_assoc, length-append, get_or-set_same, get_or-set_other}
+use Rattle.std.proofs.lemmas.Bool.{cases_eq, cases_Bool, eq-eqb, ne_eqb, le-ltb, lt-ltb}
 use Rattle.std.proofs.lemmas.List.{append-nil, get_or_default, take_all, take_more}
 use Rattle.std.proofs.lemmas.List.Sums.{get_or-le-sum_by, sum_by-append, sum_by-cons, sum_by-take-le}
 use Rattle.dbp_plan.specs.declared.diagram.Read.{Read}
@@ -11,8 +11,8 @@ use Rattle.dbp_plan.specs.declared.schedule.Batch.{Batch}
 use Rattle.dbp_plan.specs.Lookups.{declared, no_declared, no_read}
 use Rattle.dbp_plan.specs.Occurrences.{names, occurrence_count}
 use Rattle.dbp_plan.proofs.Counts.{count-cons}
-use Rattle.rank_order.specs.Instances.{Instance, IsInstance, release_of}
-use Rattle.rank_order.specs.Queue.{Holds, IsServedFirst}
+use Rattle.rank_order.specs.Instances.{Instance}
+use Rattle.rank_order.specs.Queue.{IsServedFirst}
 use Rattle.rank_order.specs.Service.{GoesBefore, IsFirst, Waits, left_of, served_ticks}
 use Rattle.rank_order.specs.ServiceOf.{service}
 use Rattle.rank_order.proofs.Jump.{IsQuiet}
@@ -25,27 +25,24 @@ use Rattle.dbp_rules.specs.Start.{start_of}
 use Rattle.dbp_rules.specs.Wired.{wiring_of}
 use Rattle.dbp_rules.specs.Rules.{next}
 use Rattle.dbp_rules.specs.declared.parts.Place.{Place}
-use Rattle.dbp_rules.specs.declared.parts.Place.TheVariants.{Idle, Look, Shut}
+use Rattle.dbp_rules.specs.declared.parts.Place.TheVariants.{Idle, Shut}
 use Rattle.dbp_rules.specs.declared.state.State.{State}
 use Rattle.dbp_rules.specs.declared.step.Count.TheVariants.{Ranked}
-use Rattle.dbp_rules.specs.declared.step.Step.{Step}
-use Rattle.dbp_rules.specs.declared.wiring.Wiring.{Wiring}
 use Rattle.instance_steps.specs.EndedRows.{HasEndedRows}
 use Rattle.instance_steps.specs.Events.{Event, batch_events, begin_events, end_events, read_events}
 use Rattle.instance_steps.specs.Plays.{Plays}
-use Rattle.instance_steps.specs.Recorders.{AddsSteps, plan_in, state_in, steps_in, table_in, wiring_in}
+use Rattle.instance_steps.specs.Recorders.{AddsSteps, plan_in, state_in, steps_in, table_in}
 use Rattle.instance_steps.specs.Releases.{HasEnded, ReleasesBatch, batch_at, no_batch}
 use Rattle.instance_steps.specs.TaskPieces.{AddsPiece, MayStep, place_after}
 use Rattle.instance_steps.specs.declared.recorder.Recorder.{Recorder}
 use Rattle.instance_steps.proofs.PlaysLaws.{plays_long}
-use Rattle.virtual_sim.specs.Budgets.{early_reads, step_bound, steps_below}
+use Rattle.virtual_sim.specs.Budgets.{early_reads, step_bound}
 use Rattle.virtual_sim.specs.Events.{IsNextEvent}
 use Rattle.virtual_sim.specs.Record.{begin_events_at, events_so_far, service_events_of}
 use Rattle.virtual_sim.specs.Recordings.{IsRecorded, place_of, places_with}
 use Rattle.virtual_sim.specs.Runs.{IsRun, is_in}
 use Rattle.virtual_sim.specs.Simulations.{IsSimulation}
 use Rattle.virtual_sim.specs.State.{NoBatchBefore, Renewed, instance, release_count}
-use Rattle.virtual_sim.specs.declared.run.Run.{Run}
 use Rattle.virtual_sim.specs.declared.simulation.Simulation.{Simulation}
 use Rattle.virtual_sim.proofs.Budgets.{bound_all, ended_steps, length-batch, one_changed, paused_steps, same_early, same_steps, steps_few}
 use Rattle.virtual_sim.proofs.MaySteps.{may_step}
@@ -55,7 +52,7 @@ use Rattle.virtual_sim.proofs.RecordJumps.{jump_idle, jump_to_end, jump_to_event
 use Rattle.virtual_sim.proofs.Recordings.{adds_batch, adds_piece, goes_on, has_ended, place_all, place_some}
 use Rattle.virtual_sim.proofs.Renewing.{in_place}
 use Rattle.virtual_sim.proofs.Running.{few_ends, first_small, first_some, is_choice}
-use Rattle.virtual_sim.proofs.Steps.{busy_count_none, busy_count_one, quiet, waits_from, waits_is}
+use Rattle.virtual_sim.proofs.Steps.{busy_count_none, busy_count_one, quiet, waits_is}
 
 -- ---- lengths
 

@@ -1,24 +1,19 @@
 -- The steps of a simulation: one runs, none runs, a batch is released.
-use Rattle.std.proofs.Common.{◌≡◌, ◌≢◌, ℕ, zero, suc, ◌+◌, ◌-◌, ◌<◌, ◌≤◌, ◌⊎◌, ◌↔◌, Bool, true, false, List, [], ◌∷◌, ◌++◌, length, get_or, Option, Some, None, refl, sym, ap, ◌∙◌, subst, inl, inr, ⊎_elim, arith}
+use Rattle.std.proofs.Common.{◌≡◌, ◌≢◌, ℕ, zero, suc, ◌+◌, ◌-◌, ◌<◌, ◌≤◌, List, [], ◌∷◌, ◌++◌, length, get_or, Option, Some, refl, sym, ap, ◌∙◌, subst, ⊎_elim, arith}
 use Rattle.std.proofs.lemmas.List.{length_push, get_or_push, get_or_append_left}
-use Rattle.std.proofs.lemmas.Bool.{cases_lt, cases_eq, cases_Bool}
+use Rattle.std.proofs.lemmas.Bool.{cases_lt, cases_eq}
 use Rattle.dbp_plan.specs.declared.plan.Plan.{Plan}
-use Rattle.dbp_plan.specs.declared.schedule.Batch.{Batch}
-use Rattle.dbp_plan.specs.Occurrences.{names, times_of}
-use Rattle.dbp_plan.specs.Lookups.{declared}
-use Rattle.rank_order.specs.Instances.{Instance, IsInstance, before_it, release_of}
+use Rattle.rank_order.specs.Instances.{Instance, IsInstance, release_of}
 use Rattle.rank_order.specs.Service.{GoesBefore, IsFirst, IsService, Waits, left_of, served_ticks}
-use Rattle.rank_order.specs.Ends.{IsEnd, IsOverrun, Late, NoOverrun}
+use Rattle.rank_order.specs.Ends.{IsEnd}
 use Rattle.instance_steps.specs.Releases.{no_batch}
 use Rattle.virtual_sim.specs.State.{release_count, instance, busy_count, EndsAt, IsSimulatedTo, NoBatchBefore, Sets}
-use Rattle.rank_order.proofs.Choices.{same_instance, cases_instance}
-use Rattle.rank_order.proofs.Jump.{Ran, runs, serves, rests}
+use Rattle.rank_order.proofs.Jump.{Ran, runs, serves}
 use Rattle.rank_order.proofs.OneService.{serves_waiting}
-use Rattle.rank_order.proofs.ServedTicks.{served_grows, unserved, unserved_after}
-use Rattle.virtual_sim.proofs.PlanRules as rules
+use Rattle.rank_order.proofs.ServedTicks.{served_grows, unserved_after}
 use Rattle.dbp_plan.proofs.OccurrenceBatches.{IsOfBatch, batch_of}
-use Rattle.dbp_plan.proofs.TaskTimes.{more-named, more-other, some-of, some-rise}
-use Rattle.virtual_sim.proofs.Times.{time_at, when}
+use Rattle.dbp_plan.proofs.TaskTimes.{more-named, some-of, some-rise}
+use Rattle.virtual_sim.proofs.Times.{when}
 
 pub busy_count_one : (n : ℕ) → 0 < n → busy_count n ≡ 1
 busy_count_one zero lt = absurd (omega (arith, lt))

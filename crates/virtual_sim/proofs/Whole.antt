@@ -1,29 +1,24 @@
 -- A whole simulation: its start, its batches and its end.
-use Rattle.std.proofs.Common.{◌≡◌, ◌≢◌, ℕ, zero, suc, ◌+◌, ◌-◌, ◌*◌, ◌<◌, ◌≤◌, ◌⊎◌, ◌↔◌, Bool, true, false, List, [], ◌∷◌, ◌++◌, length, get_or, set, take, sum, replicate, Option, Some, None, refl, sym, ap, ◌∙◌, subst, inl, inr, ⊎_elim, arith}
-use Rattle.std.proofs.lemmas.Bool.{cases_lt, cases_eq, cases_Bool, false≢true}
-use Rattle.std.proofs.lemmas.List.{take_all, get_or_default, length-replicate, get_or-replicate}
+use Rattle.std.proofs.Common.{◌≡◌, ℕ, suc, ◌+◌, ◌*◌, ◌<◌, ◌≤◌, true, false, List, [], ◌∷◌, length, get_or, take, sum, replicate, sym, ap, ◌∙◌, inl, inr, ⊎_elim, arith}
+use Rattle.std.proofs.lemmas.Bool.{cases_eq, cases_Bool}
+use Rattle.std.proofs.lemmas.List.{take_all, length-replicate, get_or-replicate}
 use Rattle.std.proofs.lemmas.List.Sums.{sum_by-cons}
 use Rattle.dbp_plan.specs.declared.plan.Plan.{Plan}
-use Rattle.dbp_plan.specs.declared.schedule.Batch.{Batch}
 use Rattle.rank_order.specs.declared.ready.Ready.{Ready}
 use Rattle.virtual_sim.specs.declared.run.Run.{Run}
-use Rattle.dbp_plan.specs.Occurrences.{names, times_of}
-use Rattle.dbp_plan.specs.Lookups.{declared}
-use Rattle.rank_order.specs.Instances.{Instance, IsInstance, before_it, release_of}
+use Rattle.rank_order.specs.Instances.{release_of}
 use Rattle.rank_order.specs.ServiceOf.{service}
-use Rattle.rank_order.specs.Service.{GoesBefore, IsFirst, IsService, Waits, left_of, served_ticks}
+use Rattle.rank_order.specs.Service.{left_of}
 use Rattle.rank_order.specs.Ends.{IsOverrun}
-use Rattle.virtual_sim.specs.State.{Renewed, release_count, instance, busy_count, EndsAt, IsSimulatedTo, NoBatchBefore}
-use Rattle.rank_order.specs.Queue.{Holds, IsServedFirst, MadeFor}
+use Rattle.virtual_sim.specs.State.{Renewed, instance}
+use Rattle.rank_order.specs.Queue.{Holds, MadeFor}
 use Rattle.instance_steps.specs.Releases.{batch_at, no_batch}
-use Rattle.virtual_sim.specs.Runs.{Tracks, IsRun, IsWorst, latest, is_in}
+use Rattle.virtual_sim.specs.Runs.{IsRun, IsWorst, is_in}
 use Rattle.virtual_sim.proofs.PlanRules as rules
 use Rattle.rank_order.proofs.SomeService.{service_is}
-use Rattle.dbp_plan.proofs.OccurrenceBatches.{IsOfBatch, batch_of}
-use Rattle.dbp_plan.proofs.TaskTimes.{more-named, more-other, some-of, some-rise}
-use Rattle.virtual_sim.proofs.Times.{time_at, when}
-use Rattle.virtual_sim.proofs.Steps.{is_end, busy_count_none}
-use Rattle.virtual_sim.proofs.Releases.{released, brought, overrun, none_late}
+use Rattle.dbp_plan.proofs.TaskTimes.{more-named, more-other}
+use Rattle.virtual_sim.proofs.Steps.{busy_count_none}
+use Rattle.virtual_sim.proofs.Releases.{released, brought, overrun}
 use Rattle.virtual_sim.proofs.Renewing.{Renewing, in_place, in_from}
 use Rattle.virtual_sim.proofs.Running.{sum_zero}
 

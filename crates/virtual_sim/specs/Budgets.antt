@@ -1,5 +1,5 @@
 -- How many steps a simulation makes at most.
-use Rattle.std.specs.Prelude.{◌≡◌, ℕ, zero, suc, ◌+◌, ◌-◌, ◌*◌, ◌==◌, ◌||◌, if◌then◌else◌, nat_lt, count_by, List, [], length, slice_index, slice_index_or}
+use Rattle.std.specs.Prelude.{ℕ, zero, suc, ◌+◌, ◌-◌, ◌*◌, ◌==◌, ◌||◌, if◌then◌else◌, nat_lt, count_by, List, [], length, slice_index, slice_index_or}
 use Rattle.dbp_plan.specs.declared.plan.Plan.{Plan}
 use Rattle.dbp_plan.specs.Lookups.{declared}
 
@@ -9,9 +9,13 @@ early_reads p i served = count_by (λ r. nat_lt r.at served) (declared p i).read
 
 -- how many steps the task's last released instance has made, of which this is left; at most
 abbrev pub step_bound : Plan → ℕ → ℕ → ℕ
-step_bound p i rest = if (rest == 0) || (rest == (declared p i).cost) then 0 else 130 + 2 * early_reads p i ((declared p i).cost - rest)
+step_bound p i rest =
+    if (rest == 0) || (rest == (declared p i).cost) then 0
+    else 130 + 2 * early_reads p i ((declared p i).cost - rest)
 
 -- and how many all instances of the first n tasks have made
 abbrev pub steps_below : Plan → List ℕ → List (List ℕ) → ℕ → ℕ
 steps_below p rest ends zero = 0
-steps_below p rest ends (suc n) = steps_below p rest ends n + (173 * length (slice_index_or ends n []) + step_bound p n (slice_index rest n))
+steps_below p rest ends (suc n) =
+    steps_below p rest ends n
+    + (173 * length (slice_index_or ends n []) + step_bound p n (slice_index rest n))

@@ -7,4 +7,6 @@ use Rattle.dbp_plan.specs.Lookups.{no_read}
 pub record IsNextEvent (task : Task) (served ticks : ℕ) : Type 0 where
   pub some : 0 < ticks
   pub within : served + ticks ≤ task.cost
-  pub no_sooner : (r : ℕ) → r < length task.reads → served < (slice_index_or task.reads r no_read).at → served + ticks ≤ (slice_index_or task.reads r no_read).at
+  pub no_sooner : (r : ℕ) → r < length task.reads
+      → served < (slice_index_or task.reads r no_read).at
+      → served + ticks ≤ (slice_index_or task.reads r no_read).at

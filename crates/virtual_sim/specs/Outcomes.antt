@@ -14,9 +14,11 @@ use Rattle.virtual_sim.specs.Record.{IsRecord}
 -- of each task the ends of its instances, in order
 pub record AreEnds (p : Plan) (ends : List (List ℕ)) : Type 0 where
   pub tasks : length ends ≡ length p.diagram.tasks
-  pub numbers : (i : ℕ) → i < length p.diagram.tasks → length (slice_index_or ends i []) ≡ length (times_of p.batches i)
+  pub numbers : (i : ℕ) → i < length p.diagram.tasks
+      → length (slice_index_or ends i []) ≡ length (times_of p.batches i)
   pub each : (i k : ℕ) → i < length p.diagram.tasks → k < length (slice_index_or ends i [])
-      → IsEnd (service p) (record { task = i; number = k + 1 }) (slice_index (slice_index_or ends i []) k)
+      → IsEnd (service p) (record { task = i; number = k + 1 })
+      (slice_index (slice_index_or ends i []) k)
 
 -- the meaning's table, the recorded list, and the ends
 pub record IsSimRun (p : Plan) (run : SimRun) : Type 0 where
@@ -26,5 +28,6 @@ pub record IsSimRun (p : Plan) (run : SimRun) : Type 0 where
 
 -- the overrun, or that memory ran out
 abbrev pub IsSimFail : Plan → SimFail → Type 0
-IsSimFail p (Overrun task instance time) = IsOverrun p (left_of p (service p)) time (record { task = task; number = instance })
+IsSimFail p (Overrun task instance time) =
+    IsOverrun p (left_of p (service p)) time (record { task = task; number = instance })
 IsSimFail p NoMemory = Unit {0}

@@ -29,14 +29,16 @@ module _ (p : Plan) (serve : ℕ → Option Instance) where
   abbrev pub release_events_at : List Batch → ℕ → List Event
   release_events_at batches t = flat_map (batch_events p) (filter (λ b. b.time == t) batches)
 
-  -- 3. the first of those that wait is served: one that hasn't been served before begins, and then each read is made whose
-  -- tick of service this is
+  -- 3. the instance that is served begins, if it hasn't been served before, and then makes each read whose tick of service
+  -- this is
   abbrev pub begin_events_at : ℕ → ℕ → List Event
   begin_events_at i served = if served == 0 then begin_events p i else []
 
   abbrev pub service_events_of : Option Instance → ℕ → List Event
   service_events_of None t = []
-  service_events_of (Some x) t = begin_events_at x.task (served_ticks serve x t) ++ read_events p x.task (served_ticks serve x t)
+  service_events_of (Some x) t =
+      begin_events_at x.task (served_ticks serve x t)
+      ++ read_events p x.task (served_ticks serve x t)
 
   abbrev pub events_at : ℕ → List Event
   events_at t = end_events_at t ++ (release_events_at p.batches t ++ service_events_of (serve t) t)
@@ -46,16 +48,18 @@ module _ (p : Plan) (serve : ℕ → Option Instance) where
   events_before zero = []
   events_before (suc t) = events_before t ++ events_at t
 
-  -- those so far at t, where the first b batches are released: those of the ticks before, and of this tick its end and these batches
+  -- those so far at t, if the first b batches are released: those of the ticks before, and of this tick its end and the
+  -- releases of these batches
   abbrev pub events_so_far : ℕ → ℕ → List Event
   events_so_far b t = events_before t ++ (end_events_at t ++ release_events_at (take b p.batches) t)
 
--- No release comes too early, and the steps play the events of all ticks up to one at which all batches are released and nothing is
--- left of any instance. Later ticks have no events.
+-- No release comes too early, and the steps play the events of all ticks up to one at which all batches are released and
+-- nothing is left of any instance. Later ticks have no events.
 pub record IsRecord (p : Plan) (script : List Step) : Type 0 where
   pub in_time : NoOverrun p (left_of p (service p))
   pub last : ℕ
   pub released : All (λ b. b.time ≤ last) p.batches
   pub ended : (x : Instance) → IsInstance p x → left_of p (service p) x last ≡ 0
   pub state : State
-  pub plays : Plays p (wiring_of p Ranked) (start_of p (wiring_of p Ranked)) (events_before p (service p) (last + 1)) script state
+  pub plays : Plays p (wiring_of p Ranked) (start_of p (wiring_of p Ranked))
+      (events_before p (service p) (last + 1)) script state

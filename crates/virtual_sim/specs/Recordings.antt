@@ -1,5 +1,5 @@
 -- What a simulation keeps of the protocol: it stands where the time has it.
-use Rattle.std.specs.Prelude.{◌≡◌, ℕ, ◌-◌, ◌<◌, ◌==◌, ◌||◌, if◌then◌else◌, List, [], ◌++◌, length, slice_index, slice_index_or}
+use Rattle.std.specs.Prelude.{◌≡◌, ℕ, ◌-◌, ◌<◌, ◌==◌, ◌||◌, if◌then◌else◌, List, [], length, slice_index, slice_index_or}
 use Rattle.dbp_plan.specs.declared.plan.Plan.{Plan}
 use Rattle.dbp_plan.specs.Lookups.{declared}
 use Rattle.dbp_rules.specs.Places.{task, task_entry}
@@ -19,19 +19,25 @@ use Rattle.virtual_sim.specs.State.{release_count}
 
 -- where the task stands if this is left of its last released instance: idle if nothing is, or if all is
 abbrev pub place_of : Plan → ℕ → ℕ → Place
-place_of p i rest = if (rest == 0) || (rest == (declared p i).cost) then Idle else place_after p i ((declared p i).cost - rest)
+place_of p i rest =
+    if (rest == 0) || (rest == (declared p i).cost) then Idle
+    else place_after p i ((declared p i).cost - rest)
 
 -- the steps play the events, from the start; the first b batches are released, the tasks have ended so many instances and stand at
 -- these places
-pub record IsRecorded (p : Plan) (b : ℕ) (events : List Event) (places : ℕ → Place) (ends : List (List ℕ)) (r : Recorder) : Type 0 where
+pub record IsRecorded (p : Plan) (b : ℕ) (events : List Event) (places : ℕ → Place) (ends : List (List ℕ))
+    (r : Recorder) : Type 0 where
   pub plan : plan_in r ≡ p
   pub wiring : wiring_in r ≡ wiring_of p Ranked
   pub plays : Plays p (wiring_of p Ranked) (start_of p (wiring_of p Ranked)) events (steps_in r) (state_in r)
   pub rows : HasEndedRows p (state_in r) (table_in r)
   pub released : HasReleased p (state_in r) b
-  pub aimed : (i : ℕ) → i < length p.diagram.tasks → (task_entry (state_in r) i).aimed ≡ release_count p.batches b i
-  pub gates : (i : ℕ) → i < length p.diagram.tasks → (task (state_in r) i).words.gate ≡ release_count p.batches b i
-  pub ended : (i : ℕ) → i < length p.diagram.tasks → (task (state_in r) i).part.ended ≡ length (slice_index_or ends i [])
+  pub aimed : (i : ℕ) → i < length p.diagram.tasks
+      → (task_entry (state_in r) i).aimed ≡ release_count p.batches b i
+  pub gates : (i : ℕ) → i < length p.diagram.tasks
+      → (task (state_in r) i).words.gate ≡ release_count p.batches b i
+  pub ended : (i : ℕ) → i < length p.diagram.tasks
+      → (task (state_in r) i).part.ended ≡ length (slice_index_or ends i [])
   pub place : (i : ℕ) → i < length p.diagram.tasks → (task (state_in r) i).part.place ≡ places i
 
 -- the places of all tasks but one, which stands at this place

@@ -1,22 +1,20 @@
 -- What a running simulation keeps.
-use Rattle.std.specs.Prelude.{◌≡◌, ◌≢◌, ℕ, ◌+◌, ◌-◌, ◌*◌, ◌<◌, ◌≤◌, ◌↔◌, ◌==◌, Bool, true, List, [], length, sum, slice_index, slice_index_or, Option, Some, None}
+use Rattle.std.specs.Prelude.{◌≡◌, ℕ, ◌+◌, ◌*◌, ◌<◌, ◌≤◌, ◌↔◌, ◌==◌, Bool, true, List, length, sum, slice_index}
 use Rattle.std.specs.List.{list_any}
 use Rattle.dbp_plan.specs.declared.plan.Plan.{Plan}
-use Rattle.dbp_plan.specs.declared.schedule.Batch.{Batch}
 use Rattle.rank_order.specs.declared.ready.Ready.{Ready}
 use Rattle.virtual_sim.specs.declared.run.Run.{Run}
-use Rattle.dbp_plan.specs.Lookups.{declared}
-use Rattle.dbp_plan.specs.Occurrences.{times_of}
-use Rattle.rank_order.specs.Instances.{Instance, IsInstance, before_it, release_of}
-use Rattle.instance_steps.specs.Releases.{batch_at, no_batch}
+use Rattle.rank_order.specs.Instances.{release_of}
 use Rattle.rank_order.specs.ServiceOf.{service}
 use Rattle.virtual_sim.specs.State.{release_count, instance, IsSimulatedTo, NoBatchBefore}
-use Rattle.rank_order.specs.Queue.{Holds, IsServedFirst, MadeFor}
+use Rattle.rank_order.specs.Queue.{Holds, MadeFor}
 
 -- the queue holds the instances that are under way
 pub record Tracks (P : Plan) (b : ℕ) (rest : List ℕ) (ready : Ready) : Type 0 where
   pub made : MadeFor ready P.diagram
-  pub held : (i a : ℕ) → Holds ready i a ↔ ((i < length P.diagram.tasks) × (0 < slice_index rest i) × (a ≡ release_of P (instance i (release_count P.batches b i))))
+  pub held : (i a : ℕ) → Holds ready i a
+      ↔ ((i < length P.diagram.tasks) × (0 < slice_index rest i)
+      × (a ≡ release_of P (instance i (release_count P.batches b i))))
 
 -- no work so far takes longer than this
 abbrev pub latest : ℕ → ℕ
@@ -37,4 +35,5 @@ pub record IsWorst (P : Plan) (tasks : List ℕ) (rest : List ℕ) (i : ℕ) : T
   pub small : i < length P.diagram.tasks
   pub named : is_in tasks i ≡ true
   pub late : 0 < slice_index rest i
-  pub highest : (j : ℕ) → is_in tasks j ≡ true → 0 < slice_index rest j → slice_index P.diagram.ranks i ≤ slice_index P.diagram.ranks j
+  pub highest : (j : ℕ) → is_in tasks j ≡ true → 0 < slice_index rest j
+      → slice_index P.diagram.ranks i ≤ slice_index P.diagram.ranks j

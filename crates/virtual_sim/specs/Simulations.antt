@@ -13,4 +13,6 @@ use Rattle.virtual_sim.specs.Runs.{IsRun}
 pub record IsSimulation (p : Plan) (s : Simulation) : Type 0 where
   pub run : IsRun p s.run
   pub recorded : IsRecorded p s.run.released (events_so_far p (service p) s.run.released s.run.time) (λ i. place_of p i (slice_index s.run.rest.items i)) s.run.ends s.recorder
-  pub few : length (events_so_far p (service p) s.run.released s.run.time) ≤ 131 * occurrence_count (take s.run.released p.batches) + steps_below p s.run.rest.items s.run.ends (length p.diagram.tasks)
+  pub few : length (events_so_far p (service p) s.run.released s.run.time)
+      ≤ 131 * occurrence_count (take s.run.released p.batches)
+      + steps_below p s.run.rest.items s.run.ends (length p.diagram.tasks)

@@ -1,11 +1,11 @@
 -- The state of a simulation, after the first b batches, at the time now.
-use Rattle.std.specs.Prelude.{◌≡◌, ◌≢◌, ℕ, zero, suc, ◌+◌, ◌-◌, ◌*◌, ◌<◌, ◌≤◌, ◌↔◌, Bool, true, false, List, [], length, take, sum, slice_index, slice_index_or, Option, Some, None}
+use Rattle.std.specs.Prelude.{◌≡◌, ◌≢◌, ℕ, zero, suc, ◌+◌, ◌-◌, ◌<◌, ◌≤◌, true, false, List, [], length, take, slice_index, slice_index_or, Option, Some}
 use Rattle.dbp_plan.specs.declared.plan.Plan.{Plan}
 use Rattle.dbp_plan.specs.declared.schedule.Batch.{Batch}
 use Rattle.dbp_plan.specs.Occurrences.{names, times_of}
 use Rattle.dbp_plan.specs.Lookups.{declared}
 use Rattle.rank_order.specs.Instances.{Instance, IsInstance, before_it, release_of}
-use Rattle.rank_order.specs.Service.{GoesBefore, IsFirst, IsService, Waits, left_of, served_ticks}
+use Rattle.rank_order.specs.Service.{left_of}
 
 -- the releases of the task in the first b batches
 abbrev pub release_count : List Batch → ℕ → ℕ → ℕ
@@ -26,19 +26,29 @@ pub record EndsAt (P : Plan) (serve : ℕ → Option Instance) (x : Instance) (e
   pub done : left_of P serve x e ≡ 0
 
 -- rest is what each task's latest instance still needs, ends are the ends of the earlier ones
-pub record IsSimulatedTo (P : Plan) (serve : ℕ → Option Instance) (b now : ℕ) (rest : List ℕ) (ends : List (List ℕ)) : Type 0 where
+pub record IsSimulatedTo (P : Plan) (serve : ℕ → Option Instance) (b now : ℕ) (rest : List ℕ)
+    (ends : List (List ℕ)) : Type 0 where
   pub rests : length rest ≡ length P.diagram.tasks
   pub lists : length ends ≡ length P.diagram.tasks
-  pub counts : (i : ℕ) → i < length P.diagram.tasks → length (slice_index_or ends i []) + busy_count (slice_index rest i) ≡ release_count P.batches b i
-  pub ended : (i k : ℕ) → i < length P.diagram.tasks → k < length (slice_index_or ends i []) → EndsAt P serve (instance i (k + 1)) (slice_index (slice_index_or ends i []) k)
-  pub past : (i k : ℕ) → i < length P.diagram.tasks → k < length (slice_index_or ends i []) → slice_index (slice_index_or ends i []) k ≤ now
-  pub under : (i : ℕ) → i < length P.diagram.tasks → 0 < slice_index rest i → slice_index rest i ≡ left_of P serve (instance i (release_count P.batches b i)) now
-  pub early : (k : ℕ) (d : Batch) → k < b → k < length P.batches → (slice_index_or P.batches k d).time ≤ now
-  pub in_time : (x : Instance) → IsInstance P x → 2 ≤ x.number → x.number ≤ release_count P.batches b x.task → left_of P serve (before_it x) (release_of P x) ≡ 0
+  pub counts : (i : ℕ) → i < length P.diagram.tasks
+      → length (slice_index_or ends i []) + busy_count (slice_index rest i)
+      ≡ release_count P.batches b i
+  pub ended : (i k : ℕ) → i < length P.diagram.tasks → k < length (slice_index_or ends i [])
+      → EndsAt P serve (instance i (k + 1)) (slice_index (slice_index_or ends i []) k)
+  pub past : (i k : ℕ) → i < length P.diagram.tasks → k < length (slice_index_or ends i [])
+      → slice_index (slice_index_or ends i []) k ≤ now
+  pub under : (i : ℕ) → i < length P.diagram.tasks → 0 < slice_index rest i
+      → slice_index rest i ≡ left_of P serve (instance i (release_count P.batches b i)) now
+  pub early : (k : ℕ) (d : Batch) → k < b → k < length P.batches
+      → (slice_index_or P.batches k d).time ≤ now
+  pub in_time : (x : Instance) → IsInstance P x → 2 ≤ x.number
+      → x.number ≤ release_count P.batches b x.task
+      → left_of P serve (before_it x) (release_of P x) ≡ 0
 
 -- no batch from the b-th on is before the limit
 pub record NoBatchBefore (P : Plan) (b limit : ℕ) : Type 0 where
-  pub later : (k : ℕ) (d : Batch) → b ≤ k → k < length P.batches → limit ≤ (slice_index_or P.batches k d).time
+  pub later : (k : ℕ) (d : Batch) → b ≤ k → k < length P.batches
+      → limit ≤ (slice_index_or P.batches k d).time
 
 -- the list with the item i set to v
 pub record Sets {X : Type 0} (d : X) (xs : List X) (i : ℕ) (v : X) (ys : List X) : Type 0 where

@@ -17,11 +17,14 @@ ghost use Rattle.virtual_sim.specs.Record.{IsRecord, end_events_at};
 
 /// A plan has one recorded list at most, and one overrun at most, and never both.
 pub fn a_plan_has_one_outcome()
-    ensures list { (p : Plan) (script other : Items Step) → IsRecord p script → IsRecord p other → script ≡ other }
-    ensures time { (p : Plan) (t u : ℕ) (x y : Instance) → IsOverrun p (left_of p (service p)) t x
-        → IsOverrun p (left_of p (service p)) u y → t ≡ u }
-    ensures instance { (p : Plan) (t u : ℕ) (x y : Instance) → IsOverrun p (left_of p (service p)) t x
-        → IsOverrun p (left_of p (service p)) u y → x ≡ y }
+    ensures list { (p : Plan) (script other : Items Step) → IsRecord p script → IsRecord p other
+        → script ≡ other }
+    ensures time { (p : Plan) (t u : ℕ) (x y : Instance)
+        → IsOverrun p (left_of p (service p)) t x → IsOverrun p (left_of p (service p)) u y
+        → t ≡ u }
+    ensures instance { (p : Plan) (t u : ℕ) (x y : Instance)
+        → IsOverrun p (left_of p (service p)) t x → IsOverrun p (left_of p (service p)) u y
+        → x ≡ y }
     ensures apart { (p : Plan) (script : Items Step) (t : ℕ) (x : Instance) → IsRecord p script
         → IsOverrun p (left_of p (service p)) t x → ⊥ }
 {}
@@ -38,5 +41,6 @@ pub fn recorded_ends_stand_at_their_times()
     ensures there { (p : Plan) (script : Items Step) (x : Instance) (e : ℕ) → IsRecord p script
         → IsEnd (service p) x e → end_events_at p (service p) e ≡ end_events p x.task }
     ensures only { (p : Plan) (t : ℕ) → (end_events_at p (service p) t ≡ [])
-        ⊎ ((x : Instance) × IsEnd (service p) x t × (end_events_at p (service p) t ≡ end_events p x.task)) }
+        ⊎ ((x : Instance) × IsEnd (service p) x t
+        × (end_events_at p (service p) t ≡ end_events p x.task)) }
 {}

@@ -30,8 +30,10 @@ impl Run {
         ensures run { IfOk result (λ run. IsRun plan.now run) }
         ensures time { IfOk result (λ run. run.time ≡ 0) }
         ensures released { IfOk result (λ run. run.released ≡ 0) }
-        ensures rest { IfOk result (λ run. run.rest.items ≡ replicate (length plan.now.diagram.tasks) 0) }
-        ensures ends { IfOk result (λ run. run.ends ≡ replicate (length plan.now.diagram.tasks) []) }
+        ensures rest { IfOk result (λ run.
+            run.rest.items ≡ replicate (length plan.now.diagram.tasks) 0) }
+        ensures ends { IfOk result (λ run.
+            run.ends ≡ replicate (length plan.now.diagram.tasks) []) }
     {
         let tasks = plan.diagram.tasks.len();
         let rest = vec![in alloc; 0; tasks as usize]?;
@@ -50,13 +52,16 @@ impl Run {
     pub(crate) fn finish(&mut self, plan: &Plan, task: u32) -> Result<(), NoMemory>
         requires run { IsRun plan.now self.old }
         requires first { IsServedFirst self.old.ready task }
-        requires until { NoBatchBefore plan.now self.old.released (self.old.time + slice_index self.old.rest.items task) }
+        requires until { NoBatchBefore plan.now self.old.released
+            (self.old.time + slice_index self.old.rest.items task) }
         ensures run { OnOk result (IsRun plan.now self.new) }
-        ensures time { OnOk result (self.new.time ≡ self.old.time + slice_index self.old.rest.items task) }
+        ensures time { OnOk result
+            (self.new.time ≡ self.old.time + slice_index self.old.rest.items task) }
         ensures released { OnOk result (self.new.released ≡ self.old.released) }
         ensures rest { OnOk result (self.new.rest.items ≡ slice_set self.old.rest.items task 0) }
         ensures ends { OnOk result (self.new.ends ≡ slice_set self.old.ends task
-            (slice_index_or self.old.ends task [] ++ (self.old.time + slice_index self.old.rest.items task) ∷ [])) }
+            (slice_index_or self.old.ends task []
+            ++ (self.old.time + slice_index self.old.rest.items task) ∷ [])) }
     {
         let index = task as usize;
         let end = self.time + self.rest[index];
@@ -77,7 +82,8 @@ impl Run {
         ensures run { IsRun plan.now self.new }
         ensures time { self.new.time ≡ self.old.time + ticks }
         ensures released { self.new.released ≡ self.old.released }
-        ensures rest { self.new.rest.items ≡ slice_set self.old.rest.items task (slice_index self.old.rest.items task - ticks) }
+        ensures rest { self.new.rest.items
+            ≡ slice_set self.old.rest.items task (slice_index self.old.rest.items task - ticks) }
         ensures ends { self.new.ends ≡ self.old.ends }
     {
         self.rest[task as usize] -= ticks;
@@ -104,8 +110,10 @@ impl Run {
         requires run { IsRun plan.now self.now }
         requires more { self.now.released < length plan.now.batches }
         ensures { MatchOption result
-            ((i : ℕ) → is_in (batch_at plan.now self.now.released).tasks i ≡ true → slice_index self.now.rest.items i ≡ 0)
-            (λ i. IsWorst plan.now (batch_at plan.now self.now.released).tasks self.now.rest.items i) }
+            ((i : ℕ) → is_in (batch_at plan.now self.now.released).tasks i ≡ true
+            → slice_index self.now.rest.items i ≡ 0)
+            (λ i. IsWorst plan.now (batch_at plan.now self.now.released).tasks
+            self.now.rest.items i) }
     {
         let batch = &plan.batches.items()[self.released as usize];
         let mut worst: Option<u32> = None;
@@ -122,11 +130,13 @@ impl Run {
         requires run { IsRun plan.now self.old }
         requires more { self.old.released < length plan.now.batches }
         requires due { self.old.time ≡ (batch_at plan.now self.old.released).time }
-        requires free { (i : ℕ) → is_in (batch_at plan.now self.old.released).tasks i ≡ true → slice_index self.old.rest.items i ≡ 0 }
+        requires free { (i : ℕ) → is_in (batch_at plan.now self.old.released).tasks i ≡ true
+            → slice_index self.old.rest.items i ≡ 0 }
         ensures run { IsRun plan.now self.new }
         ensures time { self.new.time ≡ self.old.time }
         ensures released { self.new.released ≡ self.old.released + 1 }
-        ensures rest { Renewed plan.now (batch_at plan.now self.old.released) self.old.rest.items self.new.rest.items }
+        ensures rest { Renewed plan.now (batch_at plan.now self.old.released)
+            self.old.rest.items self.new.rest.items }
         ensures ends { self.new.ends ≡ self.old.ends }
     {
         let batch = &plan.batches.items()[self.released as usize];
@@ -155,7 +165,8 @@ fn higher(plan: &Plan, worst: Option<u32>, task: u32) -> Option<u32>
     requires worst { ForSome worst (λ i. i < length plan.now.diagram.tasks) }
     ensures choice { IfSome result (λ k. ((k ≡ task) ⊎ (worst ≡ Some k))
         × (slice_index plan.now.diagram.ranks k ≤ slice_index plan.now.diagram.ranks task)
-        × IfSome worst (λ i. slice_index plan.now.diagram.ranks k ≤ slice_index plan.now.diagram.ranks i)) }
+        × IfSome worst (λ i.
+        slice_index plan.now.diagram.ranks k ≤ slice_index plan.now.diagram.ranks i)) }
     ensures some { IsSome result }
 {
     let ranks = plan.diagram.ranks.items();

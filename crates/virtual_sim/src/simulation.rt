@@ -44,12 +44,16 @@ impl Simulation {
     fn begin(&mut self, plan: &Plan, task: u32, served: u64) -> Result<(), NoMemory>
         requires simulation { IsSimulation plan.now self.old }
         requires first { IsServedFirst self.old.run.ready task }
-        requires until { NoBatchBefore plan.now self.old.run.released (self.old.run.time + 1) }
-        requires served { served + slice_index self.old.run.rest.items task ≡ (declared plan.now task).cost }
+        requires until { NoBatchBefore plan.now self.old.run.released
+            (self.old.run.time + 1) }
+        requires served { served + slice_index self.old.run.rest.items task
+            ≡ (declared plan.now task).cost }
         ensures run { OnOk result (self.new.run ≡ self.old.run) }
         ensures recorded { OnOk result (IsRecorded plan.now self.old.run.released
-            (events_so_far plan.now (service plan.now) self.old.run.released self.old.run.time ++ begin_events_at plan.now (service plan.now) task served)
-            (places_with plan.now self.old.run.rest.items task (place_after plan.now task served)) self.old.run.ends self.new.recorder) }
+            (events_so_far plan.now (service plan.now) self.old.run.released self.old.run.time
+            ++ begin_events_at plan.now (service plan.now) task served)
+            (places_with plan.now self.old.run.rest.items task (place_after plan.now task served))
+            self.old.run.ends self.new.recorder) }
     {
         if served > 0 {
             return Ok(());
@@ -62,13 +66,18 @@ impl Simulation {
     fn make_steps(&mut self, plan: &Plan, task: u32, served: u64) -> Result<(), NoMemory>
         requires simulation { IsSimulation plan.now self.old }
         requires first { IsServedFirst self.old.run.ready task }
-        requires until { NoBatchBefore plan.now self.old.run.released (self.old.run.time + 1) }
-        requires served { served + slice_index self.old.run.rest.items task ≡ (declared plan.now task).cost }
+        requires until { NoBatchBefore plan.now self.old.run.released
+            (self.old.run.time + 1) }
+        requires served { served + slice_index self.old.run.rest.items task
+            ≡ (declared plan.now task).cost }
         ensures run { OnOk result (self.new.run ≡ self.old.run) }
         ensures recorded { OnOk result (IsRecorded plan.now self.old.run.released
             (events_so_far plan.now (service plan.now) self.old.run.released self.old.run.time
-            ++ (begin_events_at plan.now (service plan.now) task served ++ read_events plan.now task served))
-            (places_with plan.now self.old.run.rest.items task (place_after plan.now task (served + 1))) self.old.run.ends self.new.recorder) }
+            ++ (begin_events_at plan.now (service plan.now) task served
+            ++ read_events plan.now task served))
+            (places_with plan.now self.old.run.rest.items task
+            (place_after plan.now task (served + 1)))
+            self.old.run.ends self.new.recorder) }
     {
         self.begin(plan, task, served)?;
         self.recorder.make_reads(task, served)?;
@@ -105,7 +114,8 @@ impl Simulation {
         requires simulation { IsSimulation plan.now self.old }
         requires more { self.old.run.released < length plan.now.batches }
         ensures simulation { OnOk result (IsSimulation plan.now self.new) }
-        ensures time { OnOk result (self.new.run.time ≡ (batch_at plan.now self.old.run.released).time) }
+        ensures time { OnOk result
+            (self.new.run.time ≡ (batch_at plan.now self.old.run.released).time) }
         ensures released { OnOk result (self.new.run.released ≡ self.old.run.released) }
     {
         let limit = plan.batches.items()[self.run.released as usize].time;
@@ -124,7 +134,8 @@ impl Simulation {
         requires simulation { IsSimulation plan.now self.old }
         requires last { self.old.run.released ≡ length plan.now.batches }
         ensures simulation { OnOk result (IsSimulation plan.now self.new) }
-        ensures idle { OnOk result ((i : ℕ) → i < length plan.now.diagram.tasks → slice_index self.new.run.rest.items i ≡ 0) }
+        ensures idle { OnOk result ((i : ℕ) → i < length plan.now.diagram.tasks
+            → slice_index self.new.run.rest.items i ≡ 0) }
         ensures released { OnOk result (self.new.run.released ≡ self.old.run.released) }
     {
         while let Some(task) = self.run.ready.first() {
@@ -139,7 +150,8 @@ impl Simulation {
         requires more { self.old.run.released < length plan.now.batches }
         requires due { self.old.run.time ≡ (batch_at plan.now self.old.run.released).time }
         ensures { MatchResult result
-            (λ _. IsSimulation plan.now self.new × (self.new.run.released ≡ self.old.run.released + 1))
+            (λ _. IsSimulation plan.now self.new
+            × (self.new.run.released ≡ self.old.run.released + 1))
             (λ why. IsSimFail plan.now why) }
     {
         if let Some(task) = self.run.late_task(plan) {

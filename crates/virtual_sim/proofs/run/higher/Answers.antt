@@ -1,4 +1,4 @@
-use Rattle.std.proofs.Common.{arith, ℕ, length, ap}
+use Rattle.std.proofs.Common.{arith, length, ap}
 use Rattle.dbp_plan.proofs.RankLaws.{length-ranks}
 use Rattle.virtual_sim.proofs.run.higher.Goals as goal
 

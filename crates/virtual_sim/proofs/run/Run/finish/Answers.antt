@@ -1,6 +1,6 @@
-use Rattle.std.proofs.Common.{arith, ℕ, List, [], ◌≡◌, ◌<◌, ◌≤◌, ◌+◌, ◌++◌, ◌∷◌, set, length, get_or, refl, sym, ap, ◌∙◌, subst}
+use Rattle.std.proofs.Common.{arith, ℕ, List, [], ◌≡◌, ◌<◌, ◌+◌, ◌++◌, ◌∷◌, set, length, get_or, refl, ap, ◌∙◌}
 use Rattle.std.proofs.lemmas.List.{get_or_default, get_or_read}
-use Rattle.virtual_sim.proofs.Running.{few_ends, first_small, first_some, first_fits, finished, written}
+use Rattle.virtual_sim.proofs.Running.{few_ends, first_small, first_fits, finished, written}
 use Rattle.virtual_sim.proofs.run.Run.finish.Goals as goal
 
 pub index-requires : goal.index-requires

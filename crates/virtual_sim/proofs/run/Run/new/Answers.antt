@@ -1,4 +1,4 @@
-use Rattle.std.proofs.Common.{arith, ℕ, List, [], ◌≡◌, length, replicate, refl, ap, ◌∙◌}
+use Rattle.std.proofs.Common.{arith, ℕ, [], ◌≡◌, length, replicate, refl, ap, ◌∙◌}
 use Rattle.std.proofs.lemmas.Grind.{common_steps}
 use Rattle.virtual_sim.proofs.Whole.{begins}
 use Rattle.virtual_sim.proofs.run.Run.new.Goals as goal

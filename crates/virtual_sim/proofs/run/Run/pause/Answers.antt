@@ -1,4 +1,4 @@
-use Rattle.std.proofs.Common.{arith, ℕ, List, set, ◌-◌, ◌≡◌, ◌<◌, ◌+◌, length, get_or, refl, sym, ap, ◌∙◌}
+use Rattle.std.proofs.Common.{arith, ℕ, set, ◌-◌, refl, ap}
 use Rattle.std.proofs.lemmas.List.{get_or_read}
 use Rattle.virtual_sim.proofs.Running.{first_small, first_fits, paused}
 use Rattle.virtual_sim.proofs.run.Run.pause.Goals as goal

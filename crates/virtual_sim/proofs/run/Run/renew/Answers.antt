@@ -1,4 +1,4 @@
-use Rattle.std.proofs.Common.{arith, ℕ, List, ◌≡◌, ◌<◌, ◌≤◌, ◌+◌, ◌⊎◌, ◌↔◌, length, get_or, set, refl, sym, ap, ◌∙◌, subst}
+use Rattle.std.proofs.Common.{arith, ℕ, List, ◌≡◌, ◌<◌, ◌≤◌, ◌+◌, ◌⊎◌, ◌↔◌, length, get_or, set, sym, ap, ◌∙◌, subst}
 use Rattle.std.proofs.lemmas.List.{get_or_default}
 use Rattle.dbp_plan.specs.declared.diagram.Task.{Task}
 use Rattle.dbp_plan.specs.declared.schedule.Batch.{Batch}
@@ -7,9 +7,9 @@ use Rattle.rank_order.specs.Queue.{Holds}
 use Rattle.instance_steps.specs.Releases.{batch_at, no_batch}
 use Rattle.virtual_sim.specs.State.{Sets}
 use Rattle.virtual_sim.proofs.PlanRules as rules
-use Rattle.virtual_sim.proofs.Renewing.{Renewing, one_more, in_from}
+use Rattle.virtual_sim.proofs.Renewing.{one_more}
 use Rattle.virtual_sim.proofs.Running.{sets_at}
-use Rattle.virtual_sim.proofs.Whole.{absent, all_renewed, renewed}
+use Rattle.virtual_sim.proofs.Whole.{absent, renewed}
 use Rattle.virtual_sim.proofs.run.Run.renew.Goals as goal
 
 pub add-requires-clause-absent : goal.add-requires-clause-absent

@@ -1,8 +1,7 @@
-use Rattle.std.proofs.Common.{arith, ℕ, List, ◌≡◌, ◌<◌, ◌≤◌, get_or, length, refl, sym, ap, ◌∙◌, subst}
+use Rattle.std.proofs.Common.{List, ◌≡◌, get_or, refl, ap, ◌∙◌}
 use Rattle.std.proofs.lemmas.List.{get_or_default}
 use Rattle.dbp_plan.specs.declared.schedule.Batch.{Batch}
 use Rattle.instance_steps.specs.Releases.{batch_at, no_batch}
-use Rattle.virtual_sim.specs.State.{NoBatchBefore}
 use Rattle.virtual_sim.proofs.PlanRules as rules
 use Rattle.virtual_sim.proofs.Running.{rested, until_next}
 use Rattle.virtual_sim.proofs.run.Run.wait.Goals as goal

@@ -1,9 +1,9 @@
-use Rattle.std.proofs.Common.{arith, ℕ, ◌≡◌, ◌<◌, ◌+◌, length, refl, sym, ap, subst}
+use Rattle.std.proofs.Common.{arith, ◌≡◌, ◌<◌, length, refl, sym, ap, subst}
 use Rattle.dbp_plan.specs.declared.plan.Plan.{Plan}
 use Rattle.release_list.specs.Releases.{links_into}
 use Rattle.release_list.proofs.IntoLinks.{into_few}
 use Rattle.dbp_rules.specs.declared.wiring.Wiring.{Wiring}
-use Rattle.instance_steps.specs.Recorders.{plan_in, state_in}
+use Rattle.instance_steps.specs.Recorders.{state_in}
 use Rattle.instance_steps.specs.TaskPieces.{MayStep}
 use Rattle.virtual_sim.proofs.Running.{first_small}
 use Rattle.virtual_sim.proofs.Serving.{began, begins_first, events_few, gate_open, is_idle, may, recorded_length}

@@ -1,10 +1,10 @@
-use Rattle.std.proofs.Common.{arith, ℕ, ◌≡◌, ◌<◌, ◌+◌, ◌++◌, ◌∙◌, length, refl, sym, ap, subst, length-append}
+use Rattle.std.proofs.Common.{arith, ◌≡◌, ◌<◌, ◌∙◌, length, sym, ap, subst, length-append}
 use Rattle.dbp_plan.specs.declared.plan.Plan.{Plan}
 use Rattle.dbp_plan.specs.Lookups.{declared}
 use Rattle.rank_order.specs.ServiceOf.{service}
 use Rattle.dbp_rules.specs.Places.{task}
 use Rattle.dbp_rules.specs.declared.wiring.Wiring.{Wiring}
-use Rattle.instance_steps.specs.Recorders.{plan_in, state_in}
+use Rattle.instance_steps.specs.Recorders.{state_in}
 use Rattle.instance_steps.specs.TaskPieces.{MayStep, place_after}
 use Rattle.virtual_sim.specs.Record.{begin_events_at, events_so_far}
 use Rattle.virtual_sim.proofs.Budgets.{begin_few}

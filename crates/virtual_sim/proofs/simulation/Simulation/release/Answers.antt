@@ -1,11 +1,11 @@
-use Rattle.std.proofs.Common.{arith, ℕ, ◌≡◌, ◌<◌, ◌≤◌, ◌+◌, ◌*◌, ◌∙◌, List, [], length, get_or, refl, sym, ap, subst}
+use Rattle.std.proofs.Common.{arith, ℕ, ◌<◌, ◌≤◌, ◌+◌, ◌*◌, ◌∙◌, List, [], length, get_or, sym, ap, subst}
 use Rattle.std.proofs.Math.Nat.{mul-le-mul_left}
 use Rattle.std.proofs.lemmas.List.{get_or_read}
 use Rattle.dbp_plan.specs.declared.plan.Plan.{Plan}
 use Rattle.rank_order.specs.Ends.{IsOverrun}
 use Rattle.rank_order.specs.Service.{left_of}
 use Rattle.rank_order.specs.ServiceOf.{service}
-use Rattle.instance_steps.specs.Recorders.{plan_in, state_in}
+use Rattle.instance_steps.specs.Recorders.{state_in}
 use Rattle.instance_steps.specs.Releases.{HasEnded, HasReleased, batch_at}
 use Rattle.virtual_sim.specs.State.{instance}
 use Rattle.virtual_sim.proofs.Running.{few_ends}

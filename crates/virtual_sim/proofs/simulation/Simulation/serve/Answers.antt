@@ -1,4 +1,4 @@
-use Rattle.std.proofs.Common.{arith, ℕ, ◌≡◌, ◌<◌, ◌≤◌, ◌+◌, ◌-◌, ◌++◌, ◌∷◌, [], ◌∙◌, List, length, get_or, set, refl, sym, ap, subst, length-append}
+use Rattle.std.proofs.Common.{arith, ◌<◌, ◌+◌, ◌-◌, ◌++◌, ◌∷◌, [], ◌∙◌, length, get_or, set, sym, ap, subst, length-append}
 use Rattle.std.proofs.lemmas.List.{get_or_read}
 use Rattle.dbp_plan.specs.declared.diagram.Task.{Task}
 use Rattle.dbp_plan.specs.declared.plan.Plan.{Plan}
@@ -8,7 +8,7 @@ use Rattle.rank_order.specs.ServiceOf.{service}
 use Rattle.dbp_rules.specs.declared.wiring.Wiring.{Wiring}
 use Rattle.instance_steps.specs.EndedRows.{HasEndedRows}
 use Rattle.instance_steps.specs.Events.{read_events}
-use Rattle.instance_steps.specs.Recorders.{plan_in, state_in, table_in}
+use Rattle.instance_steps.specs.Recorders.{state_in, table_in}
 use Rattle.instance_steps.specs.TaskPieces.{MayStep}
 use Rattle.virtual_sim.specs.Record.{begin_events_at, events_so_far}
 use Rattle.virtual_sim.specs.Runs.{IsRun}

@@ -1,4 +1,4 @@
-use Rattle.std.proofs.Common.{arith, ℕ, ◌≡◌, ◌<◌, ◌≤◌, ◌∙◌, length}
+use Rattle.std.proofs.Common.{arith, ◌∙◌}
 use Rattle.virtual_sim.proofs.Running.{all_idle, time_few}
 use Rattle.virtual_sim.proofs.simulation.Simulation.serve_rest.Goals as goal
 

@@ -1,4 +1,4 @@
-use Rattle.std.proofs.Common.{◌≡◌, ◌≤◌, ◌-◌}
+use Rattle.std.proofs.Common.{◌≡◌, ◌-◌}
 use Rattle.virtual_sim.specs.Simulations.{IsSimulation}
 use Rattle.virtual_sim.proofs.simulation.Simulation.serve_rest.Given as goal
 

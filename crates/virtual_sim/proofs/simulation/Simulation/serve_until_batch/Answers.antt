@@ -1,4 +1,4 @@
-use Rattle.std.proofs.Common.{arith, ℕ, ◌≡◌, ◌<◌, ◌≤◌, ◌∙◌, List, length, get_or, refl, sym, ap, subst}
+use Rattle.std.proofs.Common.{arith, ℕ, ◌<◌, ◌∙◌, length, refl, sym, ap, subst}
 use Rattle.instance_steps.specs.Releases.{batch_at}
 use Rattle.virtual_sim.specs.State.{NoBatchBefore}
 use Rattle.virtual_sim.proofs.Running.{all_idle, until_next}
