@@ -3,3 +3,5 @@
 
 #[cfg(test)]
 mod ready;
+#[cfg(test)]
+mod simulation;
