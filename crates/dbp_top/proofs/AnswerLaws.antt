@@ -1,5 +1,5 @@
 -- A command has one status and one text at most for an input.
-use Rattle.std.proofs.Common.{◌≡◌, ℕ, List, Bool, true, refl, ap, subst}
+use Rattle.std.proofs.Common.{◌≡◌, ℕ, List, Bool, true, refl, ap, subst, ◌∙◌}
 use Rattle.std.proofs.lemmas.Bool.{false≢true}
 use Rattle.dbp_rules.specs.declared.step.Illegal.{Illegal as Broken}
 use Rattle.dbp_rules.specs.declared.step.Step.{Step}
@@ -29,7 +29,7 @@ use Rattle.trace_io.specs.declared.code.Code.{Code}
 use Rattle.trace_io.specs.declared.code.Code.TheVariants.{Reading, Checking, Tracing}
 use Rattle.trace_io.specs.Lines.{lines_of}
 use Rattle.trace_io.specs.Texts.{Accepts, Refuses, IsSameCode}
-use Rattle.dbp_top.specs.Answer.{Answers, IsInTime, IsRefused, Makes, Overruns, PlanOverrun, PlanRefusal, PlanText, canonical, count_of, illegal, made, meaning, needs_plan, no_plan, no_script, no_text, of_plan, of_plan_overrun, of_plan_refused, overran, overrun, record_of, refused, replay, simulation, slots}
+use Rattle.dbp_top.specs.Answer.{Answers, IsInTime, IsOverrunLine, IsRefused, Makes, Overruns, PlanOverrun, PlanRefusal, PlanText, canonical, count_of, illegal, line_of, made, meaning, needs_plan, no_plan, no_script, no_text, of_plan, of_plan_overrun, of_plan_refused, overran, overrun, record_of, refused, replay, simulation, slots}
 use Rattle.dbp_top.specs.OverrunLines.{overrun_line}
 use Rattle.dbp_top.specs.Refusals.{check_name, code_text, refusal_line}
 use Rattle.dbp_top.specs.SlotLines.{slot_lines}
@@ -179,8 +179,12 @@ module _
 
     one-overrun-of : (input : List ℕ) (command : Command) (a b : List ℕ) (m n t u : ℕ) → Overruns input command a m t → Overruns input command b n u → overrun_line a m t ≡ overrun_line b n u
     one-overrun-of input command a b m n t u (of_plan_overrun p x v accepted late) (of_plan_overrun q y w also again) =
-        one-overrun-line q command x y t u (subst (λ (r : Plan). PlanOverrun r command x t) (one_plan input p q accepted also) late) again
-        
+        let same : p ≡ q = one_plan input p q accepted also in
+        ap (λ (r : Plan). overrun_line (declared r x.task).name x.number t) same
+        ∙ one-overrun-line q command x y t u (subst (λ (r : Plan). PlanOverrun r command x t) same late) again
+
+    one-line : (input : List ℕ) (command : Command) (a b : List ℕ) → IsOverrunLine input command a → IsOverrunLine input command b → a ≡ b
+    one-line input command a b (line_of c m t late) (line_of d n u again) = one-overrun-of input command c d m n t u late again
 
     text-or-overrun : (input : List ℕ) (command : Command) (text name : List ℕ) (n t : ℕ) → Makes input command text → Overruns input command name n t → ⊥
     text-or-overrun input command text name n t (canonical d spelled) (of_plan_overrun q y w also again) = false≢true (overrun-of-plan q Form y t again)
@@ -198,8 +202,8 @@ module _
     one-answer input command s t text other (made a makes) (refused r is) = absurd (no-refusal input command a r makes is)
     one-answer input command s t text other (refused r is) (made a makes) = absurd (no-refusal input command a r makes is)
     one-answer input command s t text other (refused r is) (refused q was) = (refl, one-refusal input command r q is was)
-    one-answer input command s t text other (made a makes) (overran name n u late) = absurd (text-or-overrun input command a name n u makes late)
-    one-answer input command s t text other (overran name n u late) (made a makes) = absurd (text-or-overrun input command a name n u makes late)
-    one-answer input command s t text other (refused r is) (overran name n u late) = absurd (refusal-or-overrun input command r name n u is late)
-    one-answer input command s t text other (overran name n u late) (refused r is) = absurd (refusal-or-overrun input command r name n u is late)
-    one-answer input command s t text other (overran name n u late) (overran name' n' u' again) = (refl, one-overrun-of input command name name' n n' u u' late again)
+    one-answer input command s t text other (made a makes) (overran l (line_of name n u late)) = absurd (text-or-overrun input command a name n u makes late)
+    one-answer input command s t text other (overran l (line_of name n u late)) (made a makes) = absurd (text-or-overrun input command a name n u makes late)
+    one-answer input command s t text other (refused r is) (overran l (line_of name n u late)) = absurd (refusal-or-overrun input command r name n u is late)
+    one-answer input command s t text other (overran l (line_of name n u late)) (refused r is) = absurd (refusal-or-overrun input command r name n u is late)
+    one-answer input command s t text other (overran l late) (overran m again) = (refl, one-line input command l m late again)

@@ -22,7 +22,7 @@ pub ends-whole : {S K : Type 0} (left : S → Option (List ℕ)) (source_faults 
     → WroteWhole left source_faults written sink_faults source new_source sink new_sink command status → Ends left source_faults written sink_faults words source new_source sink new_sink status
 ends-whole left sf written kf words s t k l input command status written_text named (made made_text makes) wrote = (command, named, wrote)
 ends-whole left sf written kf words s t k l input command status written_text named (refused why is) wrote = (command, named, wrote)
-ends-whole left sf written kf words s t k l input command status written_text named (overran name number time is) wrote = (command, named, wrote)
+ends-whole left sf written kf words s t k l input command status written_text named (overran line is) wrote = (command, named, wrote)
 
 -- where nothing failed, the call was answered
 pub answered-without-faults : {S K : Type 0} (left : S → Option (List ℕ)) (source_faults : S → ℕ) (written : K → Option (List ℕ)) (sink_faults : K → ℕ) (words : List (String Global)) (source new_source : S) (sink new_sink : K) (status : Status)

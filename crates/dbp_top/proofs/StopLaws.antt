@@ -56,7 +56,7 @@ pub document-stop : (input : List ℕ) (command : Command) (stop : Stop) → nee
 document-stop input command (Refused (Document line code)) checks fault = no_plan command line code checks fault
 document-stop input command (Refused (Script line code)) checks fault = absurd fault
 document-stop input command (Refused (Illegal step why)) checks fault = absurd fault
-document-stop input command (Overrun task instance time) checks fault = absurd fault
+document-stop input command (Overrun line) checks fault = absurd fault
 document-stop input command NoMemory checks fault = tt
 
 pub form-stop : (input : List ℕ) (fail : ReadFail) → Refuses input fail → IsStopOf input Form (stop_of_reading fail)

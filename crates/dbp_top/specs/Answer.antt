@@ -97,9 +97,13 @@ pub data Overruns (input : List ℕ) (command : Command) : List ℕ → ℕ → 
   of_plan_overrun : (plan : Plan) (x : Instance) (time : ℕ) → Accepts input plan → PlanOverrun plan command x time
       → Overruns input command (declared plan x.task).name x.number time
 
+-- the line that tells it
+pub data IsOverrunLine (input : List ℕ) (command : Command) : List ℕ → Type 0 where
+  line_of : (name : List ℕ) (number time : ℕ) → Overruns input command name number time
+      → IsOverrunLine input command (overrun_line name number time)
+
 -- the status and the text that a command gives to an input
 pub data Answers (input : List ℕ) (command : Command) : Status → List ℕ → Type 0 where
   made : (text : List ℕ) → Makes input command text → Answers input command Ok text
   refused : (refusal : Refusal) → IsRefused input command refusal → Answers input command Refused (refusal_line refusal)
-  overran : (name : List ℕ) (number time : ℕ) → Overruns input command name number time
-      → Answers input command Overrun (overrun_line name number time)
+  overran : (line : List ℕ) → IsOverrunLine input command line → Answers input command Overrun line

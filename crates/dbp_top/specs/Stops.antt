@@ -12,7 +12,7 @@ use Rattle.trace_io.specs.declared.code.Code.TheVariants.{Reading, Checking, Tra
 use Rattle.trace_io.specs.Traces.{TraceFail}
 use Rattle.trace_io.specs.Traces as trace
 use Rattle.trace_io.specs.Texts.{Refuses}
-use Rattle.dbp_top.specs.Answer.{IsRefused, Overruns}
+use Rattle.dbp_top.specs.Answer.{IsOverrunLine, IsRefused}
 use Rattle.dbp_top.specs.declared.command.Command.{Command}
 use Rattle.dbp_top.specs.declared.refusal.Refusal.TheVariants.{Document, Script, Illegal}
 use Rattle.dbp_top.specs.declared.stop.Stop.{Stop}
@@ -42,11 +42,11 @@ stop_of_replay replay.NoMemory = NoMemory
 abbrev pub IsFaultOf : List ℕ → Stop → Type 0
 IsFaultOf input (Refused (Document line code)) = Refuses input line code
 IsFaultOf input (Refused _) = ⊥
-IsFaultOf input (Overrun _ _ _) = ⊥
+IsFaultOf input (Overrun _) = ⊥
 IsFaultOf input NoMemory = Unit {0}
 
 -- what a stop tells of the input and the command; want of memory tells nothing
 abbrev pub IsStopOf : List ℕ → Command → Stop → Type 0
 IsStopOf input command (Refused refusal) = IsRefused input command refusal
-IsStopOf input command (Overrun task instance time) = Overruns input command task instance time
+IsStopOf input command (Overrun line) = IsOverrunLine input command line.items
 IsStopOf input command NoMemory = Unit {0}

@@ -37,14 +37,7 @@ pub(crate) fn answer(
     match text_of(alloc, command, input) {
         Ok(text) => Ok((Status::Ok, text)),
         Err(Stop::Refused(refusal)) => Ok((Status::Refused, refusal_line(alloc, &refusal)?)),
-        Err(Stop::Overrun {
-            task,
-            instance,
-            time,
-        }) => Ok((
-            Status::Overrun,
-            overrun_line(alloc, task.bytes(), instance, time)?,
-        )),
+        Err(Stop::Overrun(line)) => Ok((Status::Overrun, line)),
         Err(Stop::NoMemory) => Err(NoMemory),
     }
 }
@@ -82,7 +75,8 @@ fn simulation_of(alloc: Global, record_it: bool, input: &[u8]) -> Result<Vec<u8>
     ensures stop { IfErr result (λ stop. IsStopOf input.now (Sim record_it) stop) }
 {
     let plan = plan_of(alloc, input)?;
-    simulation_text(alloc, record_it, &plan)
+    let text = simulation_text(alloc, record_it, &plan)?;
+    Ok(text)
 }
 
 /// What the simulation of the plan writes: the steps of its record, or the lines of its table.
@@ -92,7 +86,7 @@ fn simulation_text(alloc: Global, record_it: bool, plan: &Plan) -> Result<Vec<u8
 {
     let run = match simulate(alloc, plan) {
         Ok(run) => run,
-        Err(fail) => return Err(stop_of(plan, fail)),
+        Err(fail) => return Err(stop_of(alloc, plan, fail)),
     };
     if record_it {
         Ok(print_script(alloc, &plan.diagram, &run.script)?)
@@ -102,7 +96,7 @@ fn simulation_text(alloc: Global, record_it: bool, plan: &Plan) -> Result<Vec<u8
 }
 
 /// Why the simulation of the plan has no text.
-fn stop_of(plan: &Plan, fail: SimFail) -> Stop
+fn stop_of(alloc: Global, plan: &Plan, fail: SimFail) -> Stop
     requires { IsSimFail plan.now fail }
     ensures { (input : Items ℕ) (record_it : Bool) → Accepts input plan.now → IsStopOf input (Sim record_it) result }
 {
@@ -111,11 +105,13 @@ fn stop_of(plan: &Plan, fail: SimFail) -> Stop
             task,
             instance,
             time,
-        } => Stop::Overrun {
-            task: plan.diagram.tasks.items()[task as usize].name,
-            instance,
-            time,
-        },
+        } => {
+            let name = plan.diagram.tasks.items()[task as usize].name.bytes();
+            match overrun_line(alloc, name, instance, time) {
+                Ok(line) => Stop::Overrun(line),
+                Err(_) => Stop::NoMemory,
+            }
+        }
         SimFail::NoMemory => Stop::NoMemory,
     }
 }

@@ -1,12 +1,20 @@
 // Laws of the definitions.
 
-ghost use Rattle.std.specs.Prelude.{◌≡◌, ℕ, List as Items};
+ghost use Rattle.std.specs.Prelude.{◌≡◌, ℕ, List as Items, Some, true};
 ghost use Rattle.std.specs.declared.alloc.Global.{Global as Heap};
 ghost use Rattle.std.specs.declared.string.String.{String as Word};
+ghost use Rattle.dbp_plan.specs.declared.plan.Plan.{Plan as AnyPlan};
+ghost use Rattle.dbp_replay.specs.Texts.{script_text};
+ghost use Rattle.dbp_rules.specs.declared.step.Step.{Step as AnyStep};
+ghost use Rattle.dia_read.specs.Printable.{HasItemLines, IsPrintable};
+ghost use Rattle.trace_io.specs.Texts.{Accepts};
+ghost use Rattle.virtual_sim.specs.Record.{IsRecord};
 ghost use Rattle.dbp_top.specs.Answer.{Answers};
 ghost use Rattle.dbp_top.specs.Commands.{Names};
 ghost use Rattle.dbp_top.specs.declared.command.Command.{Command as Named};
+ghost use Rattle.dbp_top.specs.declared.command.Command.TheVariants.{Replay};
 ghost use Rattle.dbp_top.specs.declared.status.Status.{Status as Ending};
+ghost use Rattle.dbp_top.specs.declared.status.Status.TheVariants.{Ok as Written};
 
 use sync_meaning::one_meaning;
 use trace_io::one_plan;
@@ -23,3 +31,12 @@ pub fn one_answer()
     one_plan();
     one_meaning();
 }
+
+/// If a text is accepted with a plan, and its script is that of the plan's recorded list, `replay --ranked` answers the
+/// text with status 0. Each document that is read is printable and has a line of each item, as `read_doc` says.
+pub fn a_recorded_script_is_replayed()
+    ensures { (input : Items ℕ) (plan : AnyPlan) (steps : Items AnyStep) (accepted : Accepts input plan)
+        → IsPrintable accepted.doc.body → HasItemLines accepted.doc → IsRecord plan steps
+        → accepted.doc.body.script ≡ Some (script_text plan.diagram steps)
+        → (text : Items ℕ) × Answers input (Replay true) Written text }
+{}

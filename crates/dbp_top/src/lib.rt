@@ -14,6 +14,6 @@ mod stop;
 mod top;
 
 pub use command::command_lines;
-pub use laws::{one_answer, one_command};
+pub use laws::{a_recorded_script_is_replayed, one_answer, one_command};
 pub use status::{Status, note};
 pub use top::{MAX_DOCUMENT, dbp_main, plain_main};

@@ -3,7 +3,7 @@
 ghost use Rattle.std.specs.Prelude.{◌≡◌};
 
 use crate::refusal::Refusal;
-use dbp_plan::{Name, NoMemory};
+use dbp_plan::NoMemory;
 use dbp_replay::{ReplayFail, ScriptFail};
 use dia_check::CheckFail;
 use dia_read::ReadFail;
@@ -14,13 +14,8 @@ use trace_io::{Code, TraceFail};
 pub(crate) enum Stop {
     /// The input is refused.
     Refused(Refusal),
-    /// A release of a simulation meets an unfinished instance of its task: the task's name, the number of the released
-    /// instance, counted from 1, and the time in ticks.
-    Overrun {
-        task: Name,
-        instance: u32,
-        time: u64,
-    },
+    /// A release of a simulation meets an unfinished instance of its task: the line that tells it.
+    Overrun(Vec<u8>),
     /// Memory ran out.
     NoMemory,
 }

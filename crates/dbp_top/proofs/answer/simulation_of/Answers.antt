@@ -1,0 +1,21 @@
+use Rattle.std.proofs.Common.{refl}
+use Rattle.std.proofs.lemmas.Result.{err_from_is_err_and}
+use Rattle.dbp_top.specs.declared.command.Command.TheVariants.{Sim}
+use Rattle.dbp_top.proofs.StopLaws.{document-stop}
+use Rattle.dbp_top.specs.Answer.{of_plan}
+use Rattle.dbp_top.proofs.answer.simulation_of.Goals as goal
+
+pub returns-in_err-plan-clause-stop : goal.returns-in_err-plan-clause-stop
+returns-in_err-plan-clause-stop c =
+    let p = err_from_is_err_and c.from_residual.result c.from_residual.ensures.1 in
+    rw (p.1, p.2) (document-stop c.args.input.now (Sim c.args.record_it) c.in_err-plan.field-0.0 refl c.in_err-plan.ensures.fault)
+
+pub returns-in_err-text-clause-stop : goal.returns-in_err-text-clause-stop
+returns-in_err-text-clause-stop c =
+    let p = err_from_is_err_and c.from_residual-in_err-text.result c.from_residual-in_err-text.ensures.1 in
+    rw (p.1, p.2) (c.in_err-text.ensures.stop c.args.input.now c.in_ok-plan.ensures.plan)
+
+pub returns-clause-text : goal.returns-clause-text
+returns-clause-text c =
+    let accepted = c.in_ok-plan.ensures.plan in
+    of_plan (Sim c.args.record_it) c.in_ok-plan.plan c.in_ok-text.text.items accepted (c.in_ok-text.ensures.text accepted.doc)

@@ -1,0 +1,23 @@
+use Rattle.std.proofs.Common.{◌≡◌, List, ℕ, true, refl, sym, subst}
+use Rattle.dbp_plan.specs.declared.diagram.Diagram.{Diagram}
+use Rattle.dbp_rules.specs.Wired.{wiring_of}
+use Rattle.dbp_rules.specs.declared.step.Count.TheVariants.{Ranked}
+use Rattle.dbp_replay.specs.Replays.{first, heard_lines}
+use Rattle.dbp_replay.specs.Scripts.{IsScript}
+use Rattle.dbp_replay.proofs.AllowedSteps.{all_slot_numbers, all_there}
+use Rattle.dbp_replay.proofs.CheckedNames.{checked-names}
+use Rattle.dbp_replay.proofs.PrintedScripts.{script-again}
+use Rattle.dbp_replay.specs.Names.{HasNames}
+use Rattle.virtual_sim.proofs.EndEvents.{record_leads}
+use Rattle.dbp_top.specs.Answer.{made, of_plan, replay}
+use Rattle.dbp_top.specs.declared.command.Command.TheVariants.{Replay}
+use Rattle.dbp_top.proofs.laws.a_recorded_script_is_replayed.Goals as goal
+
+pub returns : goal.returns
+returns c = λ input plan steps accepted printable lines is kept.
+    let leads = record_leads plan steps is in
+    let names : HasNames plan.diagram = subst HasNames (sym accepted.planned.diagram) (checked-names accepted.doc accepted.diagram printable lines accepted.checked) in
+    let script : IsScript plan.diagram accepted.doc steps =
+    script-again plan.diagram accepted.doc steps names (all_there plan Ranked steps leads.0 leads.1) (all_slot_numbers plan Ranked steps leads.0 leads.1) kept in
+    let text : List ℕ = heard_lines plan (wiring_of plan Ranked) (first plan Ranked) steps in
+    (text, made text (of_plan (Replay true) plan text accepted (replay true steps text script (record { state = leads.0; leads = leads.1; told = refl }))))
