@@ -1,7 +1,7 @@
 """Words that name no command: status 2, and nothing on standard output."""
 
 NO_COMMANDS = (
-    "", "Mean", "forms", "mea", "sim", "-h", "--help", "--form", "mean mean", "mean form", "mean --ranked", "replay ranked",
+    "", "Mean", "forms", "mea", "sim --fast", "sim --record --record", "sim mean", "--record", "-h", "--help", "--form", "mean mean", "mean form", "mean --ranked", "replay ranked",
     "replay --ranked --ranked",
 )
 

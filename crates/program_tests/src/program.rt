@@ -142,7 +142,7 @@ fn words_that_are_no_command_read_and_write_nothing(rt: HostRuntime) -> Result<(
 fn commands_are_listed(rt: HostRuntime) -> Result<(), Fail> {
     assert_eq!(rt;
         command_lines(rt.alloc())?.as_str(),
-        "  mean\n  form\n  plan\n  replay\n  replay --ranked\n"
+        "  mean\n  sim\n  sim --record\n  form\n  plan\n  replay\n  replay --ranked\n"
     );
     Ok(())
 }
