@@ -39,6 +39,14 @@ def many_tasks(occurrences: int) -> str:
     return "\n".join(lines + ["done"]) + "\n"
 
 
+def preempted(releases: int) -> str:
+    """A short task that is released each other tick, and takes the processor from a long one each time."""
+    ticks = 2 * releases
+    return (f"dbp 1\npolicy fp\nuntil {ticks}\ntask short every 2 prio 2 cost 1\n  state n = 0\n  next n = n + 1\n"
+            f"  out y = 0 then n + 1\ntask long every {ticks} prio 1 cost {releases - 1}\n  read x = short.y\n"
+            "  out z = 0 then x\ndone\n")
+
+
 def expressions() -> str:
     """0.9 MB of lets of 63 nodes with long names."""
     lines = ["dbp 1", "policy fp", "until 1"]
@@ -91,7 +99,7 @@ def measured(program: str, command: str, text: str) -> tuple[float, float, float
         document.write(text.encode())
         document.seek(0)
         start = time.perf_counter()
-        timed = ["/usr/bin/time", "-f", "%M", "-o", peak.name, program, command]
+        timed = ["/usr/bin/time", "-f", "%M", "-o", peak.name, program, *command.split()]
         running = subprocess.Popen(timed, stdin=document, stdout=lines)
         _, status, used = os.wait4(running.pid, 0)
         wall = time.perf_counter() - start
@@ -104,7 +112,7 @@ def main() -> None:
     program = sys.argv[1] if len(sys.argv) > 1 else str(TOP / "crates/dbp/out/dbp")
     if not os.access(program, os.X_OK):
         sys.exit(f"{program} is no program; ./dbp builds it at its first call")
-    print(f"{'document':<37}{'wall s':>9}{'cpu s':>9}{'peak MB':>10}")
+    print(f"{'document':<45}{'wall s':>9}{'cpu s':>9}{'peak MB':>10}")
     for command, name, text in [
         *(("mean", f"1 task, {n} occurrences", one_task(n)) for n in (12_500, 25_000, 50_000, 100_000)),
         *(("mean", f"32 tasks of 63 nodes, {n}", many_tasks(n)) for n in (12_000, 24_000, 48_000, 96_000)),
@@ -112,6 +120,10 @@ def main() -> None:
         ("mean", "0.9 MB of expressions", expressions()),
         *(("mean", f"{n} rows of 12 columns", trace(n, 6, 6)) for n in (12_500, 25_000, 50_000)),
         ("mean", "25000 rows of 32 columns", trace(25_000, 16, 16)),
+        *(("sim", f"{n} preemptions", preempted(n)) for n in (25_000, 50_000, 99_999)),
+        *(("sim --record", f"{n} preemptions", preempted(n)) for n in (25_000, 50_000, 99_999)),
+        *(("sim", f"32 tasks of 63 nodes, {n}", many_tasks(n)) for n in (24_000, 48_000, 96_000)),
+        ("sim --record", "32 tasks of 63 nodes, 96000", many_tasks(96_000)),
         ("plan", "0.9 MB of expressions", expressions()),
         ("form", "0.9 MB of expressions", expressions()),
         ("form", "1,000,000 blank lines", many_lines("\n")),
@@ -120,7 +132,7 @@ def main() -> None:
         *(("replay", f"{9 * n} steps of a task", instances(n)) for n in (4_000, 8_000, 16_000)),
     ]:
         wall, cpu, peak = measured(program, command, text)
-        print(f"{command} {name:<32}{wall:>9.3f}{cpu:>9.3f}{peak:>10.1f}")
+        print(f"{command + ' ' + name:<45}{wall:>9.3f}{cpu:>9.3f}{peak:>10.1f}")
 
 
 if __name__ == "__main__":
