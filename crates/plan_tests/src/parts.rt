@@ -4,21 +4,15 @@ use dbp_plan::{BinOp, Expr, List, Node, UnOp};
 use std::alloc::Global;
 use std::test::Fail;
 
-fn grow(list: &mut List<i64>) -> Result<(), Fail> {
-    list.push(7)?;
-    list.push(8)?;
-    list.extend_from_slice(&[9, 7])?;
-    Ok(())
-}
-
-static GROWN: &[i64] = &[7, 8, 9, 7];
-
 #[test]
 fn lists_grow(rt: HostRuntime) -> Result<(), Fail> {
     let mut list = List::new(rt.alloc());
-    grow(&mut list)?;
-    assert_eq!(rt; list.items(), GROWN);
-    assert_eq!(rt; list.copied()?.items(), GROWN);
+    list.push(7)?;
+    list.push(8)?;
+    assert_eq!(rt; list.items(), [7, 8].as_slice());
+    assert_eq!(rt; list.copied()?.items(), [7, 8].as_slice());
+    list.extend_from_slice(&[9, 7])?;
+    assert_eq!(rt; list.items(), [7, 8, 9, 7].as_slice());
     Ok(())
 }
 
