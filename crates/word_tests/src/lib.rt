@@ -1,0 +1,7 @@
+//! Tests of the words that the parties of a run share.
+#![tactic(auto)]
+
+#[cfg(test)]
+mod calls;
+#[cfg(test)]
+mod sharing;
