@@ -9,7 +9,7 @@ use std::{env, io};
 
 fn main(rt: HostRuntime) -> ExitCode {
     let status = run(&rt, rt.alloc());
-    if !matches!(status, Status::Ok | Status::Refused) {
+    if !matches!(status, Status::Ok | Status::Refused | Status::Overrun) {
         let _ = eprintln!(&rt; "dbp: {}", note(status));
     }
     if status == Status::Usage {
