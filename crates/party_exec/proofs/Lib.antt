@@ -1,0 +1,9 @@
+pub mod Stays
+pub mod Written
+pub mod Works
+pub mod Seats
+pub mod Fresh
+pub mod Finished
+pub mod Turned
+pub mod Releasers
+pub mod Shutting

@@ -1,0 +1,5 @@
+pub mod Computed
+pub mod Booked
+pub mod Turns
+pub mod Parties
+pub mod Rows
