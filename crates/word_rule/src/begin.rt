@@ -32,7 +32,8 @@ impl SlotWords {
         Ok((words, seat, tasks))
     }
 
-    /// The words of the plan before the first step, and the releaser's seat, off which no seat of a task is split.
+    /// The words of the plan before the first step, and the releaser's seat. Each task's seat is then split off the
+    /// releaser's by `split_seat`; `new` does both. Where memory runs out the plan is given up.
     pub fn begin(alloc: Global, plan: Plan) -> Result<(SlotWords, ReleaserSeat), NoMemory>
         ensures plan { IfOk result (λ made. made.0.plan ≡ plan) }
         ensures releaser { IfOk result (λ made. IsFirstReleaser made.0 made.1) }
@@ -76,7 +77,8 @@ impl SlotWords {
         Ok(seats)
     }
 
-    /// The seat of the next task, before its first step. It is split off the releaser's, which keeps its part.
+    /// Splits the seat of the next task off the releaser's. The tasks go in order, so each has one seat at most. It touches
+    /// no word and takes no memory.
     pub fn split_seat(&self, seat: &mut ReleaserSeat, task: u32) -> TaskSeat
         requires here { ReleaserSits self.now seat.old }
         requires next { task ≡ split_off seat.old }
