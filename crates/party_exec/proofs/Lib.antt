@@ -3,6 +3,7 @@ pub mod Written
 pub mod Works
 pub mod Seats
 pub mod Fresh
+pub mod Places
 pub mod Finished
 pub mod Turned
 pub mod Releasers
