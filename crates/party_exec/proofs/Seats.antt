@@ -1,14 +1,12 @@
 -- The steps of a task's party at the terms of the calls: its own part allows the step at its place, and afterwards it has
 -- computed what its place says.
-use Rattle.std.proofs.Common.{◌≡◌, ◌≢◌, ℕ, ℤ, ◌+◌, ◌<◌, ◌≤◌, List, length, slice_get, None, refl, sym, ◌∙◌, ap, subst, arith}
+use Rattle.std.proofs.Common.{◌≡◌, ℕ, ◌<◌, length, None, refl, sym, ◌∙◌, ap, subst, arith}
 use Rattle.std.proofs.lemmas.Bool.{eq-eqb}
 use Rattle.dbp_plan.specs.declared.plan.Plan.{Plan}
 use Rattle.dbp_plan.specs.declared.table.TaskRows.{TaskRows}
-use Rattle.dbp_plan.specs.Occurrences.{times_of}
-use Rattle.dbp_rules.specs.PartyRules.{Loaded, task_after, task_refusal, place_kind}
-use Rattle.dbp_rules.specs.PartyShapes.{TaskPartShape}
+use Rattle.dbp_rules.specs.PartyRules.{Loaded, task_after, task_refusal}
 use Rattle.dbp_rules.specs.Places.{read_at, wired}
-use Rattle.dbp_rules.specs.Shapes.{IsTaskWired, PlaceIn, running_count}
+use Rattle.dbp_rules.specs.Shapes.{PlaceIn, running_count}
 use Rattle.dbp_rules.specs.Work.{WorkWords}
 use Rattle.dbp_rules.specs.declared.parts.Place.{Place}
 use Rattle.dbp_rules.specs.declared.parts.Place.TheVariants as place
@@ -22,7 +20,7 @@ use Rattle.word_rule.specs.Seats.{TaskSits, TaskSteps}
 use Rattle.word_rule.specs.declared.seats.SlotWords.{SlotWords}
 use Rattle.word_rule.specs.declared.seats.TaskSeat.{TaskSeat}
 use Rattle.word_rule.proofs.SeatSteps.{wiring_is}
-use Rattle.word_rule.proofs.TaskCalls.{inside, shape, task_named, task_wired, wired_is}
+use Rattle.word_rule.proofs.TaskCalls.{inside, shape, task_named, wired_is}
 use Rattle.party_exec.specs.Computed.{HasComputed, plan_of_task}
 
 -- ---- the step at a place is allowed
@@ -54,9 +52,6 @@ may_end w t i at = rw at refl
 -- ---- what the seat's party has after its step
 
 module _ (w : SlotWords) (s new : TaskSeat) (here : TaskSits w s) (steps : TaskSteps s new) where
-  pub still_sits : TaskSits w new
-  still_sits = (steps.table ∙ here.0, steps.plan ∙ here.1)
-
   pub has_then : (e : Step) (l : Loaded) (work : WorkWords) (rows : TaskRows) → new.part ≡ task_after (wired w.wiring s.task) s.part e l
       → HasComputed (plan_of_task s) s.task (task_after (wired (run_wiring (plan_of_task s)) s.task) s.part e l) work rows
       → HasComputed (plan_of_task new) new.task new.part work rows

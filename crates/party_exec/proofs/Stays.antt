@@ -1,5 +1,5 @@
 -- Steps that leave all that a task has computed: its part is another one, and none of it is new there.
-use Rattle.std.proofs.Common.{◌≡◌, ℕ, ℤ, pos, ◌+◌, ◌<◌, ◌≤◌, Bool, true, false, List, length, get_or, take, refl, sym, ◌∙◌, ap, subst, arith, inl, inr}
+use Rattle.std.proofs.Common.{◌≡◌, ℕ, ◌+◌, length, refl, sym, ◌∙◌, ap, arith, inl, inr}
 use Rattle.std.proofs.lemmas.Bool.{cases_Bool}
 use Rattle.dbp_plan.specs.declared.plan.Plan.{Plan}
 use Rattle.dbp_plan.specs.declared.table.TaskRows.{TaskRows}
@@ -10,12 +10,10 @@ use Rattle.dbp_rules.specs.PartyRules.{Loaded, hears_at, is_opened_by, is_stamp_
 use Rattle.dbp_rules.specs.Places.{wired}
 use Rattle.dbp_rules.specs.SoundParts.{meant_word, read_of, shut_by, taken_by}
 use Rattle.dbp_rules.specs.Work.{WorkWords}
-use Rattle.dbp_rules.specs.declared.parts.Place.{Place}
 use Rattle.dbp_rules.specs.declared.parts.Place.TheVariants as place
 use Rattle.dbp_rules.specs.declared.parts.TaskPart.{TaskPart}
 use Rattle.dbp_rules.specs.declared.step.Step.TheVariants.{Start, Hear, Look, Put, Done}
 use Rattle.dbp_rules.specs.declared.wiring.TaskWiring.{TaskWiring}
-use Rattle.dbp_rules.specs.declared.wiring.Wiring.{Wiring}
 use Rattle.dbp_rules.proofs.SoundGoes.{early_heard, taken_hear}
 use Rattle.dbp_rules.proofs.SoundWriting.{put_running}
 use Rattle.word_rule.specs.Roles.{meaning_row, run_wiring}
@@ -42,7 +40,7 @@ module _ (p : Plan) (i : ℕ) (t : TaskPart) (work : WorkWords) (rows : TaskRows
       }
 
   pub after_start : (l : Loaded) → t.place ≡ place.Idle → HasComputed p i (task_after w t (Start i) l) work rows
-  after_start l at = elim (cases_Bool (is_opened_by t (loaded_number l))) [ inl yes ↦ rw yes (stays (move.at_place t (place.Hear 0)) refl (ap shut_by (sym at)) (ap (taken_by (length w.reads)) (sym at))) | inr no ↦ rw no has ]
+  after_start l at = elim (cases_Bool (is_opened_by t (loaded_number l))) [ inl opened ↦ rw opened (stays (move.at_place t (place.Hear 0)) refl (ap shut_by (sym at)) (ap (taken_by (length w.reads)) (sym at))) | inr closed ↦ rw closed has ]
 
   pub after_hear : (n : ℕ) (l : Loaded) → t.place ≡ place.Hear n → HasComputed p i (task_after w t (Hear i) l) work rows
   after_hear n l at =
@@ -52,14 +50,14 @@ module _ (p : Plan) (i : ℕ) (t : TaskPart) (work : WorkWords) (rows : TaskRows
 
   pub after_look : (n r : ℕ) (l : Loaded) → t.place ≡ place.Look n → HasComputed p i (task_after w t (Look i r) l) work rows
   after_look n r l at = elim (cases_Bool (is_stamp_of (read_order_in w t (turn_at t.place)) (loaded_number l))) [
-    | inl yes ↦ rw yes (stays (move.at_place t (place.Take (turn_at t.place))) refl (ap shut_by (sym at)) (ap turn_at at ∙ ap (taken_by (length w.reads)) (sym at)))
-    | inr no ↦ rw no has
+    | inl ready ↦ rw ready (stays (move.at_place t (place.Take (turn_at t.place))) refl (ap shut_by (sym at)) (ap turn_at at ∙ ap (taken_by (length w.reads)) (sym at)))
+    | inr other ↦ rw other has
   ]
 
   pub after_put : (n port : ℕ) (l : Loaded) → t.place ≡ place.Put n → HasComputed p i (task_after w t (Put i port) l) work rows
   after_put n port l at =
       let next = put_running w.ports (port + 1) in
-      stays (task_after w t (Put i port) l) refl (next.2.0 ∙ ap shut_by (sym at)) (next.2.1 (length w.reads) ∙ ap (taken_by (length w.reads)) (sym at))
+      stays (task_after w t (Put i port) l) refl (next.1 ∙ ap shut_by (sym at)) (next.2 (length w.reads) ∙ ap (taken_by (length w.reads)) (sym at))
 
   pub after_done : (l : Loaded) → t.place ≡ place.Done → HasComputed p i (task_after w t (Done i) l) work rows
   after_done l at = stays (task_after w t (Done i) l) refl (ap shut_by (sym at)) (ap (taken_by (length w.reads)) (sym at))

@@ -1,14 +1,14 @@
 -- What a task's party has after each of its steps, at the terms of the calls.
-use Rattle.std.proofs.Common.{◌≡◌, ◌≢◌, ℕ, ℤ, pos, ◌+◌, ◌<◌, ◌≤◌, Bool, true, false, List, length, get_or, set, Some, None, refl, sym, ◌∙◌, ap, subst, arith}
+use Rattle.std.proofs.Common.{◌≡◌, ℕ, ℤ, ◌+◌, ◌<◌, ◌≤◌, Bool, true, false, length, set, refl, sym, ◌∙◌, ap, subst, arith}
 use Rattle.std.specs.Prelude.{MatchBool}
-use Rattle.dbp_plan.specs.declared.diagram.Task.{Task}
+use Rattle.dbp_plan.specs.declared.limits.TheConstants.{MAX_BODY}
 use Rattle.dbp_plan.specs.declared.plan.Plan.{Plan}
 use Rattle.dbp_plan.specs.declared.table.TaskRows.{TaskRows}
 use Rattle.dbp_plan.specs.Lookups.{declared}
 use Rattle.dbp_plan.specs.Occurrences.{times_of}
 use Rattle.sync_meaning.specs.SomeMeaning.{meaning_of}
 use Rattle.dbp_rules.specs.Moves as move
-use Rattle.dbp_rules.specs.PartyRules.{a_number, a_value, an_order, no_word, task_after, task_refusal}
+use Rattle.dbp_rules.specs.PartyRules.{a_number, a_value, an_order, no_word, task_after}
 use Rattle.dbp_rules.specs.Places.{read_at, wired}
 use Rattle.dbp_rules.specs.Promises.{IsMeant}
 use Rattle.dbp_rules.specs.Shapes.{PlaceIn, running_count}
@@ -92,6 +92,10 @@ module _ (w : SlotWords) (s : TaskParty) (here : TaskSits w s.seat) where
       let own_spot : spot ≡ length (declared p i).states + length (declared p i).senses + r = is ∙ ap (λ (x : Plan). length (declared x i).states + length (declared x i).senses + r) (sym here.1) in
       omega (arith, s.computed.words.now, own_spot, own_read, ((task_wired w s.seat here).each_read n own_few).read)
 
+  -- so it is small
+  pub spot_small : (n r spot : ℕ) → n < length its.reads → r ≡ (read_at its n).read → spot ≡ length (declared w.plan i).states + length (declared w.plan i).senses + r → spot < MAX_BODY
+  spot_small n r spot few read is = let body = (task_wired w s.seat here).closed.body in omega (arith, spot_inside n r spot few read is, s.computed.words.now)
+
   -- the row has a word of each port
   pub port_inside : (port : ℕ) → t.place ≡ place.Put port → port < length s.work.row
   port_inside port at =
@@ -99,11 +103,6 @@ module _ (w : SlotWords) (s : TaskParty) (here : TaskSits w s.seat) where
       let occurs : t.ended + 1 ≤ length (times_of p.batches i) = omega (arith, (shape w s.seat here).occurs, ap running_count at, ap length (task_wired w s.seat here).times) in
       let row : s.work.row ≡ meaning_row p i (t.ended + 1) = s.computed.words.row ∙ ap (λ (x : ℕ). meaning_row p i (t.ended + x)) (ap shut_by at) in
       omega (arith, few, (task_wired w s.seat here).ports, ap length row, meant_width p i (t.ended + 1) s.seat.same.named occurs)
-
-  -- which is the meaning's
-  pub put_row : (port : ℕ) → t.place ≡ place.Put port → s.work.row ≡ meaning_row w.plan i (t.ended + 1)
-  put_row port at =
-      s.computed.words.row ∙ ap (λ (x : ℕ). meaning_row p i (t.ended + x)) (ap shut_by at) ∙ ap (λ (x : Plan). meaning_row x i (t.ended + 1)) here.1
 
 -- ---- what a start and a look answer
 

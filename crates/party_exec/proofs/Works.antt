@@ -1,6 +1,6 @@
 -- Steps after which a task has more: a word that it has taken, a row that it has computed, its next states.
-use Rattle.std.proofs.Common.{◌≡◌, ◌≢◌, ℕ, zero, suc, ℤ, pos, ◌+◌, ◌-◌, ◌*◌, ◌<◌, ◌≤◌, Bool, true, false, List, [], ◌∷◌, ◌++◌, length, map, get_or, set, slice_get, Some, take, drop, refl, sym, ◌∙◌, ap, subst, arith, inl, inr, length-append, length-drop, length-set, get_or-set_same, get_or-set_other}
-use Rattle.std.proofs.lemmas.Bool.{cases_eq, cases_lt}
+use Rattle.std.proofs.Common.{◌≡◌, ◌≢◌, ℕ, zero, suc, ℤ, pos, ◌+◌, ◌-◌, ◌*◌, ◌<◌, ◌≤◌, List, [], ◌∷◌, ◌++◌, length, map, get_or, set, slice_get, Some, take, drop, refl, sym, ◌∙◌, ap, subst, arith, inl, inr, length-append, length-drop, length-set, get_or-set_same, get_or-set_other}
+use Rattle.std.proofs.lemmas.Bool.{cases_eq}
 use Rattle.std.proofs.lemmas.List.{length-map}
 use Rattle.std.proofs.Math.Nat.{mul-le-mul_right}
 use Rattle.std.specs.Prelude.{slice_range}
@@ -9,16 +9,15 @@ use Rattle.dbp_plan.specs.declared.diagram.Read.{Read}
 use Rattle.dbp_plan.specs.declared.diagram.Task.{Task}
 use Rattle.dbp_plan.specs.declared.plan.Plan.{Plan}
 use Rattle.dbp_plan.specs.declared.table.TaskRows.{TaskRows}
-use Rattle.dbp_plan.specs.Closed.{place_count}
 use Rattle.dbp_plan.specs.Lookups.{declared, no_declared, no_read}
 use Rattle.dbp_plan.specs.Occurrences.{count_until, time_of, times_of}
 use Rattle.dbp_plan.specs.Samples.{input_value}
-use Rattle.dbp_plan.specs.Table.{HasRowsOf, row_at}
+use Rattle.dbp_plan.specs.Table.{row_at}
 use Rattle.sync_meaning.proofs.OneMeaning.{meaning_solves}
 use Rattle.sync_meaning.specs.SomeMeaning.{meaning_of, meaning_of-is}
-use Rattle.sync_meaning.specs.SomeMeaningRows.{Solves, row_of, states_at, word_at}
+use Rattle.sync_meaning.specs.SomeMeaningRows.{Solves, row_of}
 use Rattle.sync_meaning.specs.SomeMeaningStreams.{length-states_at}
-use Rattle.sync_meaning.specs.SomeMeaningTables.{row_in, rows_in}
+use Rattle.sync_meaning.specs.SomeMeaningTables.{row_in}
 use Rattle.dbp_rules.specs.Moves as move
 use Rattle.dbp_rules.specs.PartyRules.{Loaded, task_after, turn_at}
 use Rattle.dbp_rules.specs.Places.{read_at, time, wired}
@@ -32,13 +31,12 @@ use Rattle.dbp_rules.specs.declared.parts.TaskPart.{TaskPart}
 use Rattle.dbp_rules.specs.declared.step.Count.TheVariants.{All}
 use Rattle.dbp_rules.specs.declared.step.Step.TheVariants.{Take, Shut, End}
 use Rattle.dbp_rules.specs.declared.wiring.TaskWiring.{TaskWiring}
-use Rattle.dbp_rules.specs.declared.wiring.Wiring.{Wiring}
 use Rattle.dbp_rules.proofs.SoundComputing.{HasComputed as HasWorked, HasItsWords, worked_is}
 use Rattle.dbp_rules.proofs.SoundGoes.{early_read, taken_read}
 use Rattle.dbp_rules.proofs.SoundOwn.{IsOwn, own_wiring}
 use Rattle.dbp_rules.proofs.SoundStart.{take_front}
 use Rattle.word_rule.specs.Roles.{meaning_row, run_wiring}
-use Rattle.party_exec.specs.Computed.{HasComputed, HasMeantRows, HasMeantWords, last_computed}
+use Rattle.party_exec.specs.Computed.{HasComputed}
 use Rattle.party_exec.proofs.Written.{written_before, written_here, written_size}
 
 -- the meaning's rows solve its equations
@@ -129,12 +127,6 @@ module _ (p : Plan) (i : ℕ) (below : i < length (run_wiring p).tasks) (t : Tas
   its_words at =
       let all : taken_by reads t.place ≡ reads = ap (taken_by reads) at in
       record { size = has.words.now; states = has.words.states; taken = λ n few. has.words.taken n (omega (arith, few, all)) }
-
-  pub shut_width : (new : WorkWords) (l : Loaded) → t.place ≡ place.Shut → t.ended < length (times_of p.batches i)
-      → new ≡ move.after_compute d (map (λ x. input_value p.diagram.inputs p.samples x.input (time w (t.ended + 1))) d.senses) work → length new.row ≡ rows.ports
-  shut_width new l at few worked =
-      let done : HasWorked p (run_wiring p) (meaning_row p) i t.ended new = subst (λ (x : WorkWords). HasWorked p (run_wiring p) (meaning_row p) i t.ended x) (sym worked) (worked_is p (run_wiring p) (meaning_row p) own (row_solves p) i t.ended work below few (its_words at)) in
-      ap length done.row ∙ meant_width p i (t.ended + 1) named (omega arith) ∙ sym has.rows.room.ports
 
   pub after_shut : (new : WorkWords) (made : TaskRows) (l : Loaded) → t.place ≡ place.Shut → t.ended < length (times_of p.batches i)
       → new ≡ move.after_compute d (map (λ x. input_value p.diagram.inputs p.samples x.input (time w (t.ended + 1))) d.senses) work

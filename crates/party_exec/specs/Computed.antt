@@ -1,5 +1,5 @@
 -- What a task has computed at its place: all that it holds is what the meaning of the plan gives there.
-use Rattle.std.specs.Prelude.{◌≡◌, ℕ, ℤ, pos, ◌+◌, ◌<◌, ◌≤◌, length, take, slice_index_or}
+use Rattle.std.specs.Prelude.{◌≡◌, ℕ, pos, ◌+◌, ◌<◌, ◌≤◌, length, take, slice_index_or}
 use Rattle.dbp_plan.specs.declared.plan.Plan.{Plan}
 use Rattle.dbp_plan.specs.declared.table.TaskRows.{TaskRows}
 use Rattle.dbp_plan.specs.Closed.{place_count}
@@ -37,6 +37,6 @@ pub record HasMeantRows (p : Plan) (i last : ℕ) (rows : TaskRows) : Type 0 whe
   pub room : HasRowsOf (length (declared p i).outs) (length (times_of p.batches i)) rows
   pub each : (n : ℕ) → n ≤ last → row_at rows n ≡ meaning_row p i n
 
-pub record HasComputed (p : Plan) (i : ℕ) (t : TaskPart) (work : WorkWords) (rows : TaskRows) : Type 0 where
+pub record HasComputed (p : Plan) (i : ℕ) (t : TaskPart) (work : WorkWords) (made : TaskRows) : Type 0 where
   pub words : HasMeantWords p i t work
-  pub rows : HasMeantRows p i (last_computed t) rows
+  pub rows : HasMeantRows p i (last_computed t) made

@@ -13,5 +13,7 @@ pub struct TaskParty {
     pub(crate) seat: TaskSeat,
     pub(crate) work: Work,
     pub(crate) rows: TaskRows,
+    // how many turns a crew has made of it in this run, for the pace
+    pub(crate) turns: u64,
     ghost computed: { HasComputed (plan_of_task seat) seat.task seat.part work rows },
 }

@@ -1,7 +1,7 @@
-use Rattle.std.proofs.Common.{refl, ap, sym, ◌∙◌}
-use Rattle.dbp_rules.specs.PartyRules.{a_number, a_value, an_order, no_word}
+use Rattle.std.proofs.Common.{refl}
+use Rattle.dbp_rules.specs.PartyRules.{no_word}
 use Rattle.dbp_rules.specs.Places.{wired}
-use Rattle.dbp_rules.specs.declared.step.Step.TheVariants.{Start, Hear, Look, Take, Shut, Put, Done, End}
+use Rattle.dbp_rules.specs.declared.step.Step.TheVariants.{Done}
 use Rattle.party_exec.proofs.Seats.{may_finish}
 use Rattle.party_exec.proofs.Turned.{has_finished}
 use Rattle.party_exec.proofs.task_party.TaskParty.done.Goals as goal
@@ -13,4 +13,11 @@ pub invariant_of-self : goal.invariant_of-self
 invariant_of-self c = record { computed = has_finished c.args.words.now c.args.self.now c.requires.here c.done.new.seat c.done.ensures.step c.requires.place c.done.ensures.part }
 
 pub returns-clause-turn : goal.returns-clause-turn
-returns-clause-turn c = record { made = Done c.args.self.now.seat.task; loaded = no_word; seat = c.done.ensures.step; allowed = done-requires-clause-allowed c; part = c.done.ensures.part; answer = refl }
+returns-clause-turn c = record {
+  made = Done c.args.self.now.seat.task;
+  loaded = no_word;
+  seat = c.done.ensures.step;
+  allowed = may_finish (wired c.args.words.now.wiring c.args.self.now.seat.task) c.args.self.now.seat.part c.args.self.now.seat.task c.requires.place;
+  part = c.done.ensures.part;
+  answer = refl;
+}

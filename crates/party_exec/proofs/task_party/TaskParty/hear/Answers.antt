@@ -1,7 +1,7 @@
-use Rattle.std.proofs.Common.{refl, ap, sym, ◌∙◌}
-use Rattle.dbp_rules.specs.PartyRules.{a_number, a_value, an_order, no_word}
+use Rattle.std.proofs.Common.{refl}
+use Rattle.dbp_rules.specs.PartyRules.{an_order}
 use Rattle.dbp_rules.specs.Places.{wired}
-use Rattle.dbp_rules.specs.declared.step.Step.TheVariants.{Start, Hear, Look, Take, Shut, Put, Done, End}
+use Rattle.dbp_rules.specs.declared.step.Step.TheVariants.{Hear}
 use Rattle.party_exec.proofs.Seats.{may_hear}
 use Rattle.party_exec.proofs.Turned.{has_heard}
 use Rattle.party_exec.proofs.task_party.TaskParty.hear.Goals as goal
@@ -13,4 +13,11 @@ pub invariant_of-self : goal.invariant_of-self
 invariant_of-self c = record { computed = has_heard c.args.words.now c.args.self.now c.requires.here c.hear.new.seat c.hear.ensures.step c.requires.place.0 c.hear.result c.requires.place.1 c.hear.ensures.part }
 
 pub returns-clause-turn : goal.returns-clause-turn
-returns-clause-turn c = record { made = Hear c.args.self.now.seat.task; loaded = an_order c.hear.result; seat = c.hear.ensures.step; allowed = hear-requires-clause-allowed c; part = c.hear.ensures.part; answer = refl }
+returns-clause-turn c = record {
+  made = Hear c.args.self.now.seat.task;
+  loaded = an_order c.hear.result;
+  seat = c.hear.ensures.step;
+  allowed = may_hear (wired c.args.words.now.wiring c.args.self.now.seat.task) c.args.self.now.seat.part c.args.self.now.seat.task c.requires.place.0 c.requires.place.1;
+  part = c.hear.ensures.part;
+  answer = refl;
+}

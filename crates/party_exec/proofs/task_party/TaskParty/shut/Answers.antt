@@ -1,7 +1,7 @@
-use Rattle.std.proofs.Common.{refl, ap, sym, ◌∙◌}
-use Rattle.dbp_rules.specs.PartyRules.{a_number, a_value, an_order, no_word}
+use Rattle.std.proofs.Common.{refl}
+use Rattle.dbp_rules.specs.PartyRules.{no_word}
 use Rattle.dbp_rules.specs.Places.{wired}
-use Rattle.dbp_rules.specs.declared.step.Step.TheVariants.{Start, Hear, Look, Take, Shut, Put, Done, End}
+use Rattle.dbp_rules.specs.declared.step.Step.TheVariants.{Shut}
 use Rattle.party_exec.proofs.Seats.{may_shut}
 use Rattle.party_exec.proofs.Turned.{has_shut}
 use Rattle.party_exec.proofs.task_party.TaskParty.shut.Goals as goal
@@ -13,4 +13,11 @@ pub invariant_of-self : goal.invariant_of-self
 invariant_of-self c = record { computed = has_shut c.args.words.now c.args.self.now c.requires.here c.shut.new.seat c.shut.ensures.step c.compute.new.work c.compute.new.rows c.compute.ensures c.shut.ensures.part }
 
 pub returns-clause-turn : goal.returns-clause-turn
-returns-clause-turn c = record { made = Shut c.args.self.now.seat.task; loaded = no_word; seat = c.shut.ensures.step; allowed = shut-requires-clause-allowed c; part = c.shut.ensures.part; answer = refl }
+returns-clause-turn c = record {
+  made = Shut c.args.self.now.seat.task;
+  loaded = no_word;
+  seat = c.shut.ensures.step;
+  allowed = may_shut (wired c.args.words.now.wiring c.args.self.now.seat.task) c.args.self.now.seat.part c.args.self.now.seat.task c.requires.place;
+  part = c.shut.ensures.part;
+  answer = refl;
+}

@@ -1,7 +1,6 @@
-use Rattle.std.proofs.Common.{refl, ap, sym, ◌∙◌}
-use Rattle.dbp_rules.specs.PartyRules.{a_number, is_opened_by, is_stamp_of, read_order_in, turn_at}
+use Rattle.dbp_rules.specs.PartyRules.{a_number, is_opened_by}
 use Rattle.dbp_rules.specs.Places.{wired}
-use Rattle.dbp_rules.specs.declared.step.Step.TheVariants.{Start, Look}
+use Rattle.dbp_rules.specs.declared.step.Step.TheVariants.{Start}
 use Rattle.party_exec.proofs.Seats.{may_start}
 use Rattle.party_exec.proofs.Turned.{has_started, not_started, started}
 use Rattle.party_exec.proofs.task_party.TaskParty.start.Goals as goal
@@ -17,7 +16,7 @@ returns-in-Started-clause-turn c = record {
   made = Start c.args.self.now.seat.task;
   loaded = a_number c.start.ensures.part.0;
   seat = c.start.ensures.step;
-  allowed = start-requires-clause-allowed c;
+  allowed = may_start (wired c.args.words.now.wiring c.args.self.now.seat.task) c.args.self.now.seat.part c.args.self.now.seat.task c.requires.place;
   part = c.start.ensures.part.1;
   answer = started (is_opened_by c.args.self.now.seat.part c.start.ensures.part.0) c.start.ensures.part.0 c.start.result c.start.ensures.part.2 c.in-Started.is;
 }
@@ -27,7 +26,7 @@ returns-in-Closed-clause-turn c = record {
   made = Start c.args.self.now.seat.task;
   loaded = a_number c.start.ensures.part.0;
   seat = c.start.ensures.step;
-  allowed = start-requires-clause-allowed c;
+  allowed = may_start (wired c.args.words.now.wiring c.args.self.now.seat.task) c.args.self.now.seat.part c.args.self.now.seat.task c.requires.place;
   part = c.start.ensures.part.1;
   answer = not_started (is_opened_by c.args.self.now.seat.part c.start.ensures.part.0) c.start.ensures.part.0 _ c.start.result c.start.ensures.part.2 c.in-Closed.is;
 }
