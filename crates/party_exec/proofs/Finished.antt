@@ -1,5 +1,5 @@
 -- The rows of parties that have finished are the meaning.
-use Rattle.std.proofs.Common.{◌≡◌, ◌⊎◌, ⊎_elim, ℕ, zero, suc, ℤ, ◌+◌, ◌-◌, ◌<◌, ◌≤◌, List, [], ◌∷◌, ◌++◌, length, slice_get, Some, refl, sym, ◌∙◌, ap, subst, arith, length-append}
+use Rattle.std.proofs.Common.{◌≡◌, ◌⊎◌, ⊎_elim, ℕ, zero, suc, ℤ, ◌+◌, ◌-◌, ◌<◌, ◌≤◌, List, [], ◌∷◌, ◌++◌, length, get_or, slice_get, Some, refl, sym, ◌∙◌, ap, subst, arith, length-append}
 use Rattle.std.proofs.lemmas.Option.{slice_get-get_or, slice_get_within, same_Some, get_or_from_slice_get}
 use Rattle.dbp_plan.specs.declared.plan.Plan.{Plan}
 use Rattle.dbp_plan.specs.declared.table.Table.{Table}
@@ -7,7 +7,7 @@ use Rattle.dbp_plan.specs.declared.table.TaskRows.{TaskRows}
 use Rattle.dbp_plan.specs.declared.diagram.Task.{Task as Declared}
 use Rattle.dbp_plan.specs.Lookups.{declared, no_declared}
 use Rattle.dbp_plan.specs.Occurrences.{times_of}
-use Rattle.dbp_plan.specs.Places.{at_place}
+use Rattle.dbp_plan.specs.Places.{at_place, read_place}
 use Rattle.dbp_plan.specs.Table.{HasAllRows, HasRowsOf, row_at}
 use Rattle.sync_meaning.specs.SomeMeaning.{meaning_of, meaning_of-is}
 use Rattle.sync_meaning.specs.SomeMeaningTables.{rows_in, same_table}
@@ -19,10 +19,11 @@ use Rattle.word_rule.specs.declared.seats.SlotWords.{SlotWords}
 use Rattle.word_rule.proofs.Begins.{get_push}
 use Rattle.word_rule.proofs.TaskCalls.{task_named, task_wired, wired_is}
 use Rattle.party_exec.specs.Computed.{HasMeantRows, last_computed, plan_of_task}
-use Rattle.party_exec.specs.Parties.{HasFinished, IsPartyAt}
+use Rattle.party_exec.specs.Parties.{HasFinished, HaveFinished, IsPartyAt}
 use Rattle.party_exec.specs.Turns.{TaskHasFinished}
 use Rattle.party_exec.specs.declared.party.Party.{Party}
 use Rattle.party_exec.specs.declared.party.Party.TheVariants.{Releaser, Task}
+use Rattle.party_exec.specs.declared.releaser_party.ReleaserParty.{ReleaserParty}
 use Rattle.party_exec.specs.declared.task_party.TaskParty.{TaskParty}
 
 rows_at : (table : Table) (i n : ℕ) (rows : TaskRows) → slice_get table.tasks i ≡ Some rows → rows_in table i n ≡ row_at rows n
@@ -54,15 +55,24 @@ all_push w tasks rows each last i r at = ⊎_elim
     (get_push tasks rows r i at)
 
 -- the place of a task's party, and that of the releaser's
-pub task_place : (w : SlotWords) (k : ℕ) (s : TaskParty) → IsPartyAt w k (Task s) × TaskHasFinished w s → (1 ≤ k) × HasAll w (k - 1) s.rows
+task_place : (w : SlotWords) (k : ℕ) (s : TaskParty) → IsPartyAt w k (Task s) × TaskHasFinished w s → (1 ≤ k) × HasAll w (k - 1) s.rows
 task_place w zero s h = elim h.0 [ ]
 task_place w (suc i) s h = let one : i ≡ suc i - 1 = omega arith in (omega arith, subst (λ (n : ℕ). HasAll w n s.rows) one (finished_rows w i s h.0.0 h.0.1 h.1))
 
-pub releaser_place : (w : SlotWords) (k : ℕ) (p : Party) → IsPartyAt w k p → ((s : TaskParty) → p ≡ Task s → ⊥) → k ≡ 0
-releaser_place w zero (Releaser s) h other = refl
-releaser_place w zero (Task s) h other = elim h [ ]
-releaser_place w (suc i) (Releaser s) h other = elim h [ ]
-releaser_place w (suc i) (Task s) h other = absurd (other s refl)
+releaser_place : (w : SlotWords) (k : ℕ) (s : ReleaserParty) → IsPartyAt w k (Releaser s) → k ≡ 0
+releaser_place w zero s h = refl
+releaser_place w (suc i) s h = elim h [ ]
+
+-- the party that stands at a place of parties that have finished
+module _ (w : SlotWords) (ps : List Party) (h : HaveFinished w ps) (k : ℕ) (d : Party) (below : k < length ps) (read : d ≡ get_or ps k d) where
+  there : IsPartyAt w k d × HasFinished w d
+  there = (h.parties.each k d (read_place ps k d below read), subst (HasFinished w) (sym read) (h.finished k d below))
+
+  pub task_row : (s : TaskParty) → d ≡ Task s → (1 ≤ k) × HasAll w (k - 1) s.rows
+  task_row s is = task_place w k s (subst (λ (p : Party). IsPartyAt w k p × HasFinished w p) is there)
+
+  pub no_row : (s : ReleaserParty) → d ≡ Releaser s → k ≡ 0
+  no_row s is = releaser_place w k s (subst (IsPartyAt w k) is there.0)
 
 -- a table with all rows is the meaning
 module _ (w : SlotWords) (tasks : List TaskRows) (size : length tasks ≡ length w.plan.diagram.tasks) (each : AreAll w tasks) where

@@ -1,5 +1,5 @@
 -- What is said of a party, and of the parties of one table.
-use Rattle.std.specs.Prelude.{◌≡◌, ℕ, zero, suc, ◌+◌, List, length, slice_get, Some}
+use Rattle.std.specs.Prelude.{◌≡◌, ℕ, zero, suc, ◌+◌, List, length, All, slice_get, Some}
 use Rattle.dbp_plan.specs.Lookups.{declared}
 use Rattle.dbp_plan.specs.Occurrences.{times_of}
 use Rattle.dbp_rules.specs.Places.{no_task_wiring}
@@ -63,7 +63,12 @@ IsPartyAt w zero (Releaser s) = ReleaserSits w s.seat
 IsPartyAt w (suc i) (Task s) = TaskSits w s.seat × (s.seat.task ≡ i)
 IsPartyAt w _ _ = ⊥
 
--- the releaser's party and then one of each task, in order, which have finished
-pub record HaveFinished (w : SlotWords) (ps : List Party) : Type 0 where
+-- the releaser's party and then one of each task, in order
+pub record AreParties (w : SlotWords) (ps : List Party) : Type 0 where
   pub size : length ps ≡ length w.plan.diagram.tasks + 1
-  pub each : (k : ℕ) (p : Party) → slice_get ps k ≡ Some p → IsPartyAt w k p × HasFinished w p
+  pub each : (k : ℕ) (p : Party) → slice_get ps k ≡ Some p → IsPartyAt w k p
+
+-- all of them have finished
+pub record HaveFinished (w : SlotWords) (ps : List Party) : Type 0 where
+  pub parties : AreParties w ps
+  pub finished : All (HasFinished w) ps

@@ -25,7 +25,7 @@ pub fn parties(alloc: Global, plan: &Plan) -> Result<(SlotWords, List<Party>), N
     let tasks = task_parties(alloc, &words, &mut seat)?;
     let book = Book::new(alloc, plan)?;
     let mut parties = List::new(alloc);
-    parties.push(Party::Releaser(ReleaserParty { seat, book }))?;
+    parties.push(Party::Releaser(ReleaserParty { seat, book, turns: 0 }))?;
     for party in tasks {
         parties.push(Party::Task(party))?;
     }
@@ -59,9 +59,12 @@ fn task_party(alloc: Global, words: &SlotWords, seat: TaskSeat) -> Result<TaskPa
 {
     let task = declared_of(words, &seat);
     let occurrences = wired_of(words, &seat).times.len();
+    let work = Work::start(alloc, task)?;
+    let rows = room_for_rows(alloc, task, occurrences)?;
     Ok(TaskParty {
         seat,
-        work: Work::start(alloc, task)?,
-        rows: room_for_rows(alloc, task, occurrences)?,
+        work,
+        rows,
+        turns: 0,
     })
 }

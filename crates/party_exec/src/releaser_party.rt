@@ -11,5 +11,7 @@ use word_rule::ReleaserSeat;
 pub struct ReleaserParty {
     pub(crate) seat: ReleaserSeat,
     pub(crate) book: Book,
+    // how many turns a crew has made of it in this run, for the pace
+    pub(crate) turns: u64,
     ghost booked: { IsBooked seat book },
 }

@@ -2,7 +2,8 @@ use Rattle.std.proofs.Common.{◌≡◌, ℕ, suc, ◌+◌, List, [], ◌∷◌,
 use Rattle.party_exec.specs.Parties.{IsFresh, IsFreshTask}
 use Rattle.party_exec.specs.declared.party.Party.{Party}
 use Rattle.party_exec.specs.declared.party.Party.TheVariants.{Task}
-use Rattle.party_exec.proofs.Fresh.{fresh_push, left_next}
+use Rattle.party_exec.specs.declared.task_party.TaskParty.{TaskParty}
+use Rattle.party_exec.proofs.Fresh.{all_left, fresh_first, fresh_push, left_next, pushed_first}
 use Rattle.party_exec.proofs.begin.parties.Goals as goal
 
 pub loop-party-preserved : goal.loop-party-preserved
@@ -19,4 +20,17 @@ loop-party-preserved c =
       each = λ k p at. fresh_push w c.loop-party.parties (Task c.in-Some.party) old.each (subst (λ (n : ℕ). IsFresh w n (Task c.in-Some.party)) place next.0) k p (ap (λ (l : List Party). slice_get l k) (sym pushed) ∙ at);
       left = next.1;
       all = omega (arith, ap length steps, one, old.all);
+    }
+
+pub loop-party-init : goal.loop-party-init
+loop-party-init c =
+    let w = c.in_ok-words.words in
+    let first = c.in_ok-tasks.ensures in
+    let pushed = pushed_first c.push.new.self c.new-parties.result _ c.in_ok-push.ensures.ok c.new-parties.ensures in
+    let gives = c.into_iter-party-iterator.ensures.into_iter_gives.0 in
+    record {
+      size = ap (λ (l : List Party). length l) pushed;
+      each = fresh_first w c.push.new.self _ pushed first.releaser;
+      left = all_left w c.in_ok-tasks.tasks.items c.into_iter-party-iterator.result.rest.items first.tasks gives;
+      all = omega (arith, ap (λ (l : List TaskParty). length l) gives, first.tasks.size);
     }

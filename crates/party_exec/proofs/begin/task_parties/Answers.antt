@@ -5,8 +5,8 @@ use Rattle.party_exec.specs.declared.task_party.TaskParty.{TaskParty}
 use Rattle.party_exec.proofs.Fresh.{fresh_task_push}
 use Rattle.party_exec.proofs.begin.task_parties.Goals as goal
 
-pub task_party-party-requires : goal.task_party-party-requires
-task_party-party-requires c = subst (λ (n : ℕ). IsFirstTask c.args.words.now n c.split_seat-next.result) (sym c.split_seat-next.ensures.first.task) c.split_seat-next.ensures.first
+pub task_party-requires : goal.task_party-requires
+task_party-requires c = record { first = subst (λ (n : ℕ). IsFirstTask c.args.words.now n c.split_seat-next.result) (sym c.split_seat-next.ensures.first.task) c.split_seat-next.ensures.first }
 
 pub loop-task-preserved : goal.loop-task-preserved
 loop-task-preserved c =
