@@ -1,14 +1,9 @@
 -- How the tasks stand after a run.
 use Rattle.std.proofs.Common.{◌≡◌, ℕ, zero, suc, ◌+◌, ◌<◌, List, length, get_or, slice_get, Some, refl, sym, ◌∙◌, ap, subst, arith}
-use Rattle.dbp_plan.specs.declared.plan.Plan.{Plan}
 use Rattle.dbp_plan.specs.Occurrences.{times_of}
 use Rattle.dbp_plan.specs.Places.{all_place, read_place}
-use Rattle.dbp_rules.specs.Places.{wired}
-use Rattle.word_rule.specs.Roles.{run_wiring}
 use Rattle.word_rule.specs.Seats.{TaskSits}
 use Rattle.word_rule.specs.declared.seats.SlotWords.{SlotWords}
-use Rattle.word_rule.specs.declared.seats.TaskSeat.{TaskSeat}
-use Rattle.word_rule.proofs.TaskCalls.{task_wired, wired_is}
 use Rattle.party_exec.specs.Entries.{task_end}
 use Rattle.party_exec.specs.Parties.{HasFinished, HaveFinished, IsPartyAt}
 use Rattle.party_exec.specs.declared.crew_entry.TaskEnd.{TaskEnd}
@@ -16,11 +11,7 @@ use Rattle.party_exec.specs.declared.party.Party.{Party}
 use Rattle.party_exec.specs.declared.party.Party.TheVariants.{Releaser, Task}
 use Rattle.party_exec.specs.declared.releaser_party.ReleaserParty.{ReleaserParty}
 use Rattle.party_exec.specs.declared.task_party.TaskParty.{TaskParty}
-
--- the task has a time for each of its occurrences
-pub times_count : (w : SlotWords) (s : TaskSeat) → TaskSits w s → length (wired w.wiring s.task).times ≡ length (times_of w.plan.batches s.task)
-times_count w s here =
-    ap (λ x. length x.times) (sym (wired_is w s here)) ∙ ap length (task_wired w s here).times ∙ ap (λ (x : Plan). length (times_of x.batches s.task)) here.1
+use Rattle.party_exec.proofs.Fresh.{time_count}
 
 -- the party is that of the task i, and all occurrences of its task have ended
 pub record IsEnded (w : SlotWords) (i : ℕ) (s : TaskParty) : Type 0 where
@@ -32,7 +23,7 @@ ended_there : (w : SlotWords) (i : ℕ) (s : TaskParty) → IsPartyAt w (suc i) 
 ended_there w i s there done = record {
   here = there.0;
   task = there.1;
-  ended = done ∙ times_count w s.seat there.0 ∙ ap (λ n. length (times_of w.plan.batches n)) there.1;
+  ended = done ∙ time_count w s.seat there.0 ∙ ap (λ n. length (times_of w.plan.batches n)) there.1;
 }
 
 -- the party that was read behind the releaser's and those of the tasks before

@@ -5,11 +5,11 @@ use Rattle.dbp_rules.specs.Start.{start_task}
 use Rattle.dbp_rules.specs.declared.wiring.TaskWiring.{TaskWiring}
 use Rattle.party_exec.specs.Rows.{first_and_zeros}
 use Rattle.party_exec.proofs.Fresh.{first_has, time_count}
-use Rattle.party_exec.proofs.Shutting.{closed, few_places, few_times}
+use Rattle.party_exec.proofs.Shutting.{closed, few_times}
 use Rattle.party_exec.proofs.begin.task_party.Goals as goal
 
 pub start-requires-clause-places : goal.start-requires-clause-places
-start-requires-clause-places c = rw c.declared_of-task.ensures (few_places c.args.words.now c.args.seat c.requires.first.here)
+start-requires-clause-places c = rw c.declared_of-task.ensures (omega (arith, (closed c.args.words.now c.args.seat c.requires.first.here).body))
 
 pub start-requires-clause-outs : goal.start-requires-clause-outs
 start-requires-clause-outs c = rw c.declared_of-task.ensures (closed c.args.words.now c.args.seat c.requires.first.here).outs.1
