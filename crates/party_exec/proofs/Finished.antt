@@ -1,6 +1,6 @@
 -- The rows of parties that have finished are the meaning.
-use Rattle.std.proofs.Common.{◌≡◌, ◌⊎◌, ⊎_elim, ℕ, zero, suc, ℤ, ◌+◌, ◌-◌, ◌<◌, ◌≤◌, List, [], ◌∷◌, ◌++◌, length, get_or, slice_get, Some, refl, sym, ◌∙◌, ap, subst, arith, length-append}
-use Rattle.std.proofs.lemmas.Option.{slice_get-get_or, slice_get_within, same_Some, get_or_from_slice_get}
+use Rattle.std.proofs.Common.{◌≡◌, ⊎_elim, ℕ, zero, suc, ◌-◌, ◌<◌, ◌≤◌, List, [], ◌∷◌, ◌++◌, length, get_or, slice_get, Some, refl, sym, ◌∙◌, ap, subst, arith}
+use Rattle.std.proofs.lemmas.Option.{slice_get_within, get_or_from_slice_get}
 use Rattle.dbp_plan.specs.declared.plan.Plan.{Plan}
 use Rattle.dbp_plan.specs.declared.table.Table.{Table}
 use Rattle.dbp_plan.specs.declared.table.TaskRows.{TaskRows}
@@ -12,13 +12,12 @@ use Rattle.dbp_plan.specs.Table.{HasAllRows, HasRowsOf, row_at}
 use Rattle.sync_meaning.specs.SomeMeaning.{meaning_of, meaning_of-is}
 use Rattle.sync_meaning.specs.SomeMeaningTables.{rows_in, same_table}
 use Rattle.dbp_rules.specs.Places.{wired}
-use Rattle.dbp_rules.specs.declared.wiring.Wiring.{Wiring}
-use Rattle.word_rule.specs.Roles.{meaning_row, run_wiring}
+use Rattle.word_rule.specs.Roles.{run_wiring}
 use Rattle.word_rule.specs.Seats.{TaskSits}
 use Rattle.word_rule.specs.declared.seats.SlotWords.{SlotWords}
 use Rattle.word_rule.proofs.Begins.{get_push}
-use Rattle.word_rule.proofs.TaskCalls.{task_named, task_wired, wired_is}
-use Rattle.party_exec.specs.Computed.{HasMeantRows, last_computed, plan_of_task}
+use Rattle.word_rule.proofs.TaskCalls.{task_wired, wired_is}
+use Rattle.party_exec.specs.Computed.{HasMeantRows, plan_of_task}
 use Rattle.party_exec.specs.Parties.{HasFinished, HaveFinished, IsPartyAt}
 use Rattle.party_exec.specs.Turns.{TaskHasFinished}
 use Rattle.party_exec.specs.declared.party.Party.{Party}

@@ -1,5 +1,5 @@
 -- Parties before the first step.
-use Rattle.std.proofs.Common.{◌≡◌, ◌⊎◌, ⊎_elim, ℕ, zero, suc, ℤ, pos, ◌+◌, ◌*◌, ◌<◌, ◌≤◌, List, [], ◌∷◌, ◌++◌, length, map, take, slice_get, Some, None, refl, sym, ◌∙◌, ap, subst, arith, length-append}
+use Rattle.std.proofs.Common.{◌≡◌, ⊎_elim, ℕ, zero, suc, ℤ, pos, ◌+◌, ◌*◌, ◌<◌, List, [], ◌∷◌, ◌++◌, length, slice_get, Some, None, refl, sym, ◌∙◌, ap, subst, arith, length-append}
 use Rattle.std.specs.Prelude.{replicate}
 use Rattle.std.proofs.lemmas.List.{length-map, length-replicate}
 use Rattle.std.proofs.lemmas.List.FromFn.{get_or-map-range_with_len}
@@ -32,7 +32,7 @@ use Rattle.party_exec.specs.Computed.{HasComputed, HasMeantRows, HasMeantWords, 
 use Rattle.party_exec.specs.Parties.{AreFreshTasks, IsFresh, IsFreshTask}
 use Rattle.party_exec.specs.Rows.{first_and_zeros}
 use Rattle.party_exec.specs.declared.party.Party.{Party}
-use Rattle.party_exec.specs.declared.party.Party.TheVariants.{Releaser, Task}
+use Rattle.party_exec.specs.declared.party.Party.TheVariants.{Releaser}
 use Rattle.party_exec.specs.declared.releaser_party.ReleaserParty.{ReleaserParty}
 use Rattle.party_exec.specs.declared.task_party.TaskParty.{TaskParty}
 

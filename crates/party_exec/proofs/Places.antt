@@ -1,5 +1,5 @@
 -- Parties at their places.
-use Rattle.std.proofs.Common.{◌≡◌, ◌≢◌, ⊎_elim, ℕ, zero, suc, List, length, set, slice_get, Some, refl, sym, ◌∙◌, ap, subst, length-set}
+use Rattle.std.proofs.Common.{◌≡◌, ◌≢◌, ⊎_elim, ℕ, zero, suc, List, set, slice_get, Some, sym, ◌∙◌, subst, length-set}
 use Rattle.sync_meaning.proofs.Sets.{set_cases}
 use Rattle.word_rule.specs.Seats.{ReleaserSits, TaskSits}
 use Rattle.word_rule.specs.declared.seats.SlotWords.{SlotWords}

@@ -1,5 +1,5 @@
 -- Rows that are written in place.
-use Rattle.std.specs.Prelude.{◌≡◌, ℕ, ℤ, pos, ◌+◌, ◌*◌, ◌++◌, List, length, map, replicate}
+use Rattle.std.specs.Prelude.{ℕ, pos, ◌*◌, ◌++◌, length, map, replicate}
 use Rattle.dbp_plan.specs.declared.diagram.Task.{Task}
 use Rattle.dbp_plan.specs.declared.table.TaskRows.{TaskRows}
 

@@ -25,7 +25,11 @@ pub fn parties(alloc: Global, plan: &Plan) -> Result<(SlotWords, List<Party>), N
     let tasks = task_parties(alloc, &words, &mut seat)?;
     let book = Book::new(alloc, plan)?;
     let mut parties = List::new(alloc);
-    parties.push(Party::Releaser(ReleaserParty { seat, book, turns: 0 }))?;
+    parties.push(Party::Releaser(ReleaserParty {
+        seat,
+        book,
+        turns: 0,
+    }))?;
     for party in tasks {
         parties.push(Party::Task(party))?;
     }

@@ -1,5 +1,5 @@
-use Rattle.std.proofs.Common.{◌≡◌, ℕ, suc, ◌+◌, List, [], ◌∷◌, ◌++◌, length, slice_get, sym, ap, ◌∙◌, subst, arith, length-append}
-use Rattle.party_exec.specs.Parties.{IsFresh, IsFreshTask}
+use Rattle.std.proofs.Common.{◌≡◌, ℕ, suc, List, [], ◌∷◌, ◌++◌, length, slice_get, sym, ap, ◌∙◌, subst, arith, length-append}
+use Rattle.party_exec.specs.Parties.{IsFresh}
 use Rattle.party_exec.specs.declared.party.Party.{Party}
 use Rattle.party_exec.specs.declared.party.Party.TheVariants.{Task}
 use Rattle.party_exec.specs.declared.task_party.TaskParty.{TaskParty}

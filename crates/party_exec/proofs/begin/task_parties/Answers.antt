@@ -1,4 +1,4 @@
-use Rattle.std.proofs.Common.{◌≡◌, ℕ, ◌+◌, List, [], ◌∷◌, ◌++◌, length, slice_get, sym, ap, ◌∙◌, subst, arith, length-append}
+use Rattle.std.proofs.Common.{ℕ, List, [], ◌∷◌, length, slice_get, sym, ap, ◌∙◌, subst, arith, length-append}
 use Rattle.word_rule.specs.FirstSeats.{IsFirstTask}
 use Rattle.party_exec.specs.Parties.{IsFreshTask}
 use Rattle.party_exec.specs.declared.task_party.TaskParty.{TaskParty}

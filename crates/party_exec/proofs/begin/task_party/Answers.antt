@@ -1,4 +1,4 @@
-use Rattle.std.proofs.Common.{◌≡◌, ◌≤◌, ◌∙◌, ℕ, ap, length, sym, subst, arith}
+use Rattle.std.proofs.Common.{◌∙◌, ℕ, ap, length, arith}
 use Rattle.dbp_plan.specs.declared.diagram.Task.{Task}
 use Rattle.dbp_rules.specs.Places.{no_task_wiring}
 use Rattle.dbp_rules.specs.Start.{start_task}

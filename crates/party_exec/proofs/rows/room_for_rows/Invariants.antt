@@ -1,4 +1,4 @@
-use Rattle.std.proofs.Common.{◌≡◌, ◌++◌, pos, map, length}
+use Rattle.std.proofs.Common.{◌≡◌, ◌++◌, pos, map}
 use Rattle.std.specs.Prelude.{replicate}
 use Rattle.party_exec.proofs.rows.room_for_rows.Given as goal
 

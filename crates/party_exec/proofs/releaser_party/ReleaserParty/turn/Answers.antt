@@ -1,4 +1,4 @@
-use Rattle.std.proofs.Common.{◌≡◌, ◌≢◌, ◌<◌, length, refl, sym, ap, ◌∙◌, subst, rules}
+use Rattle.std.proofs.Common.{◌≢◌, ◌<◌, length, sym, ◌∙◌, subst, rules}
 use Rattle.dbp_rules.specs.declared.parts.ReleaserPart.{ReleaserPart}
 use Rattle.release_book.specs.declared.release_step.ReleaseStep.TheVariants as release
 use Rattle.party_exec.proofs.Releasers.{allowed_here, is_book, may_here, named_here, next_here, seen_inside, still_booked, unfinished}
