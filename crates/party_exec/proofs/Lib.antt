@@ -8,3 +8,7 @@ pub mod Finished
 pub mod Turned
 pub mod Releasers
 pub mod Shutting
+pub mod SameParties
+pub mod Jobs
+pub mod Ends
+pub mod EachPlace

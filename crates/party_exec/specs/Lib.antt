@@ -3,3 +3,8 @@ pub mod Booked
 pub mod Turns
 pub mod Parties
 pub mod Rows
+pub mod SameSeats
+pub mod Entries
+pub mod Crews
+pub mod Jobs
+pub mod Draws
