@@ -5,7 +5,7 @@ ghost use Rattle.std.specs.Thread.{IsSync};
 ghost use Rattle.party_exec.specs.Crews.{seed_of, turn_ready, turn_runs};
 ghost use Rattle.party_exec.specs.Draws.{after_draw, turn_count};
 ghost use Rattle.party_exec.specs.Entries.{entry_of};
-ghost use Rattle.party_exec.specs.Jobs.{Turned};
+ghost use Rattle.party_exec.specs.Jobs.{MakesTurns};
 ghost use Rattle.party_exec.specs.Parties.{AreFresh, Belongs, HaveFinished};
 ghost use Rattle.party_exec.specs.SameSeats.{AreSame, AreSameParties};
 
@@ -142,7 +142,7 @@ fn turns_between(
 // The party makes as many turns as are drawn.
 fn turns_drawn(draws: &mut SplitMix64, words: &SlotWords, party: &mut Party)
     requires { Belongs words.now party.old }
-    ensures turns { Turned words.now party.old (turn_count draws.old) party.new }
+    ensures turns { MakesTurns words.now party.old (turn_count draws.old) party.new }
     ensures draws { draws.new ≡ after_draw draws.old }
 {
     let turns = draw_turns(draws);
