@@ -7,8 +7,8 @@ use std::test::Fail;
 use std::thread;
 use test_inputs::{THREE_RATES, plan_in};
 
-// How often a party looks for the others before it gives up: some 20 seconds.
-const MOST_POLLS: u32 = 30_000_000;
+// How often a party looks for the others before it gives up: some 20 seconds where the processors are busy.
+const MOST_POLLS: u32 = 8_000_000;
 
 // Before its first turn each of four parties waits until all have come.
 #[derive(Drop)]
@@ -76,19 +76,37 @@ fn four_parties_work_at_once(rt: HostRuntime) -> Result<(), Fail> {
     Ok(())
 }
 
-// One party waits before each of its turns.
+// One party waits before each of its turns, whose numbers are counted beside it.
 #[derive(Drop)]
 struct Holding {
     task: u32,
     polls: u32,
+    turns: AtomicU64,
+    miscounted: AtomicU64,
 }
 
-impl Pace for Holding {
-    fn at(&self, task: u32, _turn: u64) {
-        if task == self.task {
-            for _ in 0..self.polls {
-                thread::yield_now();
-            }
+impl Holding {
+    fn new(task: u32, polls: u32) -> Holding {
+        Holding {
+            task,
+            polls,
+            turns: AtomicU64::new(0),
+            miscounted: AtomicU64::new(0),
+        }
+    }
+}
+
+impl Pace for &Holding {
+    fn at(&self, task: u32, turn: u64) {
+        if task != self.task {
+            return;
+        }
+        let before = self.turns.fetch_add(1, Ordering::SeqCst);
+        if turn != before.wrapping_add(1) {
+            self.miscounted.store(1, Ordering::SeqCst);
+        }
+        for _ in 0..self.polls {
+            thread::yield_now();
         }
     }
 }
@@ -97,9 +115,11 @@ impl Pace for Holding {
 fn a_party_that_is_held_up_changes_nothing(rt: HostRuntime) -> Result<(), Fail> {
     let plan = plan_in(rt.alloc(), THREE_RATES)?;
     for task in 0..4 {
-        let pace = Holding { task, polls: 1000 };
-        let table = table_at(&rt, rt.alloc(), pace, &plan)?;
+        let pace = Holding::new(task, 1000);
+        let table = table_at(&rt, rt.alloc(), &pace, &plan)?;
         assert!(rt; is_meant(rt.alloc(), &plan, &table)?);
+        assert_eq!(rt; pace.miscounted.load(Ordering::SeqCst), 0);
+        assert!(rt; pace.turns.load(Ordering::SeqCst) > 0);
     }
     Ok(())
 }

@@ -7,7 +7,7 @@ use Rattle.std.proofs.lemmas.Option.{get_or_from_slice_get, slice_get-get_or, sl
 use Rattle.word_rule.specs.declared.seats.ReleaserSeat.{ReleaserSeat}
 use Rattle.word_rule.specs.declared.seats.SlotWords.{SlotWords}
 use Rattle.word_rule.specs.declared.seats.TaskSeat.{TaskSeat}
-use Rattle.party_exec.specs.Jobs.{AreJobs, IsCounted, IsCountedTurn, IsJob, Turned, Worked, after_one, at_first, no_turn, one_turn}
+use Rattle.party_exec.specs.Jobs.{AreJobs, IsCounted, IsCountedTurn, IsJob, MakesTurns, HasWorked, after_one, at_first, no_turn, one_turn}
 use Rattle.party_exec.specs.Parties.{AreParties, Belongs, IsPartyAt, IsTurn}
 use Rattle.party_exec.specs.SameSeats.{AreSame, AreSameParties, IsSameParty, IsSameReleaserSeat, IsSameTaskSeat}
 use Rattle.party_exec.specs.declared.party.Party.{Party}
@@ -63,11 +63,11 @@ turn_same w (Task a) (Releaser b) t h = elim h [ ]
 pub counted_turn_same : (w : SlotWords) (p q : Party) (t : Turn) → IsCountedTurn w p q t → IsSameParty p q
 counted_turn_same w p q t h = same_further p h.counted q (counted_same p h.counted h.count) (turn_same w h.counted q t h.turn)
 
-pub worked_same : (w : SlotWords) (p : Party) (made idle : ℕ) (q : Party) → Worked w p made idle q → IsSameParty p q
+pub worked_same : (w : SlotWords) (p : Party) (made idle : ℕ) (q : Party) → HasWorked w p made idle q → IsSameParty p q
 worked_same w p made idle q at_first = same_party p
 worked_same w p made idle q (after_one m i r s t before few quiet more turn) = same_further p r q (worked_same w p m i r before) (counted_turn_same w r q t turn)
 
-pub turned_same : (w : SlotWords) (p : Party) (made : ℕ) (q : Party) → Turned w p made q → IsSameParty p q
+pub turned_same : (w : SlotWords) (p : Party) (made : ℕ) (q : Party) → MakesTurns w p made q → IsSameParty p q
 turned_same w p made q no_turn = same_party p
 turned_same w p made q (one_turn m r s t before turn) = same_further p r q (turned_same w p m r before) (turn_same w r q t turn)
 

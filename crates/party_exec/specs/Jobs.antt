@@ -44,16 +44,16 @@ idle_after idle other = 0
 
 -- A job has made so many turns of a party, of which the last ones, so many, were idle. Before each the party hadn't
 -- finished, and it had made fewer than 4,096 and fewer than 64 idle ones in a row.
-pub data Worked (w : SlotWords) (p : Party) : ℕ → ℕ → Party → Type 0 where
-  at_first : Worked w p 0 0 p
-  after_one : (made idle : ℕ) (q r : Party) (t : Turn) → Worked w p made idle q → made < 4096 → idle < 64 → (HasFinished w q → ⊥)
-      → IsCountedTurn w q r t → Worked w p (made + 1) (idle_after idle t) r
+pub data HasWorked (w : SlotWords) (p : Party) : ℕ → ℕ → Party → Type 0 where
+  at_first : HasWorked w p 0 0 p
+  after_one : (made idle : ℕ) (q r : Party) (t : Turn) → HasWorked w p made idle q → made < 4096 → idle < 64 → (HasFinished w q → ⊥)
+      → IsCountedTurn w q r t → HasWorked w p (made + 1) (idle_after idle t) r
 
--- it stops where the party has finished, or with the last of 4,096 turns, or with the last of 64 idle ones in a row
+-- it stops if the party has finished, with the last of 4,096 turns, or with the last of 64 idle ones in a row
 pub record IsJob (w : SlotWords) (p q : Party) : Type 0 where
   pub made : ℕ
   pub idle : ℕ
-  pub turns : Worked w p made idle q
+  pub turns : HasWorked w p made idle q
   pub stops : HasFinished w q ⊎ ((made ≡ 4096) ⊎ (idle ≡ 64))
 
 -- a job of each party
@@ -62,6 +62,6 @@ AreJobs w ps qs = (k : ℕ) (d : Party) → k < length ps → IsJob w (slice_ind
 
 -- ---- so many turns
 
-pub data Turned (w : SlotWords) (p : Party) : ℕ → Party → Type 0 where
-  no_turn : Turned w p 0 p
-  one_turn : (made : ℕ) (q r : Party) (t : Turn) → Turned w p made q → IsTurn w q r t → Turned w p (made + 1) r
+pub data MakesTurns (w : SlotWords) (p : Party) : ℕ → Party → Type 0 where
+  no_turn : MakesTurns w p 0 p
+  one_turn : (made : ℕ) (q r : Party) (t : Turn) → MakesTurns w p made q → IsTurn w q r t → MakesTurns w p (made + 1) r

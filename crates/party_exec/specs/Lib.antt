@@ -1,10 +1,12 @@
-pub mod Computed
-pub mod Booked
-pub mod Turns
+-- Definitions that public clauses cite.
+pub mod Crews
+pub mod Entries
 pub mod Parties
 pub mod Rows
 pub mod SameSeats
-pub mod Entries
-pub mod Crews
-pub mod Jobs
+pub mod Turns
+-- What private functions, the inside of types and proofs cite.
+pub mod Booked
+pub mod Computed
 pub mod Draws
+pub mod Jobs

@@ -1,5 +1,5 @@
 use Rattle.std.proofs.Common.{◌<◌}
-use Rattle.party_exec.specs.Jobs.{Worked}
+use Rattle.party_exec.specs.Jobs.{HasWorked}
 use Rattle.party_exec.specs.Parties.{Belongs}
 use Rattle.party_exec.proofs.job.job.Given as goal
 
@@ -7,5 +7,5 @@ abbrev pub invariant-loop : goal.invariant-loop
 invariant-loop g l = record {
   here : Belongs l.words l.party;
   quiet : l.idle < 64;
-  turns : Worked l.words l.initial.party l.counter l.idle l.party;
+  turns : HasWorked l.words l.initial.party l.counter l.idle l.party;
 }
