@@ -14,7 +14,7 @@ use word_rule::SlotWords;
 
 /// A crew makes the turns of all parties of a table, until each has finished, and keeps an entry of each run.
 pub trait Crew {
-    ghost use Rattle.std.specs.Prelude.{List, Option};
+    ghost use Rattle.std.specs.Prelude.{ℕ, List, Option};
     ghost use Rattle.dbp_plan.specs.declared.plan.Plan.{Plan};
     ghost use Rattle.party_exec.specs.declared.crew_entry.CrewEntry.{CrewEntry};
 
@@ -24,10 +24,14 @@ pub trait Crew {
     /// The plan for which it is prepared.
     ghost ready: { Self → Option Plan };
 
+    /// The number from which it draws the order of turns; 0 if it draws nothing.
+    ghost seed: { Self → ℕ };
+
     /// Takes all memory that a run of the plan needs.
     fn prepare(&mut self, plan: &Plan) -> Result<(), NoMemory>
         ensures runs { runs self.new ≡ runs self.old }
-        ensures ready { IfOk result (λ _. ready self.new ≡ Some plan.now) };
+        ensures ready { IfOk result (λ _. ready self.new ≡ Some plan.now) }
+        ensures seed { seed self.new ≡ seed self.old };
 
     /// Runs the parties of a table that have made no step, until each has finished. It takes no memory, and may wait.
     fn run<R: Threads + Wait + Sync>(&mut self, rt: &R, words: &SlotWords, parties: &mut [Party])
@@ -37,5 +41,6 @@ pub trait Crew {
         ensures same { AreSameParties parties.old parties.new }
         ensures finished { HaveFinished words.now parties.new }
         ensures runs { runs self.new ≡ runs self.old ++ entry_of words.now.plan ∷ [] }
-        ensures ready { ready self.new ≡ None };
+        ensures ready { ready self.new ≡ None }
+        ensures seed { seed self.new ≡ seed self.old };
 }

@@ -1,10 +1,8 @@
 // A crew of one thread, which draws the turns.
 
-ghost use Rattle.std.specs.Prelude.{◌≡◌, ◌≤◌, [], ◌∷◌, ◌++◌, All, IfOk, None, Some, length};
-ghost use Rattle.std.specs.Thread.{IsSync};
+ghost use Rattle.std.specs.Prelude.{◌≡◌, ◌≤◌, [], All, None, length};
 ghost use Rattle.party_exec.specs.Crews.{seed_of, turn_ready, turn_runs};
 ghost use Rattle.party_exec.specs.Draws.{after_draw, turn_count};
-ghost use Rattle.party_exec.specs.Entries.{entry_of};
 ghost use Rattle.party_exec.specs.Jobs.{MakesTurns};
 ghost use Rattle.party_exec.specs.Parties.{AreFresh, Belongs, HaveFinished};
 ghost use Rattle.party_exec.specs.SameSeats.{AreSame, AreSameParties};
@@ -68,24 +66,13 @@ impl Crew for TurnCrew {
 
     ghost ready = { turn_ready };
 
-    fn prepare(&mut self, plan: &Plan) -> Result<(), NoMemory>
-        ensures runs { turn_runs self.new ≡ turn_runs self.old }
-        ensures ready { IfOk result (λ _. turn_ready self.new ≡ Some plan.now) }
-        ensures seed { seed_of self.new ≡ seed_of self.old }
-    {
+    ghost seed = { seed_of };
+
+    fn prepare(&mut self, plan: &Plan) -> Result<(), NoMemory> {
         self.runs.prepare(plan)
     }
 
-    fn run<R: Threads + Wait + Sync>(&mut self, rt: &R, words: &SlotWords, parties: &mut [Party])
-        requires sync { IsSync R.row }
-        requires ready { turn_ready self.old ≡ Some words.now.plan }
-        requires fresh { AreFresh words.now parties.old }
-        ensures same { AreSameParties parties.old parties.new }
-        ensures finished { HaveFinished words.now parties.new }
-        ensures runs { turn_runs self.new ≡ turn_runs self.old ++ entry_of words.now.plan ∷ [] }
-        ensures ready { turn_ready self.new ≡ None }
-        ensures seed { seed_of self.new ≡ seed_of self.old }
-    {
+    fn run<R: Threads + Wait + Sync>(&mut self, rt: &R, words: &SlotWords, parties: &mut [Party]) {
         run_drawn_rounds(rt, self.seed, words, parties);
         self.runs.close(words, parties);
     }
