@@ -92,12 +92,7 @@ static NEVER: &[Asked] = &[Asked {
 
 static QUIET_ROWS: &[i64] = &[1, 7, 5, 5, 1, -1];
 
-fn ask(
-    rt: &impl Abort,
-    words: &SlotWords,
-    parties: &mut [Party],
-    asked: &Asked,
-) -> Result<(), Fail>
+fn ask(rt: &impl Abort, words: &SlotWords, parties: &mut [Party], asked: &Asked) -> Result<(), Fail>
     requires { AreParties words.now parties.old }
     ensures { AreParties words.now parties.new }
 {

@@ -8,11 +8,7 @@ use std::test::Fail;
 use word_rule::SlotWords;
 
 // The party at this place makes a turn.
-pub(crate) fn turn_of(
-    words: &SlotWords,
-    parties: &mut [Party],
-    place: usize,
-) -> Result<Turn, Fail>
+pub(crate) fn turn_of(words: &SlotWords, parties: &mut [Party], place: usize) -> Result<Turn, Fail>
     requires { AreParties words.now parties.old }
     ensures { AreParties words.now parties.new }
 {
