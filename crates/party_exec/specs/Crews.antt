@@ -13,6 +13,10 @@ thread_runs c = c.runs.entries.items
 abbrev pub thread_ready : {P : Type 0} → ThreadCrew P → Option Plan
 thread_ready c = plan_ready c.runs.next
 
+-- it draws nothing
+abbrev pub no_seed : {P : Type 0} → ThreadCrew P → ℕ
+no_seed c = 0
+
 -- those of a crew of drawn turns, and the number from which it draws
 abbrev pub turn_runs : TurnCrew → List CrewEntry
 turn_runs c = c.runs.entries.items

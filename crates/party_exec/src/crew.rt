@@ -24,8 +24,8 @@ pub trait Crew {
     /// The plan for which it is prepared.
     ghost ready: { Self → Option Plan };
 
-    /// The number from which it draws its turns; 0 for a crew that draws none.
-    ghost seed: { Self → ℕ } = { λ _. 0 };
+    /// The number from which it draws the order of turns; 0 if it draws nothing.
+    ghost seed: { Self → ℕ };
 
     /// Takes all memory that a run of the plan needs.
     fn prepare(&mut self, plan: &Plan) -> Result<(), NoMemory>

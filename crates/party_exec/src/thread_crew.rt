@@ -75,11 +75,13 @@ impl<P: Pace> ThreadCrew<P> {
 }
 
 impl Crew for ThreadCrew<FreePace> {
-    ghost use Rattle.party_exec.specs.Crews.{thread_ready, thread_runs};
+    ghost use Rattle.party_exec.specs.Crews.{no_seed, thread_ready, thread_runs};
 
     ghost runs = { thread_runs };
 
     ghost ready = { thread_ready };
+
+    ghost seed = { no_seed };
 
     fn prepare(&mut self, plan: &Plan) -> Result<(), NoMemory> {
         self.prepare_paced(plan)

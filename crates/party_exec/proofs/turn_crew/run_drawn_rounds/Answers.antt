@@ -1,6 +1,6 @@
 use Rattle.std.proofs.Common.{refl, ◌∙◌}
 use Rattle.party_exec.proofs.Places.{fresh_parties}
-use Rattle.party_exec.proofs.SameParties.{all_belong, all_same, all_there_belong, jobs_same, places_stay, same_all_further, same_parties}
+use Rattle.party_exec.proofs.SameParties.{all_belong, all_same, all_there_belong, places_stay, same_all_further, same_parties}
 use Rattle.party_exec.proofs.turn_crew.run_drawn_rounds.Goals as goal
 
 pub loop-init : goal.loop-init

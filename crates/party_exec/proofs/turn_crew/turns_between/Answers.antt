@@ -1,7 +1,6 @@
 use Rattle.std.proofs.Common.{◌≡◌, ◌<◌, ◌∙◌, length, get_or, set, refl, arith, length-set}
 use Rattle.std.proofs.lemmas.List.{get_or_default}
 use Rattle.party_exec.specs.SameSeats.{AreSame, IsSameParty}
-use Rattle.party_exec.specs.declared.party.Party.{Party}
 use Rattle.party_exec.proofs.SameParties.{all_belong, all_same, set_same, turned_same}
 use Rattle.party_exec.proofs.turn_crew.turns_between.Goals as goal
 
