@@ -7,8 +7,8 @@ use std::test::Fail;
 use std::thread;
 use test_inputs::{THREE_RATES, plan_in};
 
-// How often a party looks for the others before it gives up: some 20 seconds where the processors are busy.
-const MOST_POLLS: u32 = 8_000_000;
+// How often a party looks for the others before it gives up: some 10 seconds, or 20 where the processors are busy.
+const MOST_POLLS: u32 = 4_000_000;
 
 // Before its first turn each of four parties waits until all have come.
 #[derive(Drop)]
