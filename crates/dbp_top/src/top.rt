@@ -5,8 +5,8 @@ ghost use Rattle.dbp_top.specs.Ends.{Answered, Ends};
 
 use crate::Status;
 use crate::answer::answer;
-use crate::command::command_of;
 use crate::outside::{ReadStop, read_all, write_all};
+use crate::table::command_of;
 use dbp_plan::{Sink, Source};
 use std::alloc::Global;
 
