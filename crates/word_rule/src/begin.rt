@@ -27,6 +27,18 @@ impl SlotWords {
         ensures releaser { IfOk result (λ made. IsFirstReleaser made.0 made.1) }
         ensures tasks { IfOk result (λ made. AreFirstTasks made.0 made.2) }
     {
+        let (words, mut seat) = SlotWords::begin(alloc, plan)?;
+        let tasks = words.split_seats(alloc, &mut seat)?;
+        Ok((words, seat, tasks))
+    }
+
+    /// The words of the plan before the first step, and the releaser's seat. Each task's seat is then split off the
+    /// releaser's by `split_seat`; `new` does both. Where memory runs out the plan is given up.
+    pub fn begin(alloc: Global, plan: Plan) -> Result<(SlotWords, ReleaserSeat), NoMemory>
+        ensures plan { IfOk result (λ made. made.0.plan ≡ plan) }
+        ensures releaser { IfOk result (λ made. IsFirstReleaser made.0 made.1) }
+        ensures none { IfOk result (λ made. split_off made.1 ≡ 0) }
+    {
         let wiring = wire_plan(alloc, &plan, Count::All)?;
         let layout = layout(&plan.diagram);
         let State { releaser, .. } = start_state(alloc, &plan, &wiring)?;
@@ -39,12 +51,11 @@ impl SlotWords {
             wiring,
             layout,
         };
-        let mut seat = ReleaserSeat {
+        let seat = ReleaserSeat {
             seat,
             part: releaser,
         };
-        let tasks = words.split_seats(alloc, &mut seat)?;
-        Ok((words, seat, tasks))
+        Ok((words, seat))
     }
 
     // The seats of all tasks.
@@ -66,8 +77,9 @@ impl SlotWords {
         Ok(seats)
     }
 
-    // The seat of the next task.
-    fn split_seat(&self, seat: &mut ReleaserSeat, task: u32) -> TaskSeat
+    /// Splits the seat of the next task off the releaser's. The tasks go in order, so each has one seat at most. It touches
+    /// no word and takes no memory.
+    pub fn split_seat(&self, seat: &mut ReleaserSeat, task: u32) -> TaskSeat
         requires here { ReleaserSits self.now seat.old }
         requires next { task ≡ split_off seat.old }
         requires task { task < length self.now.plan.diagram.tasks }

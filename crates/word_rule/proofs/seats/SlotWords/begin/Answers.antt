@@ -4,7 +4,7 @@ use Rattle.dbp_rules.specs.declared.state.State.{State}
 use Rattle.dbp_rules.specs.declared.wiring.Wiring.{Wiring}
 use Rattle.word_rule.specs.FirstWords.{HasFirstNumbers}
 use Rattle.word_rule.proofs.Begins.{begins, first_seat}
-use Rattle.word_rule.proofs.seats.SlotWords.new.Goals as goal
+use Rattle.word_rule.proofs.seats.SlotWords.begin.Goals as goal
 
 pub of_words-requires : goal.of_words-requires
 of_words-requires c = begins c.args.plan c.as_slice.result.now c.first_values_have_64_bits.ensures (subst (HasFirstNumbers c.args.plan) (sym c.as_slice.ensures.value) c.in_ok-start.ensures)

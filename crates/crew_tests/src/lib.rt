@@ -1,0 +1,9 @@
+//! Tests of crews.
+#![tactic(auto)]
+
+#[cfg(test)]
+mod crews;
+#[cfg(test)]
+mod paces;
+#[cfg(test)]
+mod runs;

@@ -1,0 +1,67 @@
+-- What a crew makes of a party: a job of one round, and so many turns.
+use Rattle.std.specs.Prelude.{◌≡◌, ◌⊎◌, ℕ, ◌+◌, ◌-◌, ◌<◌, ◌^◌, List, length, min, slice_index_or}
+use Rattle.word_rule.specs.declared.seats.SlotWords.{SlotWords}
+use Rattle.party_exec.specs.Parties.{HasFinished, IsTurn}
+use Rattle.party_exec.specs.declared.party.Party.{Party}
+use Rattle.party_exec.specs.declared.party.Party.TheVariants.{Releaser, Task}
+use Rattle.party_exec.specs.declared.turn.Turn.{Turn}
+use Rattle.party_exec.specs.declared.turn.Turn.TheVariants.{Idle}
+
+-- ---- what a pace is told
+
+-- the number of the turn after so many; it stays at the last number of 64 bits
+abbrev pub next_turn : ℕ → ℕ
+next_turn turns = min (turns + 1) (2 ^ 64 - 1)
+
+-- how many turns a crew has made of the party
+abbrev pub turns_made : Party → ℕ
+turns_made (Releaser s) = s.turns
+turns_made (Task s) = s.turns
+
+-- the same party, with one turn more in its count
+abbrev pub IsCounted : Party → Party → Type 0
+IsCounted (Releaser old) (Releaser new) = (new.seat ≡ old.seat) × (new.book ≡ old.book) × (new.turns ≡ next_turn old.turns)
+IsCounted (Task old) (Task new) = (new.seat ≡ old.seat) × (new.work ≡ old.work) × (new.rows ≡ old.rows) × (new.turns ≡ next_turn old.turns)
+IsCounted _ _ = ⊥
+
+-- the number of the task; of the releaser the number of tasks
+abbrev pub number_of : SlotWords → Party → ℕ
+number_of w (Releaser s) = length w.plan.diagram.tasks
+number_of w (Task s) = s.seat.task
+
+-- a turn that was counted first
+pub record IsCountedTurn (w : SlotWords) (old new : Party) (t : Turn) : Type 0 where
+  pub counted : Party
+  pub count : IsCounted old counted
+  pub turn : IsTurn w counted new t
+
+-- ---- a job of one round
+
+-- how many turns in a row were idle, after this one
+abbrev pub idle_after : ℕ → Turn → ℕ
+idle_after idle (Idle cause) = idle + 1
+idle_after idle other = 0
+
+-- A job has made so many turns of a party, of which the last ones, so many, were idle. Before each the party hadn't
+-- finished, and it had made fewer than 4,096 and fewer than 64 idle ones in a row.
+pub data HasWorked (w : SlotWords) (p : Party) : ℕ → ℕ → Party → Type 0 where
+  at_first : HasWorked w p 0 0 p
+  after_one : (made idle : ℕ) (q r : Party) (t : Turn) → HasWorked w p made idle q → made < 4096 → idle < 64 → (HasFinished w q → ⊥)
+      → IsCountedTurn w q r t → HasWorked w p (made + 1) (idle_after idle t) r
+
+-- it stops if the party has finished, with the last of 4,096 turns, or with the last of 64 idle ones in a row
+pub record IsJob (w : SlotWords) (p q : Party) : Type 0 where
+  pub made : ℕ
+  pub idle : ℕ
+  pub turns : HasWorked w p made idle q
+  pub stops : HasFinished w q ⊎ ((made ≡ 4096) ⊎ (idle ≡ 64))
+
+-- a job of each party
+abbrev pub AreJobs : SlotWords → List Party → List Party → Type 0
+AreJobs w ps qs = (k : ℕ) (d : Party) → k < length ps → IsJob w (slice_index_or ps k d) (slice_index_or qs k d)
+
+-- ---- so many turns
+
+pub data MakesTurns (w : SlotWords) (p : Party) : ℕ → Party → Type 0 where
+  no_turn : MakesTurns w p 0 p
+  one_turn : (made : ℕ) (q r : Party) (t : Turn) → MakesTurns w p made q → IsTurn w q r t → MakesTurns w p (made + 1) r

@@ -1,0 +1,25 @@
+// What is drawn for the turns of a round.
+
+ghost use Rattle.std.specs.Prelude.{◌≡◌, ◌<◌};
+ghost use Rattle.party_exec.specs.Draws.{after_draw, first_place, turn_count};
+
+use rand_core::utils::NextWord;
+use rand_xoshiro::SplitMix64;
+
+// The place at which a round begins, of so many.
+pub(crate) fn draw_place(draws: &mut SplitMix64, count: usize) -> usize
+    requires { 0 < count }
+    ensures place { result ≡ first_place count draws.old }
+    ensures below { result < count }
+    ensures draws { draws.new ≡ after_draw draws.old }
+{
+    (draws.next_word() % count as u64) as usize
+}
+
+// How many turns a party makes.
+pub(crate) fn draw_turns(draws: &mut SplitMix64) -> u64
+    ensures turns { result ≡ turn_count draws.old }
+    ensures draws { draws.new ≡ after_draw draws.old }
+{
+    draws.next_word() % 3 + 1
+}

@@ -1,0 +1,17 @@
+// The party of the releaser.
+
+ghost use Rattle.party_exec.specs.Booked.{IsBooked};
+
+use release_book::Book;
+use word_rule::ReleaserSeat;
+
+/// The party of the releaser: its seat and its book. By its type the book is made for the seat's plan, and has the part
+/// that the seat has.
+#[derive(Drop)]
+pub struct ReleaserParty {
+    pub(crate) seat: ReleaserSeat,
+    pub(crate) book: Book,
+    // how many turns a crew has made of it in this run, for the pace
+    pub(crate) turns: u64,
+    ghost booked: { IsBooked seat book },
+}

@@ -1,0 +1,133 @@
+// A crew with a thread for each party.
+
+ghost use Rattle.std.specs.Prelude.{◌≡◌, [], ◌∷◌, ◌++◌, All, IfOk, None, Some};
+ghost use Rattle.party_exec.specs.Crews.{thread_ready, thread_runs};
+ghost use Rattle.party_exec.specs.Entries.{entry_of};
+ghost use Rattle.party_exec.specs.Jobs.{AreJobs, IsJob};
+ghost use Rattle.party_exec.specs.Parties.{AreFresh, Belongs, HaveFinished};
+ghost use Rattle.party_exec.specs.SameSeats.{AreSameParties};
+
+use crate::all_parties::have_finished;
+use crate::crew::Crew;
+use crate::crew_entry::CrewEntry;
+use crate::job::job;
+use crate::pace::{FreePace, Pace};
+use crate::party::Party;
+use crate::runs::Runs;
+use dbp_plan::{NoMemory, Plan};
+use std::alloc::Global;
+use std::sync::Wait;
+use std::thread;
+use std::thread::Threads;
+use word_rule::SlotWords;
+
+/// A crew that works in rounds. In each, every party is a job in a thread of its own.
+#[derive(Drop)]
+pub struct ThreadCrew<P: Pace> {
+    pace: P,
+    pub(crate) runs: Runs,
+}
+
+impl<P: Pace> ThreadCrew<P> {
+    /// A crew without runs.
+    pub fn new(alloc: Global, pace: P) -> ThreadCrew<P>
+        ensures runs { thread_runs result ≡ [] }
+        ensures ready { thread_ready result ≡ None }
+    {
+        ThreadCrew {
+            pace,
+            runs: Runs::new(alloc),
+        }
+    }
+
+    /// The entries of its runs, the first one first.
+    pub fn runs(&self) -> &[CrewEntry]
+        ensures { result.now ≡ thread_runs self.now }
+    {
+        self.runs.entries.as_slice()
+    }
+
+    /// Takes all memory that a run of the plan needs.
+    pub fn prepare_paced(&mut self, plan: &Plan) -> Result<(), NoMemory>
+        ensures runs { thread_runs self.new ≡ thread_runs self.old }
+        ensures ready { IfOk result (λ _. thread_ready self.new ≡ Some plan.now) }
+    {
+        self.runs.prepare(plan)
+    }
+
+    /// Runs the parties as `Crew::run` does, at every pace: the pace is called before each turn.
+    pub fn run_paced<R: Threads + Wait + Sync>(
+        &mut self,
+        rt: &R,
+        words: &SlotWords,
+        parties: &mut [Party],
+    )
+        requires ready { thread_ready self.old ≡ Some words.now.plan }
+        requires fresh { AreFresh words.now parties.old }
+        ensures same { AreSameParties parties.old parties.new }
+        ensures finished { HaveFinished words.now parties.new }
+        ensures runs { thread_runs self.new ≡ thread_runs self.old ++ entry_of words.now.plan ∷ [] }
+        ensures ready { thread_ready self.new ≡ None }
+    {
+        run_rounds(rt, &self.pace, words, parties);
+        self.runs.close(words, parties);
+    }
+}
+
+impl Crew for ThreadCrew<FreePace> {
+    ghost use Rattle.party_exec.specs.Crews.{no_seed, thread_ready, thread_runs};
+
+    ghost runs = { thread_runs };
+
+    ghost ready = { thread_ready };
+
+    ghost seed = { no_seed };
+
+    fn prepare(&mut self, plan: &Plan) -> Result<(), NoMemory> {
+        self.prepare_paced(plan)
+    }
+
+    fn run<R: Threads + Wait + Sync>(&mut self, rt: &R, words: &SlotWords, parties: &mut [Party]) {
+        self.run_paced(rt, words, parties)
+    }
+}
+
+// Rounds until all parties have finished.
+fn run_rounds<R: Threads + Wait + Sync, P: Pace>(
+    rt: &R,
+    pace: &P,
+    words: &SlotWords,
+    parties: &mut [Party],
+)
+    requires { AreFresh words.now parties.old }
+    ensures same { AreSameParties parties.old parties.new }
+    ensures finished { HaveFinished words.now parties.new }
+{
+    for _ in rt.forever() {
+        if have_finished(words, parties) {
+            return;
+        }
+        round(rt, pace, words, parties);
+    }
+    unreachable!()
+}
+
+// A round: the job of each party, in as many threads as there are parties.
+fn round<R: Threads + Sync, P: Pace>(rt: &R, pace: &P, words: &SlotWords, parties: &mut [Party])
+    requires { All (Belongs words.now) parties.old }
+    ensures { AreJobs words.now parties.old parties.new }
+{
+    if parties.is_empty() {
+        return;
+    }
+    let threads = parties.len();
+    thread::for_each_mut(
+        rt,
+        parties,
+        threads,
+        &|_: usize, party: &mut Party|
+            requires { Belongs words.now party.now }
+            ensures { IsJob words.entry.now party.entry.now party.exit.now }
+        { job(pace, words, party) },
+    );
+}
