@@ -1,5 +1,7 @@
 pub mod CommandRows
+pub mod CrewRuns
 pub mod Endings
+pub mod MeantTables
 pub mod AnswerLaws
 pub mod StopLaws
 pub mod Streams

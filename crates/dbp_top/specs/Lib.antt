@@ -6,5 +6,6 @@ pub mod Outside
 pub mod OverrunLines
 pub mod Patterns
 pub mod Refusals
+pub mod Runs
 pub mod SlotLines
 pub mod Stops

@@ -10,6 +10,8 @@ pub(crate) enum Command {
     Mean,
     /// Simulates the plan in virtual time, and writes the lines of the table or the steps of the record.
     Sim { record_it: bool },
+    /// Runs the plan, and writes the lines of the table: by the crew at hand, or by turns drawn from a number.
+    Run { turns: Option<u64> },
     /// Writes the canonical text.
     Form,
     /// Writes the slots of each task.
@@ -31,7 +33,10 @@ pub(crate) struct Numbers {
 pub(crate) fn with_numbers(command: Command, numbers: Numbers) -> Command
     ensures { result ≡ with_numbers command numbers }
 {
-    // no command has numbers yet
-    let _numbers = numbers;
-    command
+    match command {
+        Command::Run { turns: Some(_) } => Command::Run {
+            turns: Some(numbers.number),
+        },
+        _ => command,
+    }
 }

@@ -9,6 +9,7 @@ mod overrun_line;
 mod pattern;
 mod plan;
 mod refusal;
+mod run;
 mod slot_lines;
 mod status;
 mod stop;

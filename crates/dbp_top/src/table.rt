@@ -19,7 +19,7 @@ struct Row {
 
 // All commands. What a user is told of them is made of this table too. The numbers of a command's words stand in the
 // place of those that it has here.
-static ROWS: [Row; 7] = [
+static ROWS: [Row; 10] = [
     Row {
         patterns: &[Pattern::Word("mean")],
         command: Command::Mean,
@@ -31,6 +31,22 @@ static ROWS: [Row; 7] = [
     Row {
         patterns: &[Pattern::Word("sim"), Pattern::Word("--record")],
         command: Command::Sim { record_it: true },
+    },
+    Row {
+        patterns: &[Pattern::Word("run")],
+        command: Command::Run { turns: None },
+    },
+    Row {
+        patterns: &[
+            Pattern::Word("run"),
+            Pattern::Word("--turns"),
+            Pattern::Number(""),
+        ],
+        command: Command::Run { turns: Some(0) },
+    },
+    Row {
+        patterns: &[Pattern::Word("run"), Pattern::Number("--turns=")],
+        command: Command::Run { turns: Some(0) },
     },
     Row {
         patterns: &[Pattern::Word("form")],
