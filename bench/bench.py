@@ -124,6 +124,7 @@ def main() -> None:
         *(("sim --record", f"{n} preemptions", preempted(n)) for n in (25_000, 50_000, 99_999)),
         *(("sim", f"32 tasks of 63 nodes, {n}", many_tasks(n)) for n in (24_000, 48_000, 96_000)),
         ("sim --record", "32 tasks of 63 nodes, 96000", many_tasks(96_000)),
+        *((command, "32 tasks of 63 nodes, 96000", many_tasks(96_000)) for command in ("run", "run --turns 1")),
         ("plan", "0.9 MB of expressions", expressions()),
         ("form", "0.9 MB of expressions", expressions()),
         ("form", "1,000,000 blank lines", many_lines("\n")),

@@ -2,7 +2,8 @@
 
 NO_COMMANDS = (
     "", "Mean", "forms", "mea", "sim --fast", "sim --record --record", "sim mean", "--record", "-h", "--help", "--form", "mean mean", "mean form", "mean --ranked", "replay ranked",
-    "replay --ranked --ranked",
+    "replay --ranked --ranked", "run 9", "run --turns", "run --turns=", "run --turns N", "run --turns -1", "run --turns +1", "run --turns 0x9", "run --turns 9 9",
+    "run --turns= 9", "run --turns=9 9", "run --turns 18446744073709551616", "run --turns 000000000000000000009", "run --turns=99999999999999999999", "--turns 9", "mean --turns 9",
 )
 
 

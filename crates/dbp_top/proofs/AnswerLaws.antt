@@ -29,7 +29,7 @@ use Rattle.trace_io.specs.declared.code.Code.{Code}
 use Rattle.trace_io.specs.declared.code.Code.TheVariants.{Reading, Checking, Tracing}
 use Rattle.trace_io.specs.Lines.{lines_of}
 use Rattle.trace_io.specs.Texts.{Accepts, Refuses, IsSameCode}
-use Rattle.dbp_top.specs.Answer.{Answers, IsInTime, IsOverrunLine, IsRefused, Makes, Overruns, PlanOverrun, PlanRefusal, PlanText, canonical, count_of, illegal, line_of, made, meaning, needs_plan, no_plan, no_script, no_text, of_plan, of_plan_overrun, of_plan_refused, overran, overrun, record_of, refused, replay, simulation, slots}
+use Rattle.dbp_top.specs.Answer.{Answers, IsInTime, IsOverrunLine, IsRefused, Makes, Overruns, PlanOverrun, PlanRefusal, PlanText, canonical, count_of, illegal, line_of, made, meaning, needs_plan, no_plan, no_script, no_text, of_plan, of_plan_overrun, of_plan_refused, overran, overrun, record_of, refused, replay, run_of, simulation, slots}
 use Rattle.dbp_top.specs.OverrunLines.{overrun_line}
 use Rattle.dbp_top.specs.Refusals.{check_name, code_text, refusal_line}
 use Rattle.dbp_top.specs.SlotLines.{slot_lines}
@@ -64,6 +64,7 @@ same-line line other a b lines texts = rw (lines, texts) refl
 text-of-plan : (doc : Doc) (p : Plan) (command : Command) (text : List ℕ) → PlanText doc p command text → needs_plan command ≡ true
 text-of-plan doc p command text (meaning y here) = refl
 text-of-plan doc p command text (simulation y in_time here) = refl
+text-of-plan doc p command text (run_of turns y here) = refl
 text-of-plan doc p command text (record_of es is) = refl
 text-of-plan doc p command text slots = refl
 text-of-plan doc p command text (replay ranked es a script is) = refl
@@ -77,6 +78,7 @@ one-plan-text : (one_meaning : (p : Plan) (y z : Table) → IsMeaning p.diagram 
     (doc : Doc) (p : Plan) (command : Command) (text other : List ℕ) → PlanText doc p command text → PlanText doc p command other → text ≡ other
 one-plan-text one doc p command text other (meaning y here) (meaning z there) = ap (λ (t : Table). lines_of p.diagram p.batches t) (one p y z here there)
 one-plan-text one doc p command text other (simulation y in_time here) (simulation z also there) = ap (λ (t : Table). lines_of p.diagram p.batches t) (one p y z here there)
+one-plan-text one doc p command text other (run_of turns y here) (run_of others z there) = ap (λ (t : Table). lines_of p.diagram p.batches t) (one p y z here there)
 one-plan-text one doc p command text other (record_of es is) (record_of fs was) = ap (λ (gs : List Step). script_text p.diagram gs) (one_record p es fs is was)
 one-plan-text one doc p command text other slots slots = refl
 one-plan-text one doc p command text other (replay ranked es a script is) (replay ranked' fs b also was) =
@@ -86,6 +88,7 @@ one-plan-text one doc p command text other (replay ranked es a script is) (repla
 no-plan-refusal : (doc : Doc) (p : Plan) (command : Command) (text : List ℕ) (r : Refusal) → PlanText doc p command text → PlanRefusal doc p command r → ⊥
 no-plan-refusal doc p command text r (meaning y here) refuses = elim refuses [ ]
 no-plan-refusal doc p command text r (simulation y in_time here) refuses = elim refuses [ ]
+no-plan-refusal doc p command text r (run_of turns y here) refuses = elim refuses [ ]
 no-plan-refusal doc p command text r (record_of es is) refuses = elim refuses [ ]
 no-plan-refusal doc p command text r slots refuses = elim refuses [ ]
 no-plan-refusal doc p command text r (replay ranked es a script is) (no_script ranked' l c fault) = script-no-fault p.diagram doc es l c script fault
@@ -116,6 +119,7 @@ in-time p t x none late = none.none t x late.late
 no-plan-overrun : (doc : Doc) (p : Plan) (command : Command) (text : List ℕ) (x : Instance) (t : ℕ) → PlanText doc p command text → PlanOverrun p command x t → ⊥
 no-plan-overrun doc p command text x t (meaning y here) late = elim late [ ]
 no-plan-overrun doc p command text x t (simulation y none here) (overrun record_it z u late) = in-time p t x none late
+no-plan-overrun doc p command text x t (run_of turns y here) late = elim late [ ]
 no-plan-overrun doc p command text x t (record_of es is) (overrun record_it z u late) = in-time p t x is.in_time late
 no-plan-overrun doc p command text x t slots late = elim late [ ]
 no-plan-overrun doc p command text x t (replay ranked es a script is) late = elim late [ ]

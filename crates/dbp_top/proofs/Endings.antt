@@ -1,15 +1,19 @@
--- How a call ends that read its input to the end and wrote its text.
-use Rattle.std.proofs.Common.{ℕ, ◌++◌, List, Option, Some, None, sym, ◌∙◌, ap, subst, String, Global}
+-- How a call ends that read its input, and wrote its text.
+use Rattle.std.proofs.Common.{◌≡◌, ◌≤◌, ℕ, ◌++◌, Bool, true, List, Option, Some, None, Result, Err, length, refl, sym, ◌∙◌, ap, subst, String, Global}
 use Rattle.std.specs.Prelude.{IfSome}
 use Rattle.std.proofs.lemmas.List.{append-nil}
-use Rattle.std.specs.Io.KnownBytes.{Consumes, IsAtEnd}
+use Rattle.std.specs.Io.KnownBytes.{Appends, Consumes, IsAtEnd}
+use Rattle.dbp_plan.specs.Faults.{Rose}
 use Rattle.dbp_top.specs.Answer.{Answers, made, overran, refused}
 use Rattle.dbp_top.specs.Commands.{Names}
-use Rattle.dbp_plan.specs.Faults.{Rose}
-use Rattle.dbp_top.specs.Ends.{Ends, WroteWhole, Answered, no_command, overrun, refusal, text, too_large, no_memory, whole}
+use Rattle.dbp_top.specs.Ends.{Answered, Ends, EndsAs, WroteWhole, no_command, no_memory, overrun, refusal, text, too_large, whole}
+use Rattle.dbp_top.specs.Outside.{StopsReading, status_of_read}
 use Rattle.dbp_top.specs.declared.command.Command.{Command}
+use Rattle.dbp_top.specs.declared.outside.ReadStop.{ReadStop}
+use Rattle.dbp_top.specs.declared.outside.ReadStop.TheVariants as stop
 use Rattle.dbp_top.specs.declared.status.Status.{Status}
 use Rattle.dbp_top.specs.declared.status.Status.TheVariants.{Ok, Overrun, Refused, Usage, ReadFault, WriteFault, NoMemory, TooLarge}
+use Rattle.dbp_top.specs.declared.top.TheConstants.{MAX_DOCUMENT}
 
 -- what was taken up to the end is the whole input
 pub whole-input : (old new : Option (List ℕ)) (bytes : List ℕ) (P : List ℕ → Type 0) → Consumes old new bytes → IsAtEnd new → P bytes → IfSome old P
@@ -17,23 +21,52 @@ whole-input None new bytes P consumes end holds = tt
 whole-input (Some xs) (Some ys) bytes P consumes end holds = subst P (sym (consumes ∙ ap (λ (l : List ℕ). bytes ++ l) end ∙ append-nil bytes)) holds
 whole-input (Some xs) None bytes P consumes end holds = absurd consumes
 
-pub ends-whole : {S K : Type 0} (left : S → Option (List ℕ)) (source_faults : S → ℕ) (written : K → Option (List ℕ)) (sink_faults : K → ℕ) (words : List (String Global)) (source new_source : S) (sink new_sink : K)
-    (input : List ℕ) (command : Command) (status : Status) (text : List ℕ) → Names words command → Answers input command status text
-    → WroteWhole left source_faults written sink_faults source new_source sink new_sink command status → Ends left source_faults written sink_faults words source new_source sink new_sink status
-ends-whole left sf written kf words s t k l input command status written_text named (made made_text makes) wrote = (command, named, wrote)
-ends-whole left sf written kf words s t k l input command status written_text named (refused why is) wrote = (command, named, wrote)
-ends-whole left sf written kf words s t k l input command status written_text named (overran line is) wrote = (command, named, wrote)
+module _ {S K : Type 0} (left : S → Option (List ℕ)) (source_faults : S → ℕ) (written : K → Option (List ℕ)) (sink_faults : K → ℕ) where
+  ends-whole : (command : Command) (source new_source : S) (sink new_sink : K) (input output : List ℕ) (status : Status) → Answers input command status output
+      → WroteWhole left source_faults written sink_faults source new_source sink new_sink command status → EndsAs left source_faults written sink_faults command source new_source sink new_sink status
+  ends-whole command s t k l input written_text status (made made_text makes) wrote = wrote
+  ends-whole command s t k l input written_text status (refused why is) wrote = wrote
+  ends-whole command s t k l input written_text status (overran line is) wrote = wrote
 
--- where nothing failed, the call was answered
-pub answered-without-faults : {S K : Type 0} (left : S → Option (List ℕ)) (source_faults : S → ℕ) (written : K → Option (List ℕ)) (sink_faults : K → ℕ) (words : List (String Global)) (source new_source : S) (sink new_sink : K) (status : Status)
-    → Ends left source_faults written sink_faults words source new_source sink new_sink status
-    → (Rose (source_faults source) (source_faults new_source) → ⊥) → (Rose (sink_faults sink) (sink_faults new_sink) → ⊥)
-    → Answered left source_faults written sink_faults words source new_source sink new_sink status
-answered-without-faults left sf written kf words s t k l Ok ends reads writes = whole ends.0 Ok text ends.1 ends.2
-answered-without-faults left sf written kf words s t k l Refused ends reads writes = whole ends.0 Refused refusal ends.1 ends.2
-answered-without-faults left sf written kf words s t k l Overrun ends reads writes = whole ends.0 Overrun overrun ends.1 ends.2
-answered-without-faults left sf written kf words s t k l Usage ends reads writes = no_command ends.0 ends.1 ends.2
-answered-without-faults left sf written kf words s t k l ReadFault ends reads writes = absurd (reads ends.2.fault)
-answered-without-faults left sf written kf words s t k l WriteFault ends reads writes = absurd (writes ends.2.fault)
-answered-without-faults left sf written kf words s t k l NoMemory ends reads writes = no_memory ends.0 ends.1 ends.2
-answered-without-faults left sf written kf words s t k l TooLarge ends reads writes = too_large ends.0 ends.1 ends.2
+  -- a call that read its input to the end, and wrote its answer whole, ends as its command's
+  pub ends-written : (command : Command) (source new_source : S) (sink new_sink : K) (input output : List ℕ) (status : Status)
+      → (length input ≤ MAX_DOCUMENT) × Consumes (left source) (left new_source) input → IsAtEnd (left new_source) × (source_faults new_source ≡ source_faults source)
+      → Answers input command status output → Appends (written sink) (written new_sink) output × (sink_faults new_sink ≡ sink_faults sink)
+      → EndsAs left source_faults written sink_faults command source new_source sink new_sink status
+  ends-written command source new_source sink new_sink input output status bytes end answered wrote =
+      ends-whole command source new_source sink new_sink input output status answered (record {
+        read = record {
+          end = end.0;
+          taken = (input, bytes.1, bytes.0);
+          fits = whole-input _ _ input (λ l. length l ≤ MAX_DOCUMENT) bytes.1 end.0 bytes.0;
+          no_fault = end.1;
+        };
+        wrote = whole-input _ _ input (λ l. (x : List ℕ) × Answers l command status x × Appends (written sink) (written new_sink) x) bytes.1 end.0 (output, answered, wrote.0);
+        no_fault = wrote.1;
+      })
+
+  -- the words of a call that ended as its command's
+  pub ends-named : (serves : Command → Bool) (words : List (String Global)) (command : Command) (source new_source : S) (sink new_sink : K) (status : Status) → Names words command → serves command ≡ true
+      → EndsAs left source_faults written sink_faults command source new_source sink new_sink status → Ends left source_faults written sink_faults serves words source new_source sink new_sink status
+  ends-named serves words command s t k l Ok named served ends = (command, named, served, ends)
+  ends-named serves words command s t k l Refused named served ends = (command, named, served, ends)
+  ends-named serves words command s t k l Overrun named served ends = (command, named, served, ends)
+  ends-named serves words command s t k l Usage named served ends = absurd ends
+  ends-named serves words command s t k l ReadFault named served ends = (command, named, served, ends)
+  ends-named serves words command s t k l WriteFault named served ends = (command, named, served, ends)
+  ends-named serves words command s t k l NoMemory named served ends = (command, named, served, ends)
+  ends-named serves words command s t k l TooLarge named served ends = (command, named, served, ends)
+
+  -- where nothing failed, the call was answered
+  pub answered-without-faults : (serves : Command → Bool) (words : List (String Global)) (source new_source : S) (sink new_sink : K) (status : Status)
+      → Ends left source_faults written sink_faults serves words source new_source sink new_sink status
+      → (Rose (source_faults source) (source_faults new_source) → ⊥) → (Rose (sink_faults sink) (sink_faults new_sink) → ⊥)
+      → Answered left source_faults written sink_faults serves words source new_source sink new_sink status
+  answered-without-faults serves words s t k l Ok ends reads writes = whole ends.0 Ok text ends.1 ends.2 ends.3
+  answered-without-faults serves words s t k l Refused ends reads writes = whole ends.0 Refused refusal ends.1 ends.2 ends.3
+  answered-without-faults serves words s t k l Overrun ends reads writes = whole ends.0 Overrun overrun ends.1 ends.2 ends.3
+  answered-without-faults serves words s t k l Usage ends reads writes = no_command ends.0 ends.1 ends.2
+  answered-without-faults serves words s t k l ReadFault ends reads writes = absurd (reads ends.3.1.fault)
+  answered-without-faults serves words s t k l WriteFault ends reads writes = absurd (writes ends.3.fault)
+  answered-without-faults serves words s t k l NoMemory ends reads writes = no_memory ends.0 ends.1 ends.2 ends.3
+  answered-without-faults serves words s t k l TooLarge ends reads writes = too_large ends.0 ends.1 ends.2 ends.3.0 ends.3.1

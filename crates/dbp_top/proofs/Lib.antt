@@ -1,6 +1,9 @@
-pub mod Commands
+pub mod CommandRows
+pub mod CrewRuns
 pub mod Endings
+pub mod MeantTables
 pub mod AnswerLaws
 pub mod StopLaws
 pub mod Streams
 pub mod SlotLineLaws
+pub mod WordForms

@@ -1,5 +1,6 @@
 -- What stops tell of an input and a command.
-use Rattle.std.proofs.Common.{◌≡◌, ℕ, List, Bool, true}
+use Rattle.std.proofs.Common.{◌≡◌, ℕ, List, Option, Bool, true, Result, Ok, Err}
+use Rattle.std.specs.Prelude.{IfOk}
 use Rattle.dbp_rules.specs.declared.step.Step.{Step}
 use Rattle.dbp_plan.specs.declared.diagram.Diagram.{Diagram}
 use Rattle.dbp_plan.specs.declared.plan.Plan.{Plan}
@@ -23,11 +24,12 @@ use Rattle.dia_read.specs.Documents.{Spells}
 use Rattle.trace_io.specs.Texts.{Accepts, of_reading, of_checking, of_the_trace}
 use Rattle.trace_io.specs.Traces.{TraceFail, IsTraceRefusal}
 use Rattle.trace_io.specs.Traces as trace
-use Rattle.dbp_top.specs.Answer.{count_of, illegal, needs_plan, no_plan, no_script, no_text, of_plan_refused}
+use Rattle.dbp_top.specs.Answer.{Answers, count_of, illegal, needs_plan, no_plan, no_script, no_text, of_plan_refused}
 use Rattle.dbp_top.specs.Stops.{IsFaultOf, IsStopOf, stop_of_checking, stop_of_reading, stop_of_replay, stop_of_script, stop_of_tracing}
 use Rattle.dbp_top.specs.declared.command.Command.{Command}
-use Rattle.dbp_top.specs.declared.command.Command.TheVariants.{Form, Replay}
+use Rattle.dbp_top.specs.declared.command.Command.TheVariants.{Form, Replay, Run}
 use Rattle.dbp_top.specs.declared.refusal.Refusal.TheVariants.{Document, Script, Illegal}
+use Rattle.dbp_top.specs.declared.status.Status.{Status}
 use Rattle.dbp_top.specs.declared.stop.Stop.{Stop}
 use Rattle.dbp_top.specs.declared.stop.Stop.TheVariants.{Refused, Overrun, NoMemory}
 
@@ -71,3 +73,17 @@ pub replay-stop : (input : List ℕ) (ranked : Bool) (p : Plan) (a : Accepts inp
     → IsStopOf input (Replay ranked) (stop_of_replay fail)
 replay-stop input ranked p a es (replay.Illegal step why) script broken = of_plan_refused (Replay ranked) p (Illegal step why) a (illegal ranked es step why script broken)
 replay-stop input ranked p a es replay.NoMemory script broken = tt
+
+-- ---- the answer of a stop
+
+-- of an input and a command that it was made for
+pub stop-answered : {A E : Type 0} (text : A → List ℕ) (stop : Stop) (r : Result (Status × A) E) → IfOk r (λ told. (input : List ℕ) (command : Command) → IsStopOf input command stop → Answers input command told.0 (text told.1))
+    → (input : List ℕ) (command : Command) → IsStopOf input command stop → IfOk r (λ told. Answers input command told.0 (text told.1))
+stop-answered text stop (Ok told) answers input command is = answers input command is
+stop-answered text stop (Err fail) answers input command is = tt
+
+-- of all runs of an input
+pub run-stop-answered : {A E : Type 0} (text : A → List ℕ) (stop : Stop) (r : Result (Status × A) E) → IfOk r (λ told. (input : List ℕ) (command : Command) → IsStopOf input command stop → Answers input command told.0 (text told.1))
+    → (input : List ℕ) → ((turns : Option ℕ) → IsStopOf input (Run turns) stop) → IfOk r (λ told. (turns : Option ℕ) → Answers input (Run turns) told.0 (text told.1))
+run-stop-answered text stop (Ok told) answers input is = λ turns. answers input (Run turns) (is turns)
+run-stop-answered text stop (Err fail) answers input is = tt

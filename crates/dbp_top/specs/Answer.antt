@@ -1,5 +1,5 @@
 -- What is answered where no read and no write fails.
-use Rattle.std.specs.Prelude.{◌≡◌, ℕ, Bool, true, false, List}
+use Rattle.std.specs.Prelude.{◌≡◌, ℕ, Bool, true, false, List, Option}
 use Rattle.dbp_rules.specs.declared.step.Count.{Count}
 use Rattle.dbp_rules.specs.declared.step.Count.TheVariants.{Ranked, All}
 use Rattle.dbp_rules.specs.declared.step.Illegal.{Illegal as Broken}
@@ -26,7 +26,7 @@ use Rattle.trace_io.specs.Lines.{lines_of}
 use Rattle.trace_io.specs.Texts.{Accepts, Refuses}
 use Rattle.virtual_sim.specs.Record.{IsRecord}
 use Rattle.dbp_top.specs.declared.command.Command.{Command}
-use Rattle.dbp_top.specs.declared.command.Command.TheVariants.{Mean, Form, Plan as Slots, Replay, Sim}
+use Rattle.dbp_top.specs.declared.command.Command.TheVariants.{Mean, Form, Plan as Slots, Replay, Run, Sim}
 use Rattle.dbp_top.specs.declared.refusal.Refusal.{Refusal}
 use Rattle.dbp_top.specs.declared.refusal.Refusal.TheVariants.{Document, Script, Illegal}
 use Rattle.dbp_top.specs.declared.status.Status.{Status}
@@ -45,13 +45,15 @@ abbrev pub IsInTime : Plan → Type 0
 IsInTime plan = NoOverrun plan (left_of plan (service plan))
 
 -- the text that a command makes of an accepted document and its plan: the lines of the one table that meets the plan's
--- equations (for `sim` if no release overruns), the recorded steps of its simulation, the slots of its tasks, or the steps
+-- equations (for a run too; for `sim` if no release overruns), the recorded steps of its simulation, the slots of its tasks, or the steps
 -- of the document's script with what they hear
 pub data PlanText (doc : Doc) (plan : Plan) : Command → List ℕ → Type 0 where
   meaning : (table : Table) → IsMeaning plan.diagram plan.samples plan.batches table
       → PlanText doc plan Mean (lines_of plan.diagram plan.batches table)
   simulation : (table : Table) → IsInTime plan → IsMeaning plan.diagram plan.samples plan.batches table
       → PlanText doc plan (Sim false) (lines_of plan.diagram plan.batches table)
+  run_of : (turns : Option ℕ) (table : Table) → IsMeaning plan.diagram plan.samples plan.batches table
+      → PlanText doc plan (Run turns) (lines_of plan.diagram plan.batches table)
   record_of : (steps : List Step) → IsRecord plan steps → PlanText doc plan (Sim true) (script_text plan.diagram steps)
   slots : PlanText doc plan Slots (slot_lines plan.diagram)
   replay : (ranked : Bool) (steps : List Step) (text : List ℕ) → IsScript plan.diagram doc steps

@@ -1,52 +1,89 @@
 -- The commands, and the words that name them.
-use Rattle.std.specs.Prelude.{◌≡◌, ℕ, true, false, List, [], ◌∷◌, ◌++◌, map, codes, string_bytes}
+use Rattle.std.specs.Prelude.{◌≡◌, ℕ, Bool, true, false, Some, None, List, [], ◌∷◌, map, codes, slice_get, string_bytes}
 use Rattle.std.specs.List.{flat_map}
 use Rattle.std.specs.declared.alloc.Global.{Global}
 use Rattle.std.specs.declared.string.String.{String}
 use Rattle.dbp_top.specs.declared.command.Command.{Command}
-use Rattle.dbp_top.specs.declared.command.Command.TheVariants.{Mean, Form, Plan, Replay, Sim}
-use Rattle.dbp_top.specs.declared.command.Row.{Row}
+use Rattle.dbp_top.specs.declared.command.Command.TheVariants.{Mean, Form, Plan, Replay, Run, Sim}
+use Rattle.dbp_top.specs.declared.command.Numbers.{Numbers}
+use Rattle.dbp_top.specs.declared.table.Row.{Row}
+use Rattle.dbp_top.specs.Patterns.{AllFit, WordForm, form_of, listed_forms, number, word}
+
+-- the forms of a command's words, and the command; the numbers of the words take the place of those that it has
+abbrev pub CommandRow : Type 0
+CommandRow = List WordForm × Command
 
 -- all commands, in the order in which they are listed
-abbrev pub commands : List Command
-commands = Mean ∷ Sim false ∷ Sim true ∷ Form ∷ Plan ∷ Replay false ∷ Replay true ∷ []
+abbrev pub command_table : List CommandRow
+command_table =
+    (word (codes "mean") ∷ [], Mean)
+    ∷ (word (codes "sim") ∷ [], Sim false)
+    ∷ (word (codes "sim") ∷ word (codes "--record") ∷ [], Sim true)
+    ∷ (word (codes "run") ∷ [], Run None)
+    ∷ (word (codes "run") ∷ word (codes "--turns") ∷ number [] ∷ [], Run (Some 0))
+    ∷ (word (codes "run") ∷ number (codes "--turns=") ∷ [], Run (Some 0))
+    ∷ (word (codes "form") ∷ [], Form)
+    ∷ (word (codes "plan") ∷ [], Plan)
+    ∷ (word (codes "replay") ∷ [], Replay false)
+    ∷ (word (codes "replay") ∷ word (codes "--ranked") ∷ [], Replay true)
+    ∷ []
 
--- the words of each command
-abbrev pub command_words : Command → List (List ℕ)
-command_words Mean = codes "mean" ∷ []
-command_words (Sim false) = codes "sim" ∷ []
-command_words (Sim true) = codes "sim" ∷ codes "--record" ∷ []
-command_words Form = codes "form" ∷ []
-command_words Plan = codes "plan" ∷ []
-command_words (Replay false) = codes "replay" ∷ []
-command_words (Replay true) = codes "replay" ∷ codes "--ranked" ∷ []
+-- the command with these numbers in the place of its own
+abbrev pub with_numbers : Command → Numbers → Command
+with_numbers (Run (Some turns)) given = Run (Some given.number)
+with_numbers command given = command
 
--- the words and the command of a row
-abbrev pub said_by : Row → List (List ℕ) × Command
-said_by row = (map (λ w. w.now) row.words.now, row.command)
+-- what is given before the first word: a size that isn't said is 8
+abbrev pub first_numbers : Numbers
+first_numbers = record { number = 0; size = 8 }
 
--- a table has a row for each command, with its words
+-- the row of this table that a row of the code is
+abbrev pub row_of : Row → CommandRow
+row_of row = (map form_of row.patterns.now, row.command)
+
+-- the rows of the code are this table
 abbrev pub HasAllCommands : List Row → Type 0
-HasAllCommands rows =
-    let listed : List (List (List ℕ) × Command) = map (λ c. (command_words c, c)) commands in
-    map said_by rows ≡ listed
+HasAllCommands rows = map row_of rows ≡ command_table
 
--- the words name the command, byte for byte
-abbrev pub Names : List (String Global) → Command → Type 0
-Names words command = map (λ w. string_bytes w) words ≡ command_words command
+-- the words name the command: each is of its form in a row of the table, and the command has their numbers
+pub data Names (words : List (String Global)) : Command → Type 0 where
+  by_row : (k : ℕ) (row : CommandRow) (given : Numbers) → slice_get command_table k ≡ Some row
+      → AllFit row.0 (map (λ w. string_bytes w) words) first_numbers given → Names words (with_numbers row.1 given)
 
--- the words name no command
-abbrev pub NamesNone : List (String Global) → Type 0
-NamesNone words = (command : Command) → Names words command → ⊥
+-- ---- what is asked of a command
 
--- the words name a command of which this holds
-abbrev pub NamesSome : List (String Global) → (Command → Type 0) → Type 0
-NamesSome words P = (command : Command) × Names words command × P command
+-- whether it reads the input
+abbrev pub reads_input : Command → Bool
+reads_input _ = true
 
--- the line that lists the words: a space, each word behind a space (32), and LF (10)
-abbrev pub listed_words : List (List ℕ) → List ℕ
-listed_words words = 32 ∷ flat_map (λ w. 32 ∷ w) words ++ 10 ∷ []
+-- who runs the tasks: nobody, the crew at hand, or the crew of drawn turns, which draws from this number
+pub data Runner : Type 0 where
+  nobody : Runner
+  the_crew : Runner
+  drawn_turns : ℕ → Runner
+
+abbrev pub runner_of : Command → Runner
+runner_of (Run None) = the_crew
+runner_of (Run (Some seed)) = drawn_turns seed
+runner_of _ = nobody
+
+-- whether a call that has these crews serves it: the whole program serves each command, and a call without crews those
+-- that run no tasks
+abbrev pub serves_all : Command → Bool
+serves_all _ = true
+
+abbrev pub serves_plain : Command → Bool
+serves_plain (Run turns) = false
+serves_plain _ = true
+
+-- the words name no command that the call serves
+abbrev pub NamesNone : (Command → Bool) → List (String Global) → Type 0
+NamesNone serves words = (command : Command) → Names words command → serves command ≡ true → ⊥
+
+-- the words name a command that the call serves, and of which this holds
+abbrev pub NamesSome : (Command → Bool) → List (String Global) → (Command → Type 0) → Type 0
+NamesSome serves words P = (command : Command) × Names words command × (serves command ≡ true) × P command
 
 -- the lines that list all commands
 abbrev pub command_list : List ℕ
-command_list = flat_map (λ c. listed_words (command_words c)) commands
+command_list = flat_map (λ row. listed_forms row.0) command_table

@@ -4,6 +4,8 @@ pub mod Ends
 pub mod Notes
 pub mod Outside
 pub mod OverrunLines
+pub mod Patterns
 pub mod Refusals
+pub mod Runs
 pub mod SlotLines
 pub mod Stops

@@ -15,6 +15,8 @@ use Rattle.trace_io.specs.Texts.{Refuses}
 use Rattle.dbp_top.specs.Answer.{IsOverrunLine, IsRefused}
 use Rattle.dbp_top.specs.declared.command.Command.{Command}
 use Rattle.dbp_top.specs.declared.refusal.Refusal.TheVariants.{Document, Script, Illegal}
+use Rattle.dbp_top.specs.declared.status.Status.{Status}
+use Rattle.dbp_top.specs.declared.status.Status.TheVariants as status
 use Rattle.dbp_top.specs.declared.stop.Stop.{Stop}
 use Rattle.dbp_top.specs.declared.stop.Stop.TheVariants.{Refused, Overrun, NoMemory}
 
@@ -50,3 +52,9 @@ abbrev pub IsStopOf : List ℕ → Command → Stop → Type 0
 IsStopOf input command (Refused refusal) = IsRefused input command refusal
 IsStopOf input command (Overrun line) = IsOverrunLine input command line.items
 IsStopOf input command NoMemory = Unit {0}
+
+-- the status with which a stop is told
+abbrev pub status_of_stop : Stop → Status
+status_of_stop (Refused refusal) = status.Refused
+status_of_stop (Overrun line) = status.Overrun
+status_of_stop NoMemory = status.NoMemory

@@ -1,12 +1,14 @@
 // What a command makes of an input.
 
-ghost use Rattle.std.specs.Prelude.{◌≡◌, ◌≤◌, ℕ, Bool, List as Items, length, IfErr, IfOk};
+ghost use Rattle.std.specs.Prelude.{◌≡◌, ◌≤◌, ℕ, Bool, true, List as Items, length, IfErr, IfOk};
 ghost use Rattle.dbp_plan.specs.declared.limits.TheConstants.{MAX_TEXT};
 ghost use Rattle.trace_io.specs.Texts.{Accepts};
 ghost use Rattle.virtual_sim.specs.Outcomes.{IsSimFail};
 ghost use Rattle.dia_read.specs.declared.document.Doc.{Doc as Document};
 ghost use Rattle.dbp_top.specs.Answer.{Answers, Makes, PlanText, count_of};
-ghost use Rattle.dbp_top.specs.Stops.{IsStopOf};
+ghost use Rattle.dbp_top.specs.Commands.{serves_plain};
+ghost use Rattle.dbp_top.specs.Stops.{IsStopOf, status_of_stop};
+ghost use Rattle.dbp_top.specs.declared.command.Command.{Command as Named};
 ghost use Rattle.dbp_top.specs.declared.command.Command.TheVariants.{Mean, Form, Plan as Slots, Replay, Sim};
 
 use crate::Status;
@@ -25,32 +27,45 @@ use sync_meaning::mean;
 use trace_io::lines;
 use virtual_sim::{SimFail, simulate};
 
-/// The status and the text that the command gives to an input that isn't too large.
+/// The status and the text that a command that runs no tasks gives to an input that isn't too large.
 pub(crate) fn answer(
     alloc: Global,
     command: Command,
     input: &[u8],
 ) -> Result<(Status, Vec<u8>), NoMemory>
-    requires { length input.now ≤ MAX_TEXT }
+    requires size { length input.now ≤ MAX_TEXT }
+    requires plain { serves_plain command ≡ true }
     ensures { IfOk result (λ (status, text). Answers input.now command status text.items) }
 {
     match text_of(alloc, command, input) {
         Ok(text) => Ok((Status::Ok, text)),
-        Err(Stop::Refused(refusal)) => Ok((Status::Refused, refusal_line(alloc, &refusal)?)),
-        Err(Stop::Overrun(line)) => Ok((Status::Overrun, line)),
-        Err(Stop::NoMemory) => Err(NoMemory),
+        Err(stop) => stop_answer(alloc, stop),
+    }
+}
+
+/// The status and the line of an input that has no text.
+pub(crate) fn stop_answer(alloc: Global, stop: Stop) -> Result<(Status, Vec<u8>), NoMemory>
+    ensures answer { IfOk result (λ (status, line). (input : Items ℕ) (command : Named) → IsStopOf input command stop → Answers input command status line.items) }
+    ensures status { IfOk result (λ (status, line). status ≡ status_of_stop stop) }
+{
+    match stop {
+        Stop::Refused(refusal) => Ok((Status::Refused, refusal_line(alloc, &refusal)?)),
+        Stop::Overrun(line) => Ok((Status::Overrun, line)),
+        Stop::NoMemory => Err(NoMemory),
     }
 }
 
 /// The text that the command makes of the input, or why it makes none.
 fn text_of(alloc: Global, command: Command, input: &[u8]) -> Result<Vec<u8>, Stop>
-    requires { length input.now ≤ MAX_TEXT }
+    requires size { length input.now ≤ MAX_TEXT }
+    requires plain { serves_plain command ≡ true }
     ensures text { IfOk result (λ text. Makes input.now command text.items) }
     ensures stop { IfErr result (λ stop. IsStopOf input.now command stop) }
 {
     match command {
         Command::Mean => meaning_of(alloc, input),
         Command::Sim { record_it } => simulation_of(alloc, record_it, input),
+        Command::Run { .. } => unreachable!(),
         Command::Form => form_of(alloc, input),
         Command::Plan => slots_of(alloc, input),
         Command::Replay { ranked } => replay_of(alloc, ranked, input),

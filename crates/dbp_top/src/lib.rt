@@ -6,14 +6,17 @@ mod command;
 mod laws;
 mod outside;
 mod overrun_line;
+mod pattern;
 mod plan;
 mod refusal;
+mod run;
 mod slot_lines;
 mod status;
 mod stop;
+mod table;
 mod top;
 
-pub use command::command_lines;
 pub use laws::{a_recorded_script_is_replayed, one_answer, one_command};
 pub use status::{Status, note};
+pub use table::command_lines;
 pub use top::{MAX_DOCUMENT, dbp_main, plain_main};

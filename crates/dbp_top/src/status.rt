@@ -12,7 +12,7 @@ pub enum Status {
     Refused = 1,
     /// A release meets an unfinished instance of its task in the simulation, and the line that says so was written whole.
     Overrun = 3,
-    /// The words are no command. Nothing was read or written.
+    /// The words are no command that the call serves. Nothing was read or written.
     Usage = 2,
     /// A read failed. Nothing was written.
     ReadFault = 4,

@@ -1,39 +1,57 @@
 // The whole program as one call.
 
+ghost use Rattle.std.specs.Prelude.{◌≡◌, ℕ, true, Option as Maybe};
 ghost use Rattle.dbp_plan.specs.Faults.{Rose};
-ghost use Rattle.dbp_top.specs.Ends.{Answered, Ends};
+ghost use Rattle.dbp_top.specs.Commands.{serves_all, serves_plain};
+ghost use Rattle.dbp_top.specs.Ends.{Answered, Ends, EndsAs};
+ghost use Rattle.dbp_top.specs.Outside.{status_of_read};
+ghost use Rattle.dbp_top.specs.Runs.{Crews, RunsAfter};
+ghost use Rattle.dbp_top.specs.declared.command.Command.TheVariants.{Run};
 
 use crate::Status;
 use crate::answer::answer;
-use crate::command::command_of;
+use crate::command::Command;
 use crate::outside::{ReadStop, read_all, write_all};
+use crate::run::run_answer;
+use crate::table::command_of;
 use dbp_plan::{Sink, Source};
+use party_exec::{Crew, TurnCrew};
 use std::alloc::Global;
+use std::sync::Wait;
+use std::thread::Threads;
 
 /// The greatest document, in bytes.
 pub const MAX_DOCUMENT: usize = 1_048_576;
 
 const _: () = prove!(MAX_DOCUMENT == 1_048_576);
 
-/// The whole program: compares the words with the commands, reads the source to its end, makes the command's
-/// text and writes it. Clause `ends` says for each status when it comes, and what was read and written
-/// then (docs/LAYERS.md has it as a table); clause `answered` says the same of a call in which nothing failed.
-pub fn dbp_main<S: Source, K: Sink>(
+/// The whole program: compares the words with the commands, reads the source to its end, makes the command's text and
+/// writes it. `run` runs the tasks by `crew`, and `run --turns N` by `turns`, which draws from N. Clause `ends` says for each
+/// status when it comes, and what was read and written then; clause `answered` says the same of a call in which nothing
+/// failed; clause `crews` says for each status which runs the crews then have made (docs/LAYERS.md has them as tables). It
+/// may wait where it runs tasks, and its clauses hold if it returns.
+pub fn dbp_main<R: Threads + Wait + Sync, S: Source, K: Sink, C: Crew>(
+    rt: &R,
     alloc: Global,
     words: &[String],
     source: &mut S,
     sink: &mut K,
+    crew: &mut C,
+    turns: &mut TurnCrew,
 ) -> Status
     // What each status says.
-    ensures ends { Ends S.left S.faults K.written K.faults words.now source.old source.new sink.old sink.new result }
+    ensures ends { Ends S.left S.faults K.written K.faults serves_all words.now source.old source.new sink.old sink.new result }
     // Where no read and no write failed, the call was answered.
     ensures answered { (Rose (S.faults source.old) (S.faults source.new) → ⊥) → (Rose (K.faults sink.old) (K.faults sink.new) → ⊥)
-        → Answered S.left S.faults K.written K.faults words.now source.old source.new sink.old sink.new result }
+        → Answered S.left S.faults K.written K.faults serves_all words.now source.old source.new sink.old sink.new result }
+    // What the crews ran.
+    ensures crews { Crews C.runs words.now result (S.left source.old) crew.old crew.new turns.old turns.new }
 {
-    plain_main(alloc, words, source, sink)
+    ending(rt, alloc, words, source, sink, crew, turns)
 }
 
-/// `dbp_main` for the commands that start no tasks. It waits for nobody, and always returns.
+/// `dbp_main` for the commands that run no tasks; those that do are no command to it. It waits for nobody, and always
+/// returns.
 pub fn plain_main<S: Source, K: Sink>(
     alloc: Global,
     words: &[String],
@@ -41,31 +59,65 @@ pub fn plain_main<S: Source, K: Sink>(
     sink: &mut K,
 ) -> Status
     // What each status says.
-    ensures ends { Ends S.left S.faults K.written K.faults words.now source.old source.new sink.old sink.new result }
+    ensures ends { Ends S.left S.faults K.written K.faults serves_plain words.now source.old source.new sink.old sink.new result }
     // Where no read and no write failed, the call was answered.
     ensures answered { (Rose (S.faults source.old) (S.faults source.new) → ⊥) → (Rose (K.faults sink.old) (K.faults sink.new) → ⊥)
-        → Answered S.left S.faults K.written K.faults words.now source.old source.new sink.old sink.new result }
+        → Answered S.left S.faults K.written K.faults serves_plain words.now source.old source.new sink.old sink.new result }
 {
-    ending(alloc, words, source, sink)
+    plain_ending(alloc, words, source, sink)
 }
 
-/// How a call of these words ends.
-fn ending<S: Source, K: Sink>(
+// How a call of these words ends, and what the crews ran.
+fn ending<R: Threads + Wait + Sync, S: Source, K: Sink, C: Crew>(
+    rt: &R,
+    alloc: Global,
+    words: &[String],
+    source: &mut S,
+    sink: &mut K,
+    crew: &mut C,
+    turns: &mut TurnCrew,
+) -> Status
+    ensures ends { Ends S.left S.faults K.written K.faults serves_all words.now source.old source.new sink.old sink.new result }
+    ensures crews { Crews C.runs words.now result (S.left source.old) crew.old crew.new turns.old turns.new }
+{
+    match command_of(words) {
+        Some(Command::Run { turns: None }) => run_ending(rt, alloc, source, sink, crew),
+        Some(Command::Run { turns: Some(seed) }) => {
+            turns.seed(seed);
+            run_ending(rt, alloc, source, sink, turns)
+        }
+        _ => plain_main(alloc, words, source, sink),
+    }
+}
+
+// How a call without crews ends.
+fn plain_ending<S: Source, K: Sink>(
     alloc: Global,
     words: &[String],
     source: &mut S,
     sink: &mut K,
 ) -> Status
-    ensures { Ends S.left S.faults K.written K.faults words.now source.old source.new sink.old sink.new result }
+    ensures { Ends S.left S.faults K.written K.faults serves_plain words.now source.old source.new sink.old sink.new result }
 {
-    let Some(command) = command_of(words) else {
-        return Status::Usage;
-    };
+    match command_of(words) {
+        None | Some(Command::Run { .. }) => Status::Usage,
+        Some(command) => command_ending(alloc, command, source, sink),
+    }
+}
+
+// How a call with this command ends.
+fn command_ending<S: Source, K: Sink>(
+    alloc: Global,
+    command: Command,
+    source: &mut S,
+    sink: &mut K,
+) -> Status
+    requires { serves_plain command ≡ true }
+    ensures { EndsAs S.left S.faults K.written K.faults command source.old source.new sink.old sink.new result }
+{
     let input = match read_all(alloc, source, MAX_DOCUMENT) {
         Ok(input) => input,
-        Err(ReadStop::Failed) => return Status::ReadFault,
-        Err(ReadStop::TooLarge) => return Status::TooLarge,
-        Err(ReadStop::NoMemory) => return Status::NoMemory,
+        Err(stop) => return status_of_read(stop),
     };
     let Ok((status, text)) = answer(alloc, command, &input) else {
         return Status::NoMemory;
@@ -73,5 +125,41 @@ fn ending<S: Source, K: Sink>(
     match write_all(sink, &text) {
         Ok(()) => status,
         Err(_) => Status::WriteFault,
+    }
+}
+
+// How a run by this crew ends, and what the crew ran.
+fn run_ending<R: Threads + Wait + Sync, S: Source, K: Sink, C: Crew>(
+    rt: &R,
+    alloc: Global,
+    source: &mut S,
+    sink: &mut K,
+    crew: &mut C,
+) -> Status
+    ensures ends { (turns : Maybe ℕ) → EndsAs S.left S.faults K.written K.faults (Run turns) source.old source.new sink.old sink.new result }
+    ensures runs { RunsAfter result (S.left source.old) (C.runs crew.old) (C.runs crew.new) }
+    ensures seed { C.seed crew.new ≡ C.seed crew.old }
+{
+    let input = match read_all(alloc, source, MAX_DOCUMENT) {
+        Ok(input) => input,
+        Err(stop) => return status_of_read(stop),
+    };
+    let Ok((status, text)) = run_answer(rt, alloc, &input, crew) else {
+        return Status::NoMemory;
+    };
+    match write_all(sink, &text) {
+        Ok(()) => status,
+        Err(_) => Status::WriteFault,
+    }
+}
+
+// The status of a call whose reading stopped.
+fn status_of_read(stop: ReadStop) -> Status
+    ensures { result ≡ status_of_read stop }
+{
+    match stop {
+        ReadStop::Failed => Status::ReadFault,
+        ReadStop::TooLarge => Status::TooLarge,
+        ReadStop::NoMemory => Status::NoMemory,
     }
 }

@@ -4,16 +4,11 @@ use Rattle.dbp_plan.specs.declared.table.Table.{Table}
 use Rattle.dbp_plan.proofs.TableRows.{has_rows}
 use Rattle.dbp_rules.specs.declared.step.Count.TheVariants.{Ranked}
 use Rattle.dbp_replay.proofs.AllowedSteps.{all_there}
-use Rattle.sync_meaning.specs.Meaning.{IsMeaning}
-use Rattle.sync_meaning.specs.SomeMeaning.{meaning_of, meaning_of-is}
 use Rattle.virtual_sim.proofs.EndEvents.{record_leads}
 use Rattle.dbp_top.specs.Answer.{PlanText, record_of, simulation}
 use Rattle.dbp_top.specs.declared.command.Command.TheVariants.{Sim}
+use Rattle.dbp_top.proofs.MeantTables.{meant}
 use Rattle.dbp_top.proofs.answer.simulation_text.Goals as goal
-
--- a table that is the meaning's meets its equations
-meant : (p : Plan) (t : Table) → t ≡ meaning_of p → IsMeaning p.diagram p.samples p.batches t
-meant p t is = subst (λ (u : Table). IsMeaning p.diagram p.samples p.batches u) (sym is) (meaning_of-is p)
 
 pub returns-in-Err-clause-stop : goal.returns-in-Err-clause-stop
 returns-in-Err-clause-stop c = λ input accepted. c.stop_of.ensures input c.args.record_it accepted

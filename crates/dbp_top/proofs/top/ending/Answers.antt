@@ -1,28 +1,50 @@
-use Rattle.std.proofs.Common.{◌≤◌, ℕ, List, length, refl, subst}
-use Rattle.std.specs.Io.KnownBytes.{Appends}
-use Rattle.dbp_top.specs.Answer.{Answers}
-use Rattle.dbp_top.specs.declared.top.TheConstants.{MAX_DOCUMENT}
-use Rattle.dbp_top.proofs.Endings.{ends-whole, whole-input}
+use Rattle.std.proofs.Common.{◌≡◌, ℕ, List, Some, None, refl, sym, subst, ◌∙◌}
+use Rattle.party_exec.specs.Crews.{turn_runs}
+use Rattle.party_exec.specs.declared.crew_entry.CrewEntry.{CrewEntry}
+use Rattle.dbp_top.specs.Commands.{Names, runner_of, serves_all}
+use Rattle.dbp_top.specs.Runs.{CrewsAfter, RunsAfter}
+use Rattle.dbp_top.specs.declared.command.Command.{Command}
+use Rattle.dbp_top.specs.declared.command.Command.TheVariants.{Run}
+use Rattle.dbp_top.proofs.CommandRows.{one-command}
+use Rattle.dbp_top.proofs.Endings.{ends-named}
 use Rattle.dbp_top.proofs.top.ending.Goals as goal
 
-pub returns-in-Ok-write_all : goal.returns-in-Ok-write_all
-returns-in-Ok-write_all g c =
-    let input = c.in-Ok.input.items in
-    let text = c.in-Ok-answer.text.items in
-    let answered : Answers input c.in-Some.command c.in-Ok-answer.status text = subst (λ (l : List ℕ). Answers l c.in-Some.command c.in-Ok-answer.status text) c.deref.ensures.value c.in-Ok-answer.ensures in
-    let named = (c.in-Some.ensures c.in-Some.command).0 refl in
-    let bytes = c.in-Ok.ensures.bytes in
-    let end = c.in-Ok.ensures.end in
-    let wrote = c.in-Ok-write_all.ensures.ok in
-    let written : Appends (g.K.Sink.written c.args.sink.now) (g.K.Sink.written c.write_all.new.sink) text = subst (λ (l : List ℕ). Appends (g.K.Sink.written c.args.sink.now) (g.K.Sink.written c.write_all.new.sink) l) c.deref-2.ensures.value wrote.0 in
-    ends-whole g.S.Source.left g.S.Source.faults g.K.Sink.written g.K.Sink.faults c.args.words.now c.args.source.now c.read_all.new.source c.args.sink.now c.write_all.new.sink
-    input c.in-Some.command c.in-Ok-answer.status text named answered (record {
-      read = record {
-        end = end.0;
-        taken = (input, bytes.1, bytes.0);
-        fits = whole-input _ _ input (λ l. length l ≤ MAX_DOCUMENT) bytes.1 end.0 bytes.0;
-        no_fault = end.1;
-      };
-      wrote = whole-input _ _ input (λ l. (x : List ℕ) × Answers l c.in-Some.command c.in-Ok-answer.status x × Appends (g.K.Sink.written c.args.sink.now) (g.K.Sink.written c.write_all.new.sink) x) bytes.1 end.0 (text, answered, written);
-      no_fault = wrote.1;
-    })
+pub returns-in-Some-Run-None-clause-ends : goal.returns-in-Some-Run-None-clause-ends
+returns-in-Some-Run-None-clause-ends g c =
+    let named : Names c.args.words.now (Run None) = (c.command_of.ensures (Run None)).0 (let a = c.in-Some-Run-None.is in let b = c.in-Some-Run-None.field-0-is in let d = c.in-Some-Run-None.field-0-0-is in cc) in
+    ends-named g.S.Source.left g.S.Source.faults g.K.Sink.written g.K.Sink.faults serves_all c.args.words.now (Run None) c.args.source.now c.run_ending.new.source c.args.sink.now c.run_ending.new.sink c.run_ending.result named refl
+    (c.run_ending.ensures.ends None)
+
+pub returns-in-Some-Run-None-clause-crews : goal.returns-in-Some-Run-None-clause-crews
+returns-in-Some-Run-None-clause-crews g c =
+    let named : Names c.args.words.now (Run None) = (c.command_of.ensures (Run None)).0 (let a = c.in-Some-Run-None.is in let b = c.in-Some-Run-None.field-0-is in let d = c.in-Some-Run-None.field-0-0-is in cc) in
+    record {
+      named = λ command other.
+          subst (λ (d : Command). CrewsAfter g.C.Crew.runs (runner_of d) c.run_ending.result (g.S.Source.left c.args.source.now) c.args.crew.now c.run_ending.new.crew c.args.turns.now c.args.turns.now)
+          (one-command c.args.words.now (Run None) command named other) (c.run_ending.ensures.runs, refl);
+      unnamed = λ none. absurd (none (Run None) named);
+    }
+
+pub returns-in-Some-Run-Some-clause-ends : goal.returns-in-Some-Run-Some-clause-ends
+returns-in-Some-Run-Some-clause-ends g c =
+    let seed = c.in-Some-Run-Some.seed in
+    let named : Names c.args.words.now (Run (Some seed)) = (c.command_of.ensures (Run (Some seed))).0 (let a = c.in-Some-Run-Some.is in let b = c.in-Some-Run-Some.field-0-is in let d = c.in-Some-Run-Some.field-0-0-is in cc) in
+    ends-named g.S.Source.left g.S.Source.faults g.K.Sink.written g.K.Sink.faults serves_all c.args.words.now (Run (Some seed)) c.args.source.now c.run_ending-in-Some-Run-Some.new.source c.args.sink.now
+    c.run_ending-in-Some-Run-Some.new.sink c.run_ending-in-Some-Run-Some.result named refl (c.run_ending-in-Some-Run-Some.ensures.ends (Some seed))
+
+pub returns-in-Some-Run-Some-clause-crews : goal.returns-in-Some-Run-Some-clause-crews
+returns-in-Some-Run-Some-clause-crews g c =
+    let seed = c.in-Some-Run-Some.seed in
+    let named : Names c.args.words.now (Run (Some seed)) = (c.command_of.ensures (Run (Some seed))).0 (let a = c.in-Some-Run-Some.is in let b = c.in-Some-Run-Some.field-0-is in let d = c.in-Some-Run-Some.field-0-0-is in cc) in
+    let input = g.S.Source.left c.args.source.now in
+    let turns = c.args.turns.now in
+    let new_turns = c.run_ending-in-Some-Run-Some.new.crew in
+    let status = c.run_ending-in-Some-Run-Some.result in
+    let runs : RunsAfter status input (turn_runs turns) (turn_runs new_turns) =
+    subst (λ (old : List CrewEntry). RunsAfter status input old (turn_runs new_turns)) c.seed.ensures.runs c.run_ending-in-Some-Run-Some.ensures.runs in
+    record {
+      named = λ command other.
+          subst (λ (d : Command). CrewsAfter g.C.Crew.runs (runner_of d) status input c.args.crew.now c.args.crew.now turns new_turns)
+          (one-command c.args.words.now (Run (Some seed)) command named other) (refl, runs, λ _. c.run_ending-in-Some-Run-Some.ensures.seed ∙ c.seed.ensures.seed);
+      unnamed = λ none. absurd (none (Run (Some seed)) named);
+    }

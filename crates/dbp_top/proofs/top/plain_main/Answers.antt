@@ -1,6 +1,7 @@
+use Rattle.dbp_top.specs.Commands.{serves_plain}
 use Rattle.dbp_top.proofs.Endings.{answered-without-faults}
 use Rattle.dbp_top.proofs.top.plain_main.Goals as goal
 
 pub returns-clause-answered : goal.returns-clause-answered
 returns-clause-answered g c =
-    answered-without-faults g.S.Source.left g.S.Source.faults g.K.Sink.written g.K.Sink.faults c.args.words.now c.args.source.now c.ending.new.source c.args.sink.now c.ending.new.sink c.ending.result c.ending.ensures
+    answered-without-faults g.S.Source.left g.S.Source.faults g.K.Sink.written g.K.Sink.faults serves_plain c.args.words.now c.args.source.now c.plain_ending.new.source c.args.sink.now c.plain_ending.new.sink c.plain_ending.result c.plain_ending.ensures
