@@ -1,7 +1,6 @@
 -- A command has one status and one text at most for an input.
-use Rattle.std.proofs.Common.{◌≡◌, ℕ, List, Bool, true, refl, ap, subst, ◌∙◌}
+use Rattle.std.proofs.Common.{◌≡◌, ℕ, List, true, refl, ap, subst, ◌∙◌}
 use Rattle.std.proofs.lemmas.Bool.{false≢true}
-use Rattle.dbp_rules.specs.declared.step.Illegal.{Illegal as Broken}
 use Rattle.dbp_rules.specs.declared.step.Step.{Step}
 use Rattle.dbp_plan.specs.declared.plan.Plan.{Plan}
 use Rattle.dbp_plan.specs.declared.table.Table.{Table}
@@ -16,8 +15,6 @@ use Rattle.dbp_replay.specs.Texts.{script_text}
 use Rattle.dbp_replay.proofs.OneReplay.{refused-once, text-not-refused, text-once}
 use Rattle.dbp_replay.proofs.OneScript.{fault-once, script-no-fault, script-once}
 use Rattle.dbp_replay.specs.Replays.{IsIllegal, IsReplay}
-use Rattle.dbp_replay.specs.Scripts.{IsScript, IsScriptFault}
-use Rattle.dbp_replay.specs.declared.fail.ScriptCode.{ScriptCode}
 use Rattle.dia_check.specs.declared.fail.CheckCode.{CheckCode}
 use Rattle.dia_check.specs.Faults as checking
 use Rattle.dia_read.specs.declared.document.Doc.{Doc}
@@ -32,7 +29,6 @@ use Rattle.trace_io.specs.Texts.{Accepts, Refuses, IsSameCode}
 use Rattle.dbp_top.specs.Answer.{Answers, IsInTime, IsOverrunLine, IsRefused, Makes, Overruns, PlanOverrun, PlanRefusal, PlanText, canonical, count_of, illegal, line_of, made, meaning, needs_plan, no_plan, no_script, no_text, of_plan, of_plan_overrun, of_plan_refused, overran, overrun, record_of, refused, replay, run_of, simulation, slots}
 use Rattle.dbp_top.specs.OverrunLines.{overrun_line}
 use Rattle.dbp_top.specs.Refusals.{check_name, code_text, refusal_line}
-use Rattle.dbp_top.specs.SlotLines.{slot_lines}
 use Rattle.dbp_top.specs.declared.command.Command.{Command}
 use Rattle.dbp_top.specs.declared.command.Command.TheVariants.{Form}
 use Rattle.dbp_top.specs.declared.refusal.Refusal.{Refusal}

@@ -1,5 +1,5 @@
 -- The runs of a command's crew, as a call went on.
-use Rattle.std.proofs.Common.{◌≡◌, ℕ, List, Option, Some, None, Result, Ok as Fine, Err, refl, sym, subst, inl, inr}
+use Rattle.std.proofs.Common.{◌≡◌, ℕ, List, Option, Some, Result, Ok as Fine, Err, sym, subst, inl, inr}
 use Rattle.std.specs.Prelude.{IfOk, MatchResult}
 use Rattle.std.specs.Io.KnownBytes.{Consumes, IsAtEnd}
 use Rattle.party_exec.specs.declared.crew_entry.CrewEntry.{CrewEntry}
@@ -10,7 +10,7 @@ use Rattle.dbp_top.specs.Runs.{HasRefusedInput, HasRunInput, RunsAfter}
 use Rattle.dbp_top.specs.Stops.{status_of_stop}
 use Rattle.dbp_top.specs.declared.command.Command.TheVariants.{Run}
 use Rattle.dbp_top.specs.declared.status.Status.{Status}
-use Rattle.dbp_top.specs.declared.status.Status.TheVariants.{Ok, NoMemory, WriteFault}
+use Rattle.dbp_top.specs.declared.status.Status.TheVariants.{NoMemory, WriteFault}
 use Rattle.dbp_top.specs.declared.stop.Stop.{Stop}
 use Rattle.dbp_top.specs.declared.stop.Stop.TheVariants as stop
 use Rattle.dbp_top.proofs.Endings.{whole-input}

@@ -1,5 +1,5 @@
 -- How a call ends that read its input, and wrote its text.
-use Rattle.std.proofs.Common.{◌≡◌, ◌≤◌, ℕ, ◌++◌, Bool, true, List, Option, Some, None, Result, Err, length, refl, sym, ◌∙◌, ap, subst, String, Global}
+use Rattle.std.proofs.Common.{◌≡◌, ◌≤◌, ℕ, ◌++◌, Bool, true, List, Option, Some, None, length, sym, ◌∙◌, ap, subst, String, Global}
 use Rattle.std.specs.Prelude.{IfSome}
 use Rattle.std.proofs.lemmas.List.{append-nil}
 use Rattle.std.specs.Io.KnownBytes.{Appends, Consumes, IsAtEnd}
@@ -7,10 +7,7 @@ use Rattle.dbp_plan.specs.Faults.{Rose}
 use Rattle.dbp_top.specs.Answer.{Answers, made, overran, refused}
 use Rattle.dbp_top.specs.Commands.{Names}
 use Rattle.dbp_top.specs.Ends.{Answered, Ends, EndsAs, WroteWhole, no_command, no_memory, overrun, refusal, text, too_large, whole}
-use Rattle.dbp_top.specs.Outside.{StopsReading, status_of_read}
 use Rattle.dbp_top.specs.declared.command.Command.{Command}
-use Rattle.dbp_top.specs.declared.outside.ReadStop.{ReadStop}
-use Rattle.dbp_top.specs.declared.outside.ReadStop.TheVariants as stop
 use Rattle.dbp_top.specs.declared.status.Status.{Status}
 use Rattle.dbp_top.specs.declared.status.Status.TheVariants.{Ok, Overrun, Refused, Usage, ReadFault, WriteFault, NoMemory, TooLarge}
 use Rattle.dbp_top.specs.declared.top.TheConstants.{MAX_DOCUMENT}

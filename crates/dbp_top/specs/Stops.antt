@@ -1,5 +1,5 @@
 -- Why a command makes no text of an input.
-use Rattle.std.specs.Prelude.{◌≡◌, ℕ, List}
+use Rattle.std.specs.Prelude.{ℕ, List}
 use Rattle.dbp_replay.specs.declared.fail.ReplayFail.{ReplayFail}
 use Rattle.dbp_replay.specs.declared.fail.ReplayFail.TheVariants as replay
 use Rattle.dbp_replay.specs.declared.fail.ScriptFail.{ScriptFail}

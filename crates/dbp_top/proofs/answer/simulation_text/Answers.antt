@@ -1,6 +1,4 @@
-use Rattle.std.proofs.Common.{◌≡◌, ℕ, List, true, false, sym, subst}
-use Rattle.dbp_plan.specs.declared.plan.Plan.{Plan}
-use Rattle.dbp_plan.specs.declared.table.Table.{Table}
+use Rattle.std.proofs.Common.{ℕ, List, true, false, sym, subst}
 use Rattle.dbp_plan.proofs.TableRows.{has_rows}
 use Rattle.dbp_rules.specs.declared.step.Count.TheVariants.{Ranked}
 use Rattle.dbp_replay.proofs.AllowedSteps.{all_there}

@@ -1,5 +1,4 @@
-use Rattle.std.proofs.Common.{◌≡◌, List, ℕ, true, refl, sym, subst}
-use Rattle.dbp_plan.specs.declared.diagram.Diagram.{Diagram}
+use Rattle.std.proofs.Common.{List, ℕ, true, refl, sym, subst}
 use Rattle.dbp_rules.specs.Wired.{wiring_of}
 use Rattle.dbp_rules.specs.declared.step.Count.TheVariants.{Ranked}
 use Rattle.dbp_replay.specs.Replays.{first, heard_lines}

@@ -1,7 +1,5 @@
-use Rattle.std.proofs.Common.{◌≡◌, ℕ, List, refl, sym, ap, subst, ◌∙◌, inl, inr}
+use Rattle.std.proofs.Common.{ℕ, List, refl, sym, subst, inl, inr}
 use Rattle.std.proofs.lemmas.Result.{err_from_is_err_and}
-use Rattle.dbp_plan.specs.declared.plan.Plan.{Plan}
-use Rattle.dbp_plan.specs.declared.table.Table.{Table}
 use Rattle.dbp_plan.proofs.TableRows.{has_rows}
 use Rattle.dbp_top.specs.Answer.{Makes, of_plan, run_of}
 use Rattle.dbp_top.specs.declared.command.Command.TheVariants.{Run}

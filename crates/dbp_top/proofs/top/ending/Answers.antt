@@ -1,4 +1,4 @@
-use Rattle.std.proofs.Common.{◌≡◌, ℕ, List, Some, None, refl, sym, subst, ◌∙◌}
+use Rattle.std.proofs.Common.{List, Some, None, refl, subst, ◌∙◌}
 use Rattle.party_exec.specs.Crews.{turn_runs}
 use Rattle.party_exec.specs.declared.crew_entry.CrewEntry.{CrewEntry}
 use Rattle.dbp_top.specs.Commands.{Names, runner_of, serves_all}

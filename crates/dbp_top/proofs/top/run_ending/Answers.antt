@@ -1,4 +1,4 @@
-use Rattle.std.proofs.Common.{◌≡◌, ℕ, List, Option, Some, None, refl, subst}
+use Rattle.std.proofs.Common.{ℕ, List, Some, None, subst}
 use Rattle.std.specs.Io.KnownBytes.{Appends}
 use Rattle.dbp_top.specs.Answer.{Answers}
 use Rattle.dbp_top.specs.Runs.{RunsAfter}
