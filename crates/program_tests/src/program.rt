@@ -3,8 +3,11 @@
 
 use dbp_plan::{MemSink, MemSource, ReadSource, WriteSink};
 use dbp_top::{Status, command_lines, dbp_main, plain_main};
+use party_exec::{CrewEntry, FreePace, TaskEnd, ThreadCrew, TurnCrew};
 use std::alloc::Global;
+use std::sync::Wait;
 use std::test::Fail;
+use std::thread::Threads;
 use test_inputs::TWO_RATES;
 
 const TWO_RATES_LINES: &str = "0,a,1,1\n0,b,1,10\n2,a,2,2\n3,b,2,20\n4,a,3,3\n";
@@ -33,19 +36,23 @@ fn sink_of(alloc: Global, (piece, fails): (usize, u32)) -> Result<MemSink, Fail>
     Ok(MemSink::new(store, room, piece.max(1), failing))
 }
 
-// How the call ends, and what it wrote.
-fn ended(
+// How the call ends, and what it wrote. The crews have run nothing before.
+fn ended<R: Threads + Wait + Sync>(
+    rt: &R,
     alloc: Global,
     line: &[String],
     source: &mut MemSource,
     sink: &mut MemSink,
 ) -> Result<(Status, Vec<u8>), Fail> {
-    let status = dbp_main(alloc, line, source, sink);
+    let mut crew = ThreadCrew::new(alloc, FreePace);
+    let mut turns = TurnCrew::new(alloc, 0);
+    let status = dbp_main(rt, alloc, line, source, sink, &mut crew, &mut turns);
     Ok((status, sink.bytes().to_vec(alloc)?))
 }
 
 // The same of these words, with the sizes and the failing calls of the source and the sink.
-fn call(
+fn call<R: Threads + Wait + Sync>(
+    rt: &R,
     alloc: Global,
     words: &[&str],
     input: &str,
@@ -55,7 +62,7 @@ fn call(
     let line = line_of(alloc, words)?;
     let mut source = source_of(alloc, input, reads)?;
     let mut sink = sink_of(alloc, writes)?;
-    ended(alloc, &line, &mut source, &mut sink)
+    ended(rt, alloc, &line, &mut source, &mut sink)
 }
 
 // The size of a read and which one fails, the same of writes, the status and what was written.
@@ -71,7 +78,7 @@ static FAULTS: [((usize, u32), (usize, u32), Status, &str); 6] = [
 #[test]
 fn faults_end_the_call(rt: HostRuntime) -> Result<(), Fail> {
     for (reads, writes, status, lines) in &FAULTS {
-        let ended = call(rt.alloc(), &["mean"], TWO_RATES, *reads, *writes)?;
+        let ended = call(&rt, rt.alloc(), &["mean"], TWO_RATES, *reads, *writes)?;
         assert_eq!(rt; ended.0, *status);
         assert_eq!(rt; ended.1.as_slice(), lines.as_bytes());
     }
@@ -82,7 +89,7 @@ fn faults_end_the_call(rt: HostRuntime) -> Result<(), Fail> {
 fn each_failing_read_ends_the_call(rt: HostRuntime) -> Result<(), Fail> {
     // the document is 13 pieces of 16 bytes, and one more read finds its end
     for failing in 1..=14 {
-        let ended = call(rt.alloc(), &["mean"], TWO_RATES, (16, failing), (8, 0))?;
+        let ended = call(&rt, rt.alloc(), &["mean"], TWO_RATES, (16, failing), (8, 0))?;
         assert_eq!(rt; ended.0, Status::ReadFault, "read {failing}");
         assert!(rt; ended.1.is_empty(), "read {failing}");
     }
@@ -94,7 +101,7 @@ fn each_failing_write_ends_the_call(rt: HostRuntime) -> Result<(), Fail> {
     let whole = TWO_RATES_LINES.as_bytes();
     // the lines are six pieces of 8 bytes
     for failing in 1..=6 {
-        let ended = call(rt.alloc(), &["mean"], TWO_RATES, (16, 0), (8, failing))?;
+        let ended = call(&rt, rt.alloc(), &["mean"], TWO_RATES, (16, 0), (8, failing))?;
         assert_eq!(rt; ended.0, Status::WriteFault, "write {failing}");
         let written = ended.1.as_slice();
         assert!(rt; whole.starts_with(written), "write {failing}");
@@ -118,7 +125,14 @@ static LAST: [(&str, u32, u32, Status, &str); 2] = [
 #[test]
 fn there_are_no_more_reads_and_writes(rt: HostRuntime) -> Result<(), Fail> {
     for (document, read, write, status, text) in &LAST {
-        let ended = call(rt.alloc(), &["mean"], document, (16, *read), (8, *write))?;
+        let ended = call(
+            &rt,
+            rt.alloc(),
+            &["mean"],
+            document,
+            (16, *read),
+            (8, *write),
+        )?;
         assert_eq!(rt; ended.0, *status, "on {document}");
         assert_eq!(rt; ended.1.as_slice(), text.as_bytes(), "on {document}");
     }
@@ -126,12 +140,20 @@ fn there_are_no_more_reads_and_writes(rt: HostRuntime) -> Result<(), Fail> {
 }
 
 // Words that are empty or end with a blank, and those of a command line without any.
-static NO_COMMANDS: [&[&str]; 5] = [&[], &[""], &["form", ""], &["", "form"], &["mean "]];
+static NO_COMMANDS: [&[&str]; 7] = [
+    &[],
+    &[""],
+    &["form", ""],
+    &["", "form"],
+    &["mean "],
+    &["run", "--turns", ""],
+    &["run", "--turns", "9 "],
+];
 
 #[test]
 fn words_that_are_no_command_read_and_write_nothing(rt: HostRuntime) -> Result<(), Fail> {
     for words in &NO_COMMANDS {
-        let ended = call(rt.alloc(), words, TWO_RATES, (16, 1), (8, 1))?;
+        let ended = call(&rt, rt.alloc(), words, TWO_RATES, (16, 1), (8, 1))?;
         assert_eq!(rt; ended.0, Status::Usage);
         assert_eq!(rt; ended.1.len(), 0);
     }
@@ -142,7 +164,7 @@ fn words_that_are_no_command_read_and_write_nothing(rt: HostRuntime) -> Result<(
 fn commands_are_listed(rt: HostRuntime) -> Result<(), Fail> {
     assert_eq!(rt;
         command_lines(rt.alloc())?.as_str(),
-        "  mean\n  sim\n  sim --record\n  form\n  plan\n  replay\n  replay --ranked\n"
+        "  mean\n  sim\n  sim --record\n  run\n  run --turns N\n  run --turns=N\n  form\n  plan\n  replay\n  replay --ranked\n"
     );
     Ok(())
 }
@@ -160,5 +182,80 @@ fn a_reader_and_a_writer_of_std_serve(rt: HostRuntime) -> Result<(), Fail> {
         written.as_slice(),
         b"refused: line 3: 3 BadLine\n".as_slice()
     );
+    Ok(())
+}
+
+#[test]
+fn a_run_is_no_command_of_the_plain_call(rt: HostRuntime) -> Result<(), Fail> {
+    let line = line_of(rt.alloc(), &["run"])?;
+    let mut source = source_of(rt.alloc(), TWO_RATES, (16, 1))?;
+    let mut sink = sink_of(rt.alloc(), (8, 1))?;
+    let status = plain_main(rt.alloc(), &line, &mut source, &mut sink);
+    assert_eq!(rt; status, Status::Usage);
+    assert_eq!(rt; sink.bytes().len(), 0);
+    Ok(())
+}
+
+// How the tasks of the document stand after a run.
+static TWO_RATES_ENDS: [TaskEnd; 2] = [
+    TaskEnd {
+        ended: 3,
+        occurrences: 3,
+    },
+    TaskEnd {
+        ended: 2,
+        occurrences: 2,
+    },
+];
+
+// Words of a run, and how many runs the crew of threads and that of drawn turns then have.
+static RUNS: [(&[&str], usize, usize); 4] = [
+    (&["run"], 1, 0),
+    (&["run", "--turns", "9"], 0, 1),
+    (&["run", "--turns=9"], 0, 1),
+    (&["mean"], 0, 0),
+];
+
+// Whether these are so many runs of the document.
+fn are_runs(runs: &[CrewEntry], count: usize) -> bool {
+    runs.len() == count
+        && runs
+            .iter()
+            .all(|entry| entry.tasks.items() == TWO_RATES_ENDS.as_slice())
+}
+
+// Whether a call with these words prints the document's lines, and the crews then have so many runs.
+fn has_run<R: Threads + Wait + Sync>(
+    rt: &R,
+    alloc: Global,
+    (words, threads, drawn): (&[&str], usize, usize),
+) -> Result<bool, Fail> {
+    let line = line_of(alloc, words)?;
+    let mut source = source_of(alloc, TWO_RATES, (16, 0))?;
+    let mut sink = sink_of(alloc, (8, 0))?;
+    let mut crew = ThreadCrew::new(alloc, FreePace);
+    let mut turns = TurnCrew::new(alloc, 0);
+    let status = dbp_main(
+        rt,
+        alloc,
+        &line,
+        &mut source,
+        &mut sink,
+        &mut crew,
+        &mut turns,
+    );
+    Ok(
+        status == Status::Ok
+            && sink.bytes() == TWO_RATES_LINES.as_bytes()
+            && are_runs(crew.runs(), threads)
+            && are_runs(turns.runs(), drawn),
+    )
+}
+
+#[test]
+fn a_run_is_kept_by_its_crew(rt: HostRuntime) -> Result<(), Fail> {
+    for row in &RUNS {
+        assert!(rt; has_run(&rt, rt.alloc(), *row)?);
+    }
     Ok(())
 }
