@@ -8,6 +8,7 @@ mod crew_entry;
 mod draws;
 mod job;
 mod look_up;
+mod meeting;
 mod pace;
 mod party;
 mod releaser_party;

@@ -11,6 +11,7 @@ use crate::all_parties::have_finished;
 use crate::crew::Crew;
 use crate::crew_entry::CrewEntry;
 use crate::job::job;
+use crate::meeting::Meeting;
 use crate::pace::{FreePace, Pace};
 use crate::party::Party;
 use crate::runs::Runs;
@@ -121,6 +122,7 @@ fn round<R: Threads + Sync, P: Pace>(rt: &R, pace: &P, words: &SlotWords, partie
         return;
     }
     let threads = parties.len();
+    let meeting = Meeting::new(threads);
     thread::for_each_mut(
         rt,
         parties,
@@ -128,6 +130,9 @@ fn round<R: Threads + Sync, P: Pace>(rt: &R, pace: &P, words: &SlotWords, partie
         &|_: usize, party: &mut Party|
             requires { Belongs words.now party.now }
             ensures { IsJob words.entry.now party.entry.now party.exit.now }
-        { job(pace, words, party) },
+        {
+            meeting.attend();
+            job(pace, words, party)
+        },
     );
 }
