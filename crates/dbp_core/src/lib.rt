@@ -6,6 +6,7 @@ mod arms;
 mod conditions;
 mod look_up;
 mod machine;
+mod making;
 mod rank_mask;
 mod releaser;
 mod steps;

@@ -9,6 +9,7 @@ ghost use Rattle.dbp_rules.specs.Wired.{wiring_of};
 ghost use Rattle.dbp_core.specs.Unfinished.{HasUnfinished};
 
 use crate::arms::advance;
+use crate::making::make;
 use crate::rank_mask::RankMask;
 use dbp_plan::{NoMemory, Plan, Row};
 use dbp_rules::{Count, Heard, Illegal, State, Step, Wiring, start_state, wire_plan};
@@ -30,7 +31,7 @@ pub struct Core {
 }
 
 impl Core {
-    ghost use Rattle.std.specs.Prelude.{◌≡◌, ◌<◌, length, slice_get, Some, IfOk};
+    ghost use Rattle.std.specs.Prelude.{◌≡◌, ◌<◌, length, slice_get, Some, None, Ok, IfOk};
     ghost use Rattle.dbp_plan.specs.declared.table.Table.{Table};
     ghost use Rattle.dbp_plan.specs.Table.{IsRow};
     ghost use Rattle.sync_meaning.specs.Meaning.{IsMeaning};
@@ -38,7 +39,7 @@ impl Core {
     ghost use Rattle.dbp_core.specs.Cores.{count_in, plan_in, state_in, wiring_in};
     ghost use Rattle.dbp_rules.specs.Places.{task as state_of, task_entry};
     ghost use Rattle.dbp_rules.specs.Promises.{IsLeastAim};
-    ghost use Rattle.dbp_rules.specs.Rules.{IsNamed, IsStep};
+    ghost use Rattle.dbp_rules.specs.Rules.{IsNamed, IsStep, refusal};
     ghost use Rattle.dbp_rules.specs.SoundParts.{last_shut};
     ghost use Rattle.dbp_rules.specs.Start.{start_of};
 
@@ -76,6 +77,20 @@ impl Core {
         );
         self.unfinished.recount(&self.wiring, &self.state, step);
         answer
+    }
+
+    /// A step that is known to be allowed, which isn't tried again; otherwise as `step`. Returns what is heard.
+    pub fn make(&mut self, step: Step) -> Heard
+        requires named { IsNamed (plan_in self.old).diagram step }
+        requires allowed { refusal (wiring_in self.old) (state_in self.old) step ≡ None }
+        ensures plan { plan_in self.new ≡ plan_in self.old }
+        ensures count { count_in self.new ≡ count_in self.old }
+        ensures step { IsStep (plan_in self.old) (wiring_of (plan_in self.old) (count_in self.old))
+            (state_in self.old) step (Ok result) (state_in self.new) }
+    {
+        let heard = make(&self.plan, &self.wiring, &mut self.state, step);
+        self.unfinished.recount(&self.wiring, &self.state, step);
+        heard
     }
 
     /// The least slot that the task may be aimed at: the least that no counted claim needs and that doesn't stay kept.

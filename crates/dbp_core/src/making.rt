@@ -1,0 +1,167 @@
+// A step that is known to be allowed: what it makes of the state, and what is heard.
+
+ghost use Rattle.std.specs.Prelude.{◌≡◌, ◌<◌, None, Ok, length};
+ghost use Rattle.dbp_rules.specs.Rules as rule;
+ghost use Rattle.dbp_rules.specs.Rules.{IsNamed, IsStep};
+ghost use Rattle.dbp_rules.specs.Shapes.{IsShape};
+
+use crate::look_up::{declared_at, task_at};
+use crate::releaser::{aim, claim, open, see};
+use crate::steps::{end, finish, hear, is_open, look, put, read_word, shut, start, take};
+use dbp_plan::Plan;
+use dbp_rules::{Heard, Place, State, Step, Wiring};
+
+fn make_open(plan: &Plan, wiring: &Wiring, state: &mut State, i: u32) -> Heard
+    requires task { i < length wiring.now.tasks }
+    requires shape { IsShape plan.now wiring.now state.old }
+    requires allowed { rule.refusal wiring.now state.old (Step.OpenGate i) ≡ None }
+    ensures { IsStep plan.now wiring.now state.old (Step.OpenGate i) (Ok result) state.new }
+{
+    open(state, i);
+    Heard::Stored
+}
+
+fn make_aim(plan: &Plan, wiring: &Wiring, state: &mut State, i: u32, slot: u32) -> Heard
+    requires task { i < length wiring.now.tasks }
+    requires shape { IsShape plan.now wiring.now state.old }
+    requires allowed { rule.refusal wiring.now state.old (Step.Aim i slot) ≡ None }
+    ensures { IsStep plan.now wiring.now state.old (Step.Aim i slot) (Ok result) state.new }
+{
+    aim(state, i, slot);
+    Heard::Stored
+}
+
+fn make_claim(plan: &Plan, wiring: &Wiring, state: &mut State, k: u32) -> Heard
+    requires link { k < length wiring.now.links }
+    requires shape { IsShape plan.now wiring.now state.old }
+    requires allowed { rule.refusal wiring.now state.old (Step.Claim k) ≡ None }
+    ensures { IsStep plan.now wiring.now state.old (Step.Claim k) (Ok result) state.new }
+{
+    claim(wiring, state, k);
+    Heard::Stored
+}
+
+fn make_start(plan: &Plan, wiring: &Wiring, state: &mut State, i: u32) -> Heard
+    requires task { i < length wiring.now.tasks }
+    requires shape { IsShape plan.now wiring.now state.old }
+    requires allowed { rule.refusal wiring.now state.old (Step.Start i) ≡ None }
+    ensures { IsStep plan.now wiring.now state.old (Step.Start i) (Ok result) state.new }
+{
+    if is_open(state, i) {
+        start(state, i);
+        Heard::Started
+    } else {
+        Heard::Closed
+    }
+}
+
+fn make_hear(plan: &Plan, wiring: &Wiring, state: &mut State, i: u32) -> Heard
+    requires task { i < length wiring.now.tasks }
+    requires shape { IsShape plan.now wiring.now state.old }
+    requires allowed { rule.refusal wiring.now state.old (Step.Hear i) ≡ None }
+    ensures { IsStep plan.now wiring.now state.old (Step.Hear i) (Ok result) state.new }
+{
+    let Place::Hear(n) = task_at(state, i).part.place else {
+        unreachable!()
+    };
+    let order = hear(wiring, state, i, n);
+    Heard::Order {
+        slot: order.slot,
+        number: order.number,
+    }
+}
+
+fn make_look(plan: &Plan, wiring: &Wiring, state: &mut State, i: u32, read: u32) -> Heard
+    requires task { i < length wiring.now.tasks }
+    requires shape { IsShape plan.now wiring.now state.old }
+    requires allowed { rule.refusal wiring.now state.old (Step.Look i read) ≡ None }
+    ensures { IsStep plan.now wiring.now state.old (Step.Look i read) (Ok result) state.new }
+{
+    let Place::Look(n) = task_at(state, i).part.place else {
+        unreachable!()
+    };
+    if look(wiring, state, i, n) {
+        Heard::Ready
+    } else {
+        Heard::NotYet
+    }
+}
+
+fn make_take(plan: &Plan, wiring: &Wiring, state: &mut State, i: u32, read: u32) -> Heard
+    requires task { i < length wiring.now.tasks }
+    requires shape { IsShape plan.now wiring.now state.old }
+    requires allowed { rule.refusal wiring.now state.old (Step.Take i read) ≡ None }
+    ensures { IsStep plan.now wiring.now state.old (Step.Take i read) (Ok result) state.new }
+{
+    let Place::Take(n) = task_at(state, i).part.place else {
+        unreachable!()
+    };
+    let word = read_word(wiring, state, i, n);
+    let declared = declared_at(plan, i);
+    let kept = (declared.states.len() + declared.senses.len() + read) as usize;
+    take(wiring, state, i, n, kept, word);
+    Heard::Word(word)
+}
+
+fn make_shut(plan: &Plan, wiring: &Wiring, state: &mut State, i: u32) -> Heard
+    requires task { i < length wiring.now.tasks }
+    requires shape { IsShape plan.now wiring.now state.old }
+    requires allowed { rule.refusal wiring.now state.old (Step.Shut i) ≡ None }
+    ensures { IsStep plan.now wiring.now state.old (Step.Shut i) (Ok result) state.new }
+{
+    shut(plan, wiring, state, i);
+    Heard::Stored
+}
+
+fn make_put(plan: &Plan, wiring: &Wiring, state: &mut State, i: u32, port: u32) -> Heard
+    requires task { i < length wiring.now.tasks }
+    requires shape { IsShape plan.now wiring.now state.old }
+    requires allowed { rule.refusal wiring.now state.old (Step.Put i port) ≡ None }
+    ensures { IsStep plan.now wiring.now state.old (Step.Put i port) (Ok result) state.new }
+{
+    put(wiring, state, i, port);
+    Heard::Stored
+}
+
+fn make_done(plan: &Plan, wiring: &Wiring, state: &mut State, i: u32) -> Heard
+    requires task { i < length wiring.now.tasks }
+    requires shape { IsShape plan.now wiring.now state.old }
+    requires allowed { rule.refusal wiring.now state.old (Step.Done i) ≡ None }
+    ensures { IsStep plan.now wiring.now state.old (Step.Done i) (Ok result) state.new }
+{
+    finish(state, i);
+    Heard::Stored
+}
+
+fn make_end(plan: &Plan, wiring: &Wiring, state: &mut State, i: u32) -> Heard
+    requires task { i < length wiring.now.tasks }
+    requires shape { IsShape plan.now wiring.now state.old }
+    requires allowed { rule.refusal wiring.now state.old (Step.End i) ≡ None }
+    ensures { IsStep plan.now wiring.now state.old (Step.End i) (Ok result) state.new }
+{
+    end(state, i);
+    Heard::Stored
+}
+
+/// A step that is allowed: what is heard, and the next state.
+pub(crate) fn make(plan: &Plan, wiring: &Wiring, state: &mut State, step: Step) -> Heard
+    requires named { IsNamed plan.now.diagram step }
+    requires shape { IsShape plan.now wiring.now state.old }
+    requires allowed { rule.refusal wiring.now state.old step ≡ None }
+    ensures { IsStep plan.now wiring.now state.old step (Ok result) state.new }
+{
+    match step {
+        Step::Seen { task } => Heard::Ended(see(state, task)),
+        Step::Aim { task, slot } => make_aim(plan, wiring, state, task, slot),
+        Step::Claim { link } => make_claim(plan, wiring, state, link),
+        Step::OpenGate { task } => make_open(plan, wiring, state, task),
+        Step::Start { task } => make_start(plan, wiring, state, task),
+        Step::Hear { task } => make_hear(plan, wiring, state, task),
+        Step::Look { task, read } => make_look(plan, wiring, state, task, read),
+        Step::Take { task, read } => make_take(plan, wiring, state, task, read),
+        Step::Shut { task } => make_shut(plan, wiring, state, task),
+        Step::Put { task, port } => make_put(plan, wiring, state, task, port),
+        Step::Done { task } => make_done(plan, wiring, state, task),
+        Step::End { task } => make_end(plan, wiring, state, task),
+    }
+}
