@@ -6,7 +6,9 @@ ghost use Rattle.std.specs.declared.string.String.{String as Word};
 ghost use Rattle.dbp_plan.specs.declared.plan.Plan.{Plan as AnyPlan};
 ghost use Rattle.dbp_replay.specs.Texts.{script_text};
 ghost use Rattle.dbp_rules.specs.declared.step.Step.{Step as AnyStep};
-ghost use Rattle.dia_read.specs.Printable.{HasItemLines, IsPrintable};
+ghost use Rattle.dia_read.specs.declared.document.Doc.{Doc as AnyDocument};
+ghost use Rattle.dia_read.specs.Documents.{Spells, with_script};
+ghost use Rattle.dia_read.specs.Printable.{IsPrintable};
 ghost use Rattle.trace_io.specs.Texts.{Accepts};
 ghost use Rattle.virtual_sim.specs.Record.{IsRecord};
 ghost use Rattle.dbp_top.specs.Answer.{Answers};
@@ -16,8 +18,9 @@ ghost use Rattle.dbp_top.specs.declared.command.Command.TheVariants.{Replay};
 ghost use Rattle.dbp_top.specs.declared.status.Status.{Status as Ending};
 ghost use Rattle.dbp_top.specs.declared.status.Status.TheVariants.{Ok as Written};
 
+use dia_read::each_item_has_a_line;
 use sync_meaning::one_meaning;
-use trace_io::one_plan;
+use trace_io::{accepted_with_another_script, one_plan};
 
 /// Words name one command at most.
 pub fn one_command()
@@ -32,11 +35,15 @@ pub fn one_answer()
     one_meaning();
 }
 
-/// If a text is accepted with a plan, and its script is that of the plan's recorded list, `replay --ranked` answers the
-/// text with status 0. Each document that is read is printable and has a line of each item, as `read_doc` says.
+/// If a text is accepted with a plan, `replay --ranked` answers with status 0 each text that spells a document with the
+/// same body, except that its script is that of the plan's recorded list. Each document that is read is printable, as
+/// `read_doc` says.
 pub fn a_recorded_script_is_replayed()
-    ensures { (input : Items ℕ) (plan : AnyPlan) (steps : Items AnyStep) (accepted : Accepts input plan)
-        → IsPrintable accepted.doc.body → HasItemLines accepted.doc → IsRecord plan steps
-        → accepted.doc.body.script ≡ Some (script_text plan.diagram steps)
-        → (text : Items ℕ) × Answers input (Replay true) Written text }
-{}
+    ensures { (input other : Items ℕ) (plan : AnyPlan) (steps : Items AnyStep) (accepted : Accepts input plan) (doc : AnyDocument)
+        → IsPrintable accepted.doc.body → IsRecord plan steps → Spells other doc
+        → doc.body ≡ with_script (Some (script_text plan.diagram steps)) accepted.doc.body
+        → (text : Items ℕ) × Answers other (Replay true) Written text }
+{
+    each_item_has_a_line();
+    accepted_with_another_script();
+}

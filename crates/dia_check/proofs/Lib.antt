@@ -13,3 +13,4 @@ pub mod ShapeLaws
 pub mod TaskFaults
 pub mod TaskParts
 pub mod TasksSoFar
+pub mod ScriptLaws

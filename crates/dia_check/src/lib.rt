@@ -18,7 +18,7 @@ mod shaping;
 mod tasks;
 
 pub use fail::{CheckCode, CheckFail};
-pub use laws::{one_check, one_shape, one_shape_fault};
+pub use laws::{one_check, one_shape, one_shape_fault, the_script_is_not_checked};
 pub use rank_faults::ranked;
 pub use ranking::{ranks, ranks_are_distinct};
 pub use shaped::{ReadLine, Shaped};

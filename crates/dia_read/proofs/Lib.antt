@@ -15,3 +15,4 @@ pub mod Outcomes
 pub mod Following
 mod Rooms
 mod RoundTrip
+pub mod ItemLines

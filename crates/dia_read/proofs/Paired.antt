@@ -131,7 +131,7 @@ begun-at Until nothing before b = tt
 begun-at Ended nothing before b = tt
 begun-at p s before b = tt
 
-begun-more : (before : List Said) (line : List ℕ) (x : Said) → Begun (place_behind before) before → Reads before line x → Begun (place_behind (x ∷ before)) (x ∷ before)
+pub begun-more : (before : List Said) (line : List ℕ) (x : Said) → Begun (place_behind before) before → Reads before line x → Begun (place_behind (x ∷ before)) (x ∷ before)
 begun-more before line x b r = go x r
   where
     stated : (s : Statement) (q : Place) → leads (place_behind before) s ≡ Some q → Begun (place_behind (says s ∷ before)) (says s ∷ before)

@@ -363,7 +363,7 @@ ended-more : (lines : List (List ℕ)) (bytes : List ℕ) → ended_lines (lines
 ended-more [] bytes = refl
 ended-more (line ∷ lines) bytes = ap (λ bs. line ++ 10 ∷ bs) (ended-more lines bytes) ∙ simp append_assoc
 
-keeps-more : (Says : List ℕ → Said → Type 0) (kept : List ℕ → Said) (text bytes : List ℕ) → KeepsItself Says kept text → Says bytes (kept bytes) → KeepsItself Says kept (text ++ bytes ++ 10 ∷ [])
+pub keeps-more : (Says : List ℕ → Said → Type 0) (kept : List ℕ → Said) (text bytes : List ℕ) → KeepsItself Says kept text → Says bytes (kept bytes) → KeepsItself Says kept (text ++ bytes ++ 10 ∷ [])
 keeps-more Says kept text bytes (lines, is, each) says_so =
     (lines ++ bytes ∷ [], rw is (sym (ended-more lines bytes)), All-push (λ line. Says line (kept line)) lines bytes each says_so)
 

@@ -155,3 +155,9 @@ pub data IsFirstFault (bytes : List ℕ) : ℕ → ReadCode → Type 0 where
   no_header : list_all is_blank_line (lines_of bytes) ≡ true → ((code : ReadCode) → IsFirstLine (lines_of bytes) 0 code → ⊥) → IsFirstFault bytes 1 MissingHeader
   no_end : (said : List Said) → list_all is_blank_line (lines_of bytes) ≡ false → Run [] (lines_of bytes) said → place_behind said ≢ Ended
       → IsFirstFault bytes (length (lines_of bytes) + 1) MissingDone
+
+-- ---- another script
+
+-- the body with this script in place of its own
+abbrev pub with_script : Option (List ℕ) → Body → Body
+with_script text body = record body { script = text }

@@ -6,7 +6,7 @@ ghost use Rattle.dia_read.specs.declared.document.Doc.{Doc as Document};
 ghost use Rattle.dia_read.specs.declared.document.Body.{Body as BodyPrinted};
 ghost use Rattle.dia_read.specs.Canonical.{canonical_text, SpellsBody};
 ghost use Rattle.dia_read.specs.Documents.{Spells, IsFirstFault};
-ghost use Rattle.dia_read.specs.Printable.{IsPrintable};
+ghost use Rattle.dia_read.specs.Printable.{HasItemLines, IsPrintable};
 
 /// A text spells one document at most.
 pub fn one_document()
@@ -27,4 +27,9 @@ pub fn canonical_text_spells()
 /// The canonical text of a body that can be printed is its own canonical text.
 pub fn canonical_text_again()
     ensures { (body : BodyPrinted) (d : Document) → IsPrintable body → Spells (canonical_text body) d → canonical_text d.body ≡ canonical_text body }
+{}
+
+/// A document that a text spells has a line of each of its items.
+pub fn each_item_has_a_line()
+    ensures { (bytes : Items ℕ) (d : Document) → Spells bytes d → HasItemLines d }
 {}

@@ -13,6 +13,9 @@ mod refusal;
 pub use dia_lines::{Decl, Limit, Part, RawClock, ReadCode};
 pub use document::{Body, Doc, DocLines, RawTask};
 pub use fault::ReadFail;
-pub use laws::{canonical_text_again, canonical_text_spells, one_document, one_first_fault};
+pub use laws::{
+    canonical_text_again, canonical_text_spells, each_item_has_a_line, one_document,
+    one_first_fault,
+};
 pub use print::print_doc;
 pub use read::read_doc;

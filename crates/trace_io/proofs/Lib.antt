@@ -9,3 +9,4 @@ pub mod TraceFaults
 pub mod TraceLines
 pub mod Timetables
 pub mod TextLaws
+mod OtherScripts

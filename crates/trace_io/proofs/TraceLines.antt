@@ -30,7 +30,7 @@ ended-count (line ∷ lines) kept =
 section-count : (text : List ℕ) → KeepsItself SaysInTrace row text → length (lines_of text) ≡ feeds text
 section-count text (lines, is, kept) = rw is (ap (λ (ls : List (List ℕ)). length ls) (lines-back lines kept) ∙ sym (ended-count lines kept))
 
-record-count : (trace : Option (List ℕ)) → IfSome trace (KeepsItself SaysInTrace row) → length (records_of trace) ≡ line_count trace
+pub record-count : (trace : Option (List ℕ)) → IfSome trace (KeepsItself SaysInTrace row) → length (records_of trace) ≡ line_count trace
 record-count None kept = refl
 record-count (Some text) kept = length-map (lines_of text) cells_of ∙ section-count text kept
 

@@ -5,12 +5,14 @@ ghost use Rattle.dbp_plan.specs.declared.diagram.Clock.{Clock as AnyClock};
 ghost use Rattle.dbp_plan.specs.declared.schedule.Batch.{Batch as AnyBatch};
 ghost use Rattle.dbp_plan.specs.Clocks.{time_at};
 ghost use Rattle.dbp_plan.specs.declared.plan.Plan.{Plan as AnyPlan};
+ghost use Rattle.dia_read.specs.declared.document.Doc.{Doc as AnyDocument};
+ghost use Rattle.dia_read.specs.Documents.{Spells, with_script};
 ghost use Rattle.trace_io.specs.declared.code.Code.{Code as AnyCode};
 ghost use Rattle.trace_io.specs.Texts.{Accepts, Refuses, IsSameCode};
 ghost use Rattle.trace_io.specs.Batches.{AreBatches, IsClockOf, count_of};
 
-use dia_check::one_check;
-use dia_read::{one_document, one_first_fault};
+use dia_check::{one_check, the_script_is_not_checked};
+use dia_read::{each_item_has_a_line, one_document, one_first_fault};
 
 /// Clocks have one list of batches at most.
 pub fn one_schedule()
@@ -33,4 +35,14 @@ pub fn one_plan()
     one_first_fault();
     one_check();
     one_schedule();
+}
+
+/// A text that spells a document with the same body as an accepted text, except for its script, is accepted with the same
+/// plan.
+pub fn accepted_with_another_script()
+    ensures { (text other : Items ℕ) (plan : AnyPlan) (accepted : Accepts text plan) (doc : AnyDocument) → Spells other doc
+        → doc.body ≡ with_script doc.body.script accepted.doc.body → (again : Accepts other plan) × (again.doc ≡ doc) }
+{
+    each_item_has_a_line();
+    the_script_is_not_checked();
 }

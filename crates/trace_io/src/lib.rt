@@ -10,7 +10,7 @@ mod printed;
 mod trace;
 
 pub use code::Code;
-pub use laws::{count_is_exact, one_plan, one_schedule};
+pub use laws::{accepted_with_another_script, count_is_exact, one_plan, one_schedule};
 pub use printed::lines;
 pub use trace::read_trace;
 pub use trace_rows::{TraceCode, TraceFail};
