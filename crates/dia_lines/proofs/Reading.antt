@@ -1,11 +1,17 @@
 -- What is read of a line is what it says.
-use Rattle.std.proofs.Common.{◌≡◌, ℕ, true, false, List, [], ◌∷◌, Some, None, Result, Ok, Err, IfOk, IfErr, refl, sym, subst, ◌∙◌}
+use Rattle.std.proofs.Common.{◌≡◌, ℕ, true, false, List, [], ◌∷◌, Some, None, Result, Ok, Err, IfOk, IfErr, refl, sym, ap, subst, ◌∙◌}
+use Rattle.std.specs.Prelude.{codes}
 use Rattle.std.specs.List.{list_all}
 use Rattle.dia_tokens.specs.declared.token.Token.{Token}
-use Rattle.dia_tokens.specs.declared.token.Token.TheVariants as token
 use Rattle.dia_tokens.specs.declared.token.Word.TheVariants as word
-use Rattle.dia_tokens.specs.Line.{Spells as SpellsTokens}
-use Rattle.dia_tokens.specs.Spelling.{joined}
+use Rattle.dia_tokens.specs.Line.{Spells as SpellsTokens, Refuses as RefusesTokens}
+use Rattle.dia_tokens.specs.Spelling.{IsSpelling}
+use Rattle.dia_tokens.specs.declared.line.LineFail.{LineFail}
+use Rattle.dia_tokens.specs.declared.line.LineFail.TheVariants as text_fail
+use Rattle.dia_tokens.proofs.WordsAlone.{nothing-spelled, word-spelled, spells-nothing, spells-word}
+use Rattle.dia_exprs.specs.Answers.{SpellsNone}
+use Rattle.dia_exprs.specs.declared.fail.ExpressionFail.{ExpressionFail}
+use Rattle.dia_exprs.specs.declared.fail.ExpressionFail.TheVariants as of_expression
 use Rattle.dia_lines.specs.declared.item.Line.{Line}
 use Rattle.dia_lines.specs.declared.item.Line.TheVariants as line
 use Rattle.dia_lines.specs.declared.fault.Limit.{Limit}
@@ -18,7 +24,7 @@ use Rattle.dia_lines.specs.declared.place.Place.{Place}
 use Rattle.dia_lines.specs.declared.place.Place.TheVariants.{Trace, Script, Ended}
 use Rattle.dia_lines.specs.declared.position.Counts.{Counts}
 use Rattle.dia_lines.specs.declared.position.Position.{Position}
-use Rattle.dia_lines.specs.Answers.{Refuses, RefusesText, RefusesInDiagram, RefusesStatement}
+use Rattle.dia_lines.specs.Answers.{error_of_text, error_of_expression, Refuses, RefusesText, RefusesInDiagram, RefusesStatement, RefusesExpression}
 use Rattle.dia_lines.specs.Counting.{Counted, with_line}
 use Rattle.dia_lines.specs.Limits.{numbers_fit}
 use Rattle.dia_lines.specs.Positions.{AreCounts, IsBehind}
@@ -29,14 +35,39 @@ use Rattle.dia_lines.specs.Sections.{is_trace_byte}
 use Rattle.dia_lines.proofs.CountLaws.{counted-line}
 use Rattle.dia_lines.proofs.PlaceLaws.{leads-line}
 use Rattle.dia_lines.specs.Held.{IsHeld, IsKept}
-use Rattle.dia_lines.specs.Moves.{place_behind_line, step_of_tokens}
+use Rattle.dia_lines.specs.Moves.{place_behind_line}
+
+-- ---- refusals of other types
+
+pub text-error : (text : List ℕ) (fail : LineFail) → RefusesTokens text fail → RefusesText text (error_of_text fail)
+text-error text text_fail.BadByte r = (text_fail.BadByte, r, refl)
+text-error text text_fail.BadToken r = (text_fail.BadToken, r, refl)
+text-error text text_fail.NumberTooWide r = (text_fail.NumberTooWide, r, refl)
+text-error text text_fail.NameTooLong r = (text_fail.NameTooLong, r, refl)
+text-error text text_fail.NoMemory r = tt
+
+pub byte-error : {A : Type 0} (r : Result A LineError) (fail : LineFail) (e : LineError) → r ≡ Err e → e ≡ error_of_text fail → fail ≡ text_fail.BadByte → r ≡ Err (Refused BadByte)
+byte-error r fail e is told same = is ∙ ap (λ (x : LineError). Err x) (told ∙ ap error_of_text same)
+
+pub expression-error : (ts : List Token) (fail : ExpressionFail) → (fail ≡ of_expression.NoExpression → SpellsNone ts) → RefusesExpression ts (error_of_expression fail)
+expression-error ts of_expression.NoExpression none = none refl
+expression-error ts of_expression.NoMemory none = tt
 
 -- ---- lines of the script section
 
-pub script-held : (text : List ℕ) (ts : List Token) → SpellsTokens text ts → (said : Said) × SaysInScript text said × IsHeld said (step_of_tokens ts)
-script-held text [] s = (says nothing, no_step text s, tt)
-script-held text (token.Word word.Done ∷ []) s = (says done, script_ends text s, tt)
-script-held text (t ∷ ts) s = (step (joined s.texts), a_step text (joined s.texts) (t ∷ ts) s (λ e. cc) (λ e. cc) (s.texts, s.lexes, refl), tt)
+module _ (text kept : List ℕ) (ts : List Token) (spelled : SpellsTokens text ts) (spelling : IsSpelling text kept) where
+  pub script-nothing : kept ≡ [] → SaysInScript text (says nothing)
+  script-nothing e = no_step text (subst (SpellsTokens text) (spells-nothing text kept ts spelled spelling e) spelled)
+
+  pub script-done : kept ≡ codes "done" → SaysInScript text (says done)
+  script-done e = script_ends text (subst (SpellsTokens text) (spells-word word.Done text kept ts spelled spelling e) spelled)
+
+  pub script-step : (kept ≡ [] → ⊥) → (kept ≡ codes "done" → ⊥) → SaysInScript text (step kept)
+  script-step some no_end =
+      a_step text kept ts spelled
+      (λ e. some (nothing-spelled text kept (subst (SpellsTokens text) e spelled) spelling))
+      (λ e. no_end (word-spelled word.Done text kept (subst (SpellsTokens text) e spelled) spelling))
+      spelling
 
 -- ---- lines of the diagram
 
@@ -146,5 +177,5 @@ module _ (before : List Said) (position : Position) (behind : IsBehind before po
       led said l (of_the_trace t s here (a_row u e f)) k = absurd k
       led said l (of_the_script t s here (no_step u e)) k = kept nothing l Script (rw here refl) k
       led said l (of_the_script t s here (script_ends u e)) k = kept done l Ended (rw here refl) k
-      led said line.Step (of_the_script t s here (a_step u v ts e n o h)) k = behind.place
+      led said (line.Step kept) (of_the_script t s here (a_step u v ts e n o h)) k = behind.place
       led said l (of_the_script t s here (a_step u v ts e n o h)) k = absurd k

@@ -6,6 +6,8 @@ use Rattle.std.specs.Str.{bytes_eq}
 use Rattle.std.proofs.lemmas.Slice.Eq.{bytes_eq-Decides}
 use Rattle.std.proofs.lemmas.List.Folds.{list_all-append}
 use Rattle.std.proofs.lemmas.Bool.{and_parts, and_from, or_right, both_ways, false_from_ne_true}
+use Rattle.std.proofs.lemmas.Bool.Decides.{nat_tests}
+use Rattle.dia_tokens.specs.Kinds.{is_allowed}
 use Rattle.dia_lines.specs.Statements.{nothing, script, done}
 use Rattle.dia_lines.specs.Sections.{is_space, is_trace_byte, IsAlone}
 use Rattle.dia_lines.specs.Trimmed.{trimmed}
@@ -90,6 +92,16 @@ all_allowed line a (an_empty_row l h) = spaces_allowed l h
 all_allowed line a (trace_ends l h) = alone_allowed (codes "done") l refl h
 all_allowed line a (script_begins l h) = alone_allowed (codes "script") l refl h
 all_allowed line a (a_row l h kept) = h
+
+byte_allowed : (b : ℕ) → is_trace_byte b ≡ true → is_allowed b ≡ true
+byte_allowed b e = grind (arith, nat_tests)
+
+-- a byte that may stand in the trace section may stand in any line
+pub trace_allowed : (line : List ℕ) → list_all is_trace_byte line ≡ true → list_all is_allowed line ≡ true
+trace_allowed [] h = refl
+trace_allowed (b ∷ bs) h =
+    let both = and_parts (is_trace_byte b) (list_all is_trace_byte bs) h in
+    and_from _ _ (byte_allowed b both.0) (trace_allowed bs both.1)
 
 pub no-fault-in-trace : (line : List ℕ) (a : Said) → SaysInTrace line a → list_all is_trace_byte line ≡ false → ⊥
 no-fault-in-trace line a s h = both_ways _ h (all_allowed line a s)

@@ -1,6 +1,9 @@
 -- What holds where a line is refused. Where memory ran out nothing is said.
-use Rattle.std.specs.Prelude.{◌≡◌, ℕ, true, false, List}
+use Rattle.std.specs.Prelude.{◌≡◌, ℕ, true, false, List, Option, Some, None}
+use Rattle.dia_tokens.specs.declared.line.LineFail.{LineFail}
 use Rattle.dia_tokens.specs.declared.token.Token.{Token}
+use Rattle.dia_exprs.specs.declared.fail.ExpressionFail.{ExpressionFail}
+use Rattle.dia_exprs.specs.declared.fail.ExpressionFail.TheVariants as of_expression
 use Rattle.dia_exprs.specs.Answers.{IsSpelled, SpellsNone}
 use Rattle.dia_lines.specs.declared.fault.Limit.TheVariants.{Number}
 use Rattle.dia_lines.specs.declared.item.Part.TheVariants as part
@@ -10,11 +13,26 @@ use Rattle.dia_lines.specs.Forms.{Shape, plain, of_let, of_next, of_out}
 use Rattle.dia_lines.specs.Held.{IsKept}
 use Rattle.dia_lines.specs.declared.fault.LineError.{LineError}
 use Rattle.dia_lines.specs.declared.fault.LineError.TheVariants.{Refused, NoMemory}
+use Rattle.dia_lines.specs.declared.fault.ReadCode.{ReadCode}
 use Rattle.dia_lines.specs.declared.fault.ReadCode.TheVariants.{BadLine, LimitHit}
 use Rattle.dia_lines.specs.declared.place.Place.{Place}
 use Rattle.dia_lines.specs.Statements.{Statement}
 use Rattle.dia_lines.specs.Limits.{numbers_fit}
-use Rattle.dia_lines.specs.Lines.{Said, MayStand, HasTextFault, HasDiagramFault, HasFault}
+use Rattle.dia_lines.specs.Lines.{Said, MayStand, code_of, HasTextFault, HasDiagramFault, HasFault}
+
+-- the refusal with the code, or out of memory if there is none
+abbrev pub error_of : Option ReadCode → LineError
+error_of (Some code) = Refused code
+error_of None = NoMemory
+
+-- why a line is refused that has no tokens
+abbrev pub error_of_text : LineFail → LineError
+error_of_text fail = error_of (code_of fail)
+
+-- why a line is refused whose tokens make no expression
+abbrev pub error_of_expression : ExpressionFail → LineError
+error_of_expression of_expression.NoExpression = Refused BadLine
+error_of_expression of_expression.NoMemory = NoMemory
 
 -- the line has the fault, as its first one
 abbrev pub Refuses : List Said → List ℕ → LineError → Type 0
@@ -53,6 +71,10 @@ abbrev pub RefusesExpression : List Token → LineError → Type 0
 RefusesExpression ts NoMemory = Unit {0}
 RefusesExpression ts (Refused BadLine) = SpellsNone ts
 RefusesExpression ts _ = ⊥
+
+-- the refusal of the numbers of a statement is right
+abbrev pub RefusesNumbers : Statement → ReadCode → Type 0
+RefusesNumbers s code = (code ≡ LimitHit Number) × (numbers_fit s ≡ false)
 
 -- the refusal of the form is right
 abbrev pub RefusesShape : Shape → LineError → Type 0

@@ -56,9 +56,9 @@ IsKept script line.Script = Unit {0}
 IsKept done line.Done = Unit {0}
 IsKept _ _ = ⊥
 
--- what is kept of a line: of a row and a step no more than that it is one
+-- what is kept of a line: of a row no more than that it is one, of a step its text
 abbrev pub IsHeld : Said → Line → Type 0
 IsHeld (says s) l = IsKept s l
 IsHeld (row text) line.Row = Unit {0}
-IsHeld (step text) line.Step = Unit {0}
+IsHeld (step text) (line.Step kept) = text ≡ kept
 IsHeld _ _ = ⊥

@@ -1,5 +1,6 @@
 -- Definitions that public clauses cite.
 pub mod Answers
+pub mod Codes
 pub mod FirstLine
 pub mod Held
 pub mod Limits

@@ -1,8 +1,4 @@
--- Where a line leads, and what tokens say in the script section.
-use Rattle.std.specs.Prelude.{List, [], ◌∷◌}
-use Rattle.dia_tokens.specs.declared.token.Token.{Token}
-use Rattle.dia_tokens.specs.declared.token.Token.TheVariants as token
-use Rattle.dia_tokens.specs.declared.token.Word.TheVariants as word
+-- The place after a line.
 use Rattle.dia_lines.specs.declared.item.Line.{Line}
 use Rattle.dia_lines.specs.declared.item.Line.TheVariants as line
 use Rattle.dia_lines.specs.declared.place.Place.{Place}
@@ -20,9 +16,3 @@ place_behind_line place line.Trace = Trace
 place_behind_line place line.Script = Script
 place_behind_line place line.Done = Ended
 place_behind_line place _ = place
-
--- what is held of a line of the script section with these tokens
-abbrev pub step_of_tokens : List Token → Line
-step_of_tokens [] = line.Nothing
-step_of_tokens (token.Word word.Done ∷ []) = line.Done
-step_of_tokens _ = line.Step

@@ -1,5 +1,13 @@
 // The limits of a document, and why a line or a text is refused.
 
+ghost use Rattle.std.specs.Prelude.{◌≡◌};
+ghost use Rattle.dia_lines.specs.Answers.{error_of_text, error_of_expression};
+ghost use Rattle.dia_lines.specs.declared.fault.LineError.TheVariants.{Refused};
+ghost use Rattle.dia_lines.specs.declared.fault.ReadCode.TheVariants.{LimitHit};
+
+use dia_exprs::ExpressionFail;
+use dia_tokens::LineFail;
+
 /// A limit of a document.
 #[derive(Clone, Copy, Debug, PartialEq, Eq)]
 pub enum Limit {
@@ -49,4 +57,45 @@ pub enum LineError {
     Refused(ReadCode),
     /// Memory ran out. That may be at any time.
     NoMemory,
+}
+
+impl From<ReadCode> for LineError {
+    ghost from_gives = { λ code e. e ≡ Refused code };
+
+    fn from(code: ReadCode) -> LineError {
+        LineError::Refused(code)
+    }
+}
+
+impl From<Limit> for LineError {
+    ghost from_gives = { λ limit e. e ≡ Refused (LimitHit limit) };
+
+    fn from(limit: Limit) -> LineError {
+        LineError::Refused(ReadCode::LimitHit(limit))
+    }
+}
+
+impl From<LineFail> for LineError {
+    ghost from_gives = { λ fail e. e ≡ error_of_text fail };
+
+    fn from(fail: LineFail) -> LineError {
+        match fail {
+            LineFail::BadByte => LineError::Refused(ReadCode::BadByte),
+            LineFail::BadToken => LineError::Refused(ReadCode::BadToken),
+            LineFail::NumberTooWide => LineError::Refused(ReadCode::NumberTooWide),
+            LineFail::NameTooLong => LineError::Refused(ReadCode::NameTooLong),
+            LineFail::NoMemory => LineError::NoMemory,
+        }
+    }
+}
+
+impl From<ExpressionFail> for LineError {
+    ghost from_gives = { λ fail e. e ≡ error_of_expression fail };
+
+    fn from(fail: ExpressionFail) -> LineError {
+        match fail {
+            ExpressionFail::NoExpression => LineError::Refused(ReadCode::BadLine),
+            ExpressionFail::NoMemory => LineError::NoMemory,
+        }
+    }
 }

@@ -1,6 +1,7 @@
 // What a line says, as it is kept.
 
 use dbp_plan::{Expr, Name, Policy};
+use dia_tokens::Spelling;
 
 /// A declaration before the tasks.
 #[derive(Clone, Copy)]
@@ -72,6 +73,6 @@ pub enum Line {
     Done,
     /// A row of the trace section, which is kept as it is.
     Row,
-    /// A step of the script section, of which the tokens are kept as they are spelled.
-    Step,
+    /// A step of the script section, with its tokens as they are spelled.
+    Step(Spelling),
 }

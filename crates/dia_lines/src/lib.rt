@@ -2,6 +2,7 @@
 #![tactic(auto)]
 
 mod before_form;
+mod codes;
 mod fault;
 mod form;
 mod fronts;

@@ -1,61 +1,49 @@
 // What a line says behind those before it, or its first fault.
 
-ghost use Rattle.std.specs.Prelude.{◌≡◌, ◌≢◌, ◌∷◌, List, IfOk, IfErr};
+ghost use Rattle.std.specs.Prelude.{◌≡◌, ◌≢◌, false, ◌∷◌, List, Err, IfOk, IfErr};
+ghost use Rattle.std.specs.List.{list_all};
+ghost use Rattle.dia_tokens.specs.Kinds.{is_allowed};
 ghost use Rattle.dia_tokens.specs.Line.{Spells as SpellsTokens};
 ghost use Rattle.dia_lines.specs.Answers.{Refuses, RefusesText, RefusesInDiagram};
 ghost use Rattle.dia_lines.specs.Held.{IsHeld, IsKept};
 ghost use Rattle.dia_lines.specs.Lines.{Said, SaysStatement, SaysInScript, Reads, statements};
-ghost use Rattle.dia_lines.specs.Moves.{place_behind_line, step_of_tokens};
+ghost use Rattle.dia_lines.specs.Moves.{place_behind_line};
 ghost use Rattle.dia_lines.specs.Positions.{AreCounts, IsBehind};
 ghost use Rattle.dia_lines.specs.Statements.{Statement};
-ghost use Rattle.dia_lines.specs.declared.fault.LineError.TheVariants.{NoMemory as OutOfMemory};
+ghost use Rattle.dia_lines.specs.declared.fault.LineError.TheVariants.{Refused, NoMemory as OutOfMemory};
+ghost use Rattle.dia_lines.specs.declared.fault.ReadCode.TheVariants.{BadByte};
 ghost use Rattle.dia_lines.specs.declared.place.Place.TheVariants.{Trace};
 
 use crate::before_form::token_code;
 use crate::statement::statement;
 use crate::trace::trace_line;
-use crate::{Counts, Line, LineError, Place, Position, ReadCode};
-use dia_tokens::{LineFail, Token, Word, tokens};
+use crate::{Counts, Line, LineError, Place, Position};
+use dia_tokens::{Token, Word, line_spelling, tokens};
 use std::alloc::Global;
 
 /// The tokens of a line, or its first fault.
 fn line_tokens(alloc: Global, line: &[u8]) -> Result<Vec<Token>, LineError>
     ensures found { IfOk result (λ ts. SpellsTokens line.now ts.items) }
     ensures fault { IfErr result (λ e. RefusesText line.now e) }
+    ensures bad_byte { list_all is_allowed line.now ≡ false → result ≡ Err (Refused BadByte) }
 {
-    match tokens(alloc, line) {
-        Ok(tokens) => Ok(tokens),
-        Err(LineFail::BadByte) => Err(LineError::Refused(ReadCode::BadByte)),
-        Err(LineFail::BadToken) => Err(LineError::Refused(ReadCode::BadToken)),
-        Err(LineFail::NumberTooWide) => Err(LineError::Refused(ReadCode::NumberTooWide)),
-        Err(LineFail::NameTooLong) => Err(LineError::Refused(ReadCode::NameTooLong)),
-        Err(LineFail::NoMemory) => Err(LineError::NoMemory),
-    }
+    Ok(tokens(alloc, line)?)
 }
 
 /// A line of the diagram, and the counts behind it.
 fn diagram_line(alloc: Global, position: Position, line: &[u8]) -> Result<(Line, Counts), LineError>
     ensures found { (before : List Said) → IsBehind before position → IfOk result (λ r. (s : Statement) × SaysStatement before line.now s × IsKept s r.0 × AreCounts (s ∷ statements before) r.1) }
     ensures fault { (before : List Said) → IsBehind before position → IfErr result (λ e. RefusesInDiagram before line.now e) }
+    ensures bad_byte { list_all is_allowed line.now ≡ false → result ≡ Err (Refused BadByte) }
 {
     let tokens = line_tokens(alloc, line)?;
     let line = match token_code(position.place, &tokens) {
-        Some(code) => return Err(LineError::Refused(code)),
+        Some(code) => return Err(LineError::from(code)),
         None => statement(alloc, position.place, &tokens)?,
     };
     match position.counts.with_line(&line) {
         Ok(counts) => Ok((line, counts)),
-        Err(limit) => Err(LineError::Refused(ReadCode::LimitHit(limit))),
-    }
-}
-
-fn step_of(tokens: &[Token]) -> Line
-    ensures { result ≡ step_of_tokens tokens.now }
-{
-    match tokens {
-        [] => Line::Nothing,
-        [Token::Word(Word::Done)] => Line::Done,
-        _ => Line::Step,
+        Err(limit) => Err(LineError::from(limit)),
     }
 }
 
@@ -63,9 +51,16 @@ fn step_of(tokens: &[Token]) -> Line
 fn script_line(alloc: Global, line: &[u8]) -> Result<Line, LineError>
     ensures found { IfOk result (λ l. (said : Said) × SaysInScript line.now said × IsHeld said l) }
     ensures fault { IfErr result (λ e. RefusesText line.now e) }
+    ensures bad_byte { list_all is_allowed line.now ≡ false → result ≡ Err (Refused BadByte) }
 {
-    let tokens = line_tokens(alloc, line)?;
-    Ok(step_of(&tokens))
+    let text = line_spelling(alloc, line)?;
+    if text.bytes().is_empty() {
+        Ok(Line::Nothing)
+    } else if text.bytes() == Word::Done.text() {
+        Ok(Line::Done)
+    } else {
+        Ok(Line::Step(text))
+    }
 }
 
 /// The place behind a line that may stand at the place.
@@ -80,7 +75,7 @@ fn place_behind(place: Place, line: &Line) -> Place
         Line::Trace => Place::Trace,
         Line::Script => Place::Script,
         Line::Done => Place::Ended,
-        Line::Nothing | Line::Row | Line::Step => place,
+        Line::Nothing | Line::Row | Line::Step(_) => place,
     }
 }
 
@@ -89,11 +84,12 @@ fn counted_line(alloc: Global, position: Position, line: &[u8]) -> Result<(Line,
     ensures found { (before : List Said) → IsBehind before position → IfOk result (λ r. (said : Said) × Reads before line.now said × IsHeld said r.0 × AreCounts (statements (said ∷ before)) r.1) }
     ensures fault { (before : List Said) → IsBehind before position → IfErr result (λ e. Refuses before line.now e) }
     ensures memory { position.place ≡ Trace → IfErr result (λ e. e ≢ OutOfMemory) }
+    ensures bad_byte { list_all is_allowed line.now ≡ false → result ≡ Err (Refused BadByte) }
 {
     match position.place {
         Place::Trace => match trace_line(line) {
             Ok(line) => Ok((line, position.counts)),
-            Err(code) => Err(LineError::Refused(code)),
+            Err(code) => Err(LineError::from(code)),
         },
         Place::Script => Ok((script_line(alloc, line)?, position.counts)),
         _ => diagram_line(alloc, position, line),
@@ -112,6 +108,8 @@ pub fn read_line(
     ensures fault { (before : List Said) → IsBehind before position → IfErr result (λ e. Refuses before line.now e) }
     // A line of the trace section takes no memory.
     ensures memory { position.place ≡ Trace → IfErr result (λ e. e ≢ OutOfMemory) }
+    // A line with a byte that no section allows is refused before any memory is taken.
+    ensures bad_byte { list_all is_allowed line.now ≡ false → result ≡ Err (Refused BadByte) }
 {
     let (line, counts) = counted_line(alloc, position, line)?;
     let place = place_behind(position.place, &line);

@@ -11,7 +11,7 @@ ghost use Rattle.dia_lines.specs.Lines.{MayStand, expression_of};
 ghost use Rattle.dia_lines.specs.Held.{IsKept};
 ghost use Rattle.dia_lines.specs.Forms.{plain, tokens_of};
 ghost use Rattle.dia_lines.specs.FormShapes.{task_of, read_of, shape_of};
-ghost use Rattle.dia_lines.specs.Answers.{RefusesStatement, KeepsShape, RefusesExpression, RefusesShape};
+ghost use Rattle.dia_lines.specs.Answers.{RefusesStatement, KeepsShape, RefusesExpression, RefusesNumbers, RefusesShape};
 
 use crate::fault::{Limit, LineError, ReadCode};
 use crate::form::{Form, ReadForm, TaskForm};
@@ -21,7 +21,7 @@ use crate::place::Place;
 use crate::ranges::{task_line, ticks};
 use crate::standing::stands;
 use dbp_plan::{Expr, Name};
-use dia_exprs::{ExpressionFail, expression};
+use dia_exprs::expression;
 use dia_tokens::Token;
 use std::alloc::Global;
 
@@ -32,36 +32,32 @@ fn spelled(alloc: Global, tokens: &[Token]) -> Result<Expr<Name>, LineError>
     ensures found { IfOk result (λ e. IsSpelled tokens.now e) }
     ensures fault { IfErr result (λ e. RefusesExpression tokens.now e) }
 {
-    match expression(alloc, tokens) {
-        Ok(expression) => Ok(expression),
-        Err(ExpressionFail::NoExpression) => Err(LineError::Refused(ReadCode::BadLine)),
-        Err(ExpressionFail::NoMemory) => Err(LineError::NoMemory),
-    }
+    Ok(expression(alloc, tokens)?)
 }
 
-fn kept_until(end: i64) -> Result<Line, LineError>
+fn kept_until(end: i64) -> Result<Line, ReadCode>
     ensures found { IfOk result (λ l. KeepsShape (plain (an_until end)) l) }
-    ensures fault { IfErr result (λ e. RefusesShape (plain (an_until end)) e) }
+    ensures fault { IfErr result (λ code. RefusesNumbers (an_until end) code) }
 {
     match ticks(end) {
         Some(end) => Ok(Line::Until(end)),
-        None => Err(LineError::Refused(ReadCode::LimitHit(Limit::Number))),
+        None => Err(ReadCode::LimitHit(Limit::Number)),
     }
 }
 
-fn kept_task(form: &TaskForm) -> Result<Line, LineError>
+fn kept_task(form: &TaskForm) -> Result<Line, ReadCode>
     ensures found { IfOk result (λ l. KeepsShape (plain (task_of form.now)) l) }
-    ensures fault { IfErr result (λ e. RefusesShape (plain (task_of form.now)) e) }
+    ensures fault { IfErr result (λ code. RefusesNumbers (task_of form.now) code) }
 {
     match task_line(form) {
         Some(task) => Ok(Line::Task(task)),
-        None => Err(LineError::Refused(ReadCode::LimitHit(Limit::Number))),
+        None => Err(ReadCode::LimitHit(Limit::Number)),
     }
 }
 
-fn kept_read(form: &ReadForm) -> Result<Line, LineError>
+fn kept_read(form: &ReadForm) -> Result<Line, ReadCode>
     ensures found { IfOk result (λ l. KeepsShape (plain (read_of form.now)) l) }
-    ensures fault { IfErr result (λ e. RefusesShape (plain (read_of form.now)) e) }
+    ensures fault { IfErr result (λ code. RefusesNumbers (read_of form.now) code) }
 {
     match ticks(form.at) {
         Some(at) => Ok(Line::Part(Part::Read {
@@ -71,7 +67,7 @@ fn kept_read(form: &ReadForm) -> Result<Line, LineError>
             port: form.port,
             at,
         })),
-        None => Err(LineError::Refused(ReadCode::LimitHit(Limit::Number))),
+        None => Err(ReadCode::LimitHit(Limit::Number)),
     }
 }
 
@@ -86,13 +82,13 @@ fn kept(alloc: Global, form: &Form) -> Result<Line, LineError>
         Form::Nothing => Ok(Line::Nothing),
         Form::Header => Ok(Line::Header),
         Form::Policy(policy) => Ok(Line::Policy(*policy)),
-        Form::Until(end) => kept_until(*end),
+        Form::Until(end) => Ok(kept_until(*end)?),
         Form::Input(name, first) => Ok(Line::Decl(Decl::Input(*name, *first))),
         Form::Event(name) => Ok(Line::Decl(Decl::Event(*name))),
-        Form::Task(task) => kept_task(task),
+        Form::Task(task) => Ok(kept_task(task)?),
         Form::State(name, first) => Ok(Line::Part(Part::State(*name, *first))),
         Form::Sense(name, input) => Ok(Line::Part(Part::Sense(*name, *input))),
-        Form::Read(read) => kept_read(read),
+        Form::Read(read) => Ok(kept_read(read)?),
         Form::Let(name, tokens) => Ok(Line::Part(Part::Let(*name, spelled(alloc, tokens)?))),
         Form::Next(name, tokens) => Ok(Line::Part(Part::Next(*name, spelled(alloc, tokens)?))),
         Form::Out(name, first, tokens) => {
@@ -118,9 +114,9 @@ pub(crate) fn statement(alloc: Global, place: Place, tokens: &[Token]) -> Result
             if stands(place, &form) {
                 kept(alloc, &form)
             } else {
-                Err(LineError::Refused(ReadCode::BadLine))
+                Err(LineError::from(ReadCode::BadLine))
             }
         }
-        None => Err(LineError::Refused(ReadCode::BadLine)),
+        None => Err(LineError::from(ReadCode::BadLine)),
     }
 }

@@ -24,7 +24,7 @@ pub record Bounded (d : Draft) (lines bytes : ℕ) : Type 0 where
 -- what is kept of a line fits
 abbrev pub KeptFits : Line → List ℕ → ℕ → Type 0
 KeptFits line.Row text more = length text + 1 ≤ more
-KeptFits line.Step text more = length text + 1 ≤ more
+KeptFits (line.Step kept) text more = length text + 1 ≤ more
 KeptFits _ text more = Unit {0}
 
 more : {A : Type 0} (xs : List A) (x : A) (n : ℕ) → length xs ≤ n → length (xs ++ x ∷ []) ≤ n + 1
@@ -75,7 +75,7 @@ bounded-more d k n m a text line.Trace b f = let s = still d n m a b in record {
 bounded-more d k n m a text line.Script b f = let s = still d n m a b in record { decls = s.decls; tasks = s.tasks; parts = s.parts; trace = s.trace; script = s.script; decl_lines = s.decl_lines; task_lines = s.task_lines; part_lines = s.part_lines; row_lines = s.row_lines; step_lines = s.step_lines }
 bounded-more d k n m a text line.Done b f = let s = still d n m a b in record { decls = s.decls; tasks = s.tasks; parts = s.parts; trace = s.trace; script = s.script; decl_lines = s.decl_lines; task_lines = s.task_lines; part_lines = s.part_lines; row_lines = s.row_lines; step_lines = s.step_lines }
 bounded-more d k n m a text line.Row b f = let s = still d n m a b in record { decls = s.decls; tasks = s.tasks; parts = s.parts; trace = text-fits d.trace.text text m a b.trace f; script = s.script; decl_lines = s.decl_lines; task_lines = s.task_lines; part_lines = s.part_lines; row_lines = more d.lines.trace k n b.row_lines; step_lines = s.step_lines }
-bounded-more d k n m a text line.Step b f = let s = still d n m a b in record { decls = s.decls; tasks = s.tasks; parts = s.parts; trace = s.trace; script = text-fits d.script.text text m a b.script f; decl_lines = s.decl_lines; task_lines = s.task_lines; part_lines = s.part_lines; row_lines = s.row_lines; step_lines = more d.lines.script k n b.step_lines }
+bounded-more d k n m a text (line.Step kept) b f = let s = still d n m a b in record { decls = s.decls; tasks = s.tasks; parts = s.parts; trace = s.trace; script = text-fits d.script.text text m a b.script f; decl_lines = s.decl_lines; task_lines = s.task_lines; part_lines = s.part_lines; row_lines = s.row_lines; step_lines = more d.lines.script k n b.step_lines }
 
 pub bounded-start : Bounded empty_draft 0 0
 bounded-start = record { decls = omega arith; tasks = omega arith; parts = tt; trace = omega arith; script = omega arith; decl_lines = omega arith; task_lines = omega arith; part_lines = omega arith; row_lines = omega arith; step_lines = omega arith }

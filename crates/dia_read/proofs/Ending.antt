@@ -1,12 +1,10 @@
 -- What a text is that was read to its end, or to its first fault.
-use Rattle.std.proofs.Common.{◌≡◌, ◌≢◌, ℕ, zero, suc, pos, ◌+◌, ◌≤◌, Bool, true, false, List, [], ◌∷◌, ◌++◌, length, reverse, get_or, refl, sym, ap, subst, ◌∙◌, arith, inl, inr}
-use Rattle.std.specs.Prelude.{nat_lt}
-use Rattle.std.proofs.lemmas.Bool.{cases_Bool}
-use Rattle.std.proofs.lemmas.Bool.Decides.{nat_tests}
+use Rattle.std.proofs.Common.{◌≡◌, ◌≢◌, ℕ, pos, ◌+◌, ◌≤◌, false, List, [], ◌∷◌, ◌++◌, length, reverse, get_or, refl, sym, ap, subst, ◌∙◌, arith}
 use Rattle.std.proofs.lemmas.List.{append-nil}
 use Rattle.dia_lines.specs.declared.fault.LineError.{LineError}
 use Rattle.dia_lines.specs.declared.fault.LineError.TheVariants as of_line
 use Rattle.dia_lines.specs.declared.fault.ReadCode.{ReadCode}
+use Rattle.dia_lines.specs.declared.fault.ReadCode.TheVariants.{MissingDone}
 use Rattle.dia_lines.specs.declared.place.Place.TheVariants.{Ended}
 use Rattle.dia_lines.specs.declared.position.Position.{Position}
 use Rattle.dia_lines.specs.Answers.{Refuses as RefusesLine}
@@ -15,13 +13,12 @@ use Rattle.dia_lines.specs.Text.{lines_of}
 use Rattle.dia_lines.proofs.TextLaws.{lines_of-nil}
 use Rattle.dia_read.specs.declared.draft.Draft.{Draft}
 use Rattle.dia_read.specs.Answers.{Refuses}
-use Rattle.dia_read.specs.Refusals.{is_blank_text, refused_at, refused_behind}
-use Rattle.dia_read.specs.Documents.{Run, Spells, is_trace, is_statement_of, lines_with, IsFirstLine, at_a_line, in_the_first_line, no_header, no_end}
+use Rattle.dia_read.specs.Refusals.{refused_at}
+use Rattle.dia_read.specs.Documents.{Run, Spells, is_trace, is_statement_of, lines_with, IsFirstLine, is_blank_text, IsFirstFault, at_a_line, no_end}
 use Rattle.dia_read.specs.Drafts.{finished}
 use Rattle.dia_read.proofs.Once.{policies_before, ends_before, dones_before, traces_before}
 use Rattle.dia_read.proofs.Holding.{last_or}
 use Rattle.dia_read.proofs.Reaching.{Reached}
-use Rattle.dia_read.proofs.RunLaws.{no-fault-in-run, no-earlier-fault}
 
 single : {A : Type 0} (xs : List A) (d v : A) → length xs ≡ 1 → last_or xs d ≡ v → xs ≡ v ∷ []
 single [] d v size last = absurd (omega arith)
@@ -70,26 +67,12 @@ module _ (bytes : List ℕ) (number : ℕ) (position : Position) (draft : Draft)
         };
       }
 
-  pub unended : position.place ≢ Ended → Refuses bytes (refused_behind bytes number)
-  unended open_end =
-      elim (cases_Bool (is_blank_text bytes)) [
-        | inl e ↦ rw e (no_header e (λ code first. no-fault-in-run reached.before (lines_of bytes) 0 code run first))
-        | inr e ↦
-            let count : length (lines_of bytes) ≡ number = sym (ap length whole) ∙ reached.lines in
-            rw (e, ← count) (no_end reached.before e run (λ end. open_end (reached.behind.place ∙ end)))
-      ]
+  pub unended : is_blank_text bytes ≡ false → position.place ≢ Ended → IsFirstFault bytes (number + 1) MissingDone
+  unended full open_end =
+      let count : length (lines_of bytes) ≡ number = sym (ap length whole) ∙ reached.lines in
+      rw (← count) (no_end reached.before full run (λ end. open_end (reached.behind.place ∙ end)))
 
-refused-line : (bytes : List ℕ) (number : ℕ) (code : ReadCode) → IsFirstLine (lines_of bytes) number code → Refuses bytes (refused_at bytes (number + 1) (of_line.Refused code))
-refused-line bytes number code first = go (is_blank_text bytes) number refl first
-  where
-    go : (b : Bool) (n : ℕ) → is_blank_text bytes ≡ b → IsFirstLine (lines_of bytes) n code → Refuses bytes (refused_at bytes (n + 1) (of_line.Refused code))
-    go false n e first = rw e (at_a_line n code e first)
-    go true zero e first = rw e (in_the_first_line code e first)
-    go true (suc n) e first =
-        let past : nat_lt 1 (suc n + 1) ≡ true = grind (arith, nat_tests) in
-        rw (e, past) (no_header e (λ other earlier. no-earlier-fault (lines_of bytes) 0 (suc n) other code earlier first (omega arith)))
-
-pub refused : (bytes : List ℕ) (number : ℕ) (before : List Said) (line : List ℕ) (error : LineError) → RefusesLine before line error
-    → ((code : ReadCode) → HasFault before line code → IsFirstLine (lines_of bytes) number code) → Refuses bytes (refused_at bytes (number + 1) error)
-refused bytes number before line (of_line.Refused code) fault first = refused-line bytes number code (first code fault)
-refused bytes number before line of_line.NoMemory fault first = tt
+pub refused : (bytes : List ℕ) (number : ℕ) (before : List Said) (line : List ℕ) (error : LineError) → is_blank_text bytes ≡ false → RefusesLine before line error
+    → ((code : ReadCode) → HasFault before line code → IsFirstLine (lines_of bytes) number code) → Refuses bytes (refused_at (number + 1) error)
+refused bytes number before line (of_line.Refused code) full fault first = at_a_line number code full (first code fault)
+refused bytes number before line of_line.NoMemory full fault first = tt

@@ -66,7 +66,7 @@ bare-drafted d n text line.Trace = refl
 bare-drafted d n text line.Script = refl
 bare-drafted d n text line.Done = refl
 bare-drafted d n text line.Row = refl
-bare-drafted d n text line.Step = refl
+bare-drafted d n text (line.Step kept) = refl
 
 abbrev position_at : List Said → Position
 position_at before = record {

@@ -284,8 +284,8 @@ module _ (said : List Said) (d : Draft) (h : Holds said d) where
       same (row t) e (ends-with said (row t) d e h.ends refl refl refl refl refl) refl refl refl refl refl refl
       (sections-with said (row t) d e h.sections (or-false d.trace.begun) (sym (append_assoc d.trace.text t (10 ∷ []))) (or-false d.script.begun) (append-nil d.script.text) refl (append-nil d.lines.script))
       refl refl refl refl refl
-  holds-more (step t) line.Step i b =
-      let e = drafted d n t line.Step in
+  holds-more (step t) (line.Step kept) i b =
+      let e = drafted d n t (line.Step kept) in
       same (step t) e (ends-with said (step t) d e h.ends refl refl refl refl refl) refl refl refl refl refl refl
       (sections-with said (step t) d e h.sections (or-false d.trace.begun) (append-nil d.trace.text) (or-false d.script.begun) (sym (append_assoc d.script.text t (10 ∷ []))) (append-nil d.lines.trace) refl)
       refl refl refl refl refl

@@ -1,8 +1,8 @@
 -- What is kept of a line that was read.
 use Rattle.std.proofs.Common.{◌≡◌, ◌≢◌, ℕ, ◌+◌, ◌*◌, ◌<◌, ◌≤◌, true, List, [], ◌∷◌, ◌++◌, length, filter, reverse, refl, ap, subst, arith}
 use Rattle.dia_tokens.specs.Pieces.{Piece}
-use Rattle.dia_tokens.specs.Spelling.{HasTokens, joined}
-use Rattle.dia_tokens.proofs.SpellingLaws.{joined-shorter}
+use Rattle.dia_tokens.specs.Spelling.{joined}
+use Rattle.dia_tokens.proofs.SpellingLaws.{joined-shorter, spelling-fits}
 use Rattle.dia_tokens.specs.declared.token.Token.{Token}
 use Rattle.dia_tokens.specs.Lexes.{Lexes}
 use Rattle.dia_tokens.specs.Values.{HaveValues, none}
@@ -18,7 +18,7 @@ use Rattle.dia_lines.specs.Limits.{is_task}
 use Rattle.dia_lines.proofs.PlaceLaws.{part-stands}
 use Rattle.dia_lines.proofs.TraceLaws.{row_is_line}
 use Rattle.dia_read.specs.Documents.{Run, no_line, a_line, kept_text}
-use Rattle.dia_read.specs.Drafts.{IsKeptText}
+use Rattle.dia_read.specs.Drafts.{text_of_line}
 use Rattle.dia_read.proofs.Bounds.{KeptFits}
 use Rattle.dia_read.proofs.Once.{Once, tasks_before}
 
@@ -34,30 +34,28 @@ pub no-row : (s : Statement) → IsKept s line.Row → ⊥
 no-row nothing h = h
 no-row s h = h
 
-pub no-step : (s : Statement) → IsKept s line.Step → ⊥
-no-step nothing h = h
-no-step s h = h
+pub no-step : (s : Statement) (kept : List ℕ) → IsKept s (line.Step kept) → ⊥
+no-step nothing kept h = h
+no-step s kept h = h
 
-pub kept-is : (before : List Said) (bytes : List ℕ) (said : Said) (l : Line) → Reads before bytes said → IsHeld said l → IsKeptText bytes l (kept_text said)
+pub kept-is : (before : List Said) (bytes : List ℕ) (said : Said) (l : Line) → Reads before bytes said → IsHeld said l → kept_text said ≡ text_of_line bytes l
 kept-is before bytes (row t) line.Row (of_the_trace b s here i) h = row_is_line bytes t i
 kept-is before bytes (row t) line.Row (of_the_script b s here i) h = elim i [ ]
-kept-is before bytes (step t) line.Step (of_the_script b s here (a_step c u ts e n o k)) h = k
-kept-is before bytes (step t) line.Step (of_the_trace b s here i) h = elim i [ ]
+kept-is before bytes (row t) l r h = absurd h
+kept-is before bytes (step t) (line.Step kept) r h = h
+kept-is before bytes (step t) l r h = absurd h
 kept-is before bytes (says s) line.Row r h = absurd (no-row s h)
-kept-is before bytes (says s) line.Step r h = absurd (no-step s h)
-kept-is before bytes (row t) line.Step r h = absurd h
-kept-is before bytes (step t) line.Row r h = absurd h
-kept-is before bytes x l r h = tt
+kept-is before bytes (says s) (line.Step kept) r h = absurd (no-step s kept h)
+kept-is before bytes (says s) l r h = refl
 
--- a line whose tokens are kept has some
-pub step-tokens : (before : List Said) (bytes : List ℕ) (said : Said) (l : Line) → Reads before bytes said → IsHeld said l → l ≡ line.Step → HasTokens bytes
-step-tokens before bytes said l r h e = go said r (subst (IsHeld said) e h)
-  where
-    go : (said : Said) → Reads before bytes said → IsHeld said line.Step → HasTokens bytes
-    go (says s) r h = absurd (no-step s h)
-    go (row t) r h = absurd h
-    go (step t) (of_the_script b s here (a_step c u ts e n o k)) h = record { texts = k.0; lexes = k.1 }
-    go (step t) (of_the_trace b s here i) h = elim i [ ]
+-- what is kept of a line takes at most twice its room
+pub kept-short : (before : List Said) (bytes : List ℕ) (said : Said) (l : Line) → Reads before bytes said → IsHeld said l → length (text_of_line bytes l) ≤ 2 * length bytes
+kept-short before bytes said line.Row r h = omega arith
+kept-short before bytes (step t) (line.Step kept) (of_the_script b s here (a_step c u ts e n o k)) h = subst (λ (x : List ℕ). length x ≤ 2 * length bytes) h (spelling-fits bytes t k)
+kept-short before bytes (step t) (line.Step kept) (of_the_trace b s here i) h = elim i [ ]
+kept-short before bytes (says s) (line.Step kept) r h = absurd (no-step s kept h)
+kept-short before bytes (row t) (line.Step kept) r h = absurd h
+kept-short before bytes said l r h = omega arith
 
 -- so much is kept of a line of so many bytes, where more bytes than these or none at all were read
 some-joined : (bytes : List ℕ) (ps : List Piece) (ts : List Token) (used : ℕ) → Lexes true bytes ps → HaveValues ps ts → ts ≢ [] → length bytes ≤ used → length (joined ps) + 1 ≤ 2 * used
@@ -71,13 +69,13 @@ some-joined bytes (p ∷ ps) ts used d v n w = omega (arith, joined-shorter byte
 pub kept-fits : (before : List Said) (bytes : List ℕ) (said : Said) (l : Line) (used : ℕ) → Reads before bytes said → IsHeld said l → length bytes ≤ used → 0 < used → KeptFits l (kept_text said) (2 * used)
 kept-fits before bytes (row t) line.Row used (of_the_trace b s here i) h w p = omega (arith, ap length (row_is_line bytes t i))
 kept-fits before bytes (row t) line.Row used (of_the_script b s here i) h w p = elim i [ ]
-kept-fits before bytes (step t) line.Step used (of_the_script b s here (a_step c u ts e n o k)) h w p =
+kept-fits before bytes (step t) (line.Step kept) used (of_the_script b s here (a_step c u ts e n o k)) h w p =
     let same : e.texts ≡ k.0 = Lexes-one true bytes e.texts k.0 e.lexes k.1 in
     rw k.2 (some-joined bytes k.0 ts used k.1 (subst (λ qs. HaveValues qs ts) same e.values) n w)
-kept-fits before bytes (step t) line.Step used (of_the_trace b s here i) h w p = elim i [ ]
+kept-fits before bytes (step t) (line.Step kept) used (of_the_trace b s here i) h w p = elim i [ ]
 kept-fits before bytes (says s) line.Row used r h w p = absurd (no-row s h)
-kept-fits before bytes (says s) line.Step used r h w p = absurd (no-step s h)
-kept-fits before bytes (row t) line.Step used r h w p = absurd h
+kept-fits before bytes (says s) (line.Step kept) used r h w p = absurd (no-step s kept h)
+kept-fits before bytes (row t) (line.Step kept) used r h w p = absurd h
 kept-fits before bytes (step t) line.Row used r h w p = absurd h
 kept-fits before bytes x l used r h w p = tt
 

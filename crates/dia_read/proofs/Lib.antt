@@ -9,6 +9,7 @@ pub mod Printing
 pub mod Reaching
 pub mod RunLaws
 pub mod Ending
+mod BlankTexts
 pub mod DocumentLaws
 pub mod FaultLaws
 pub mod Outcomes

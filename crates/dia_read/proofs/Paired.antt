@@ -42,7 +42,7 @@ pub record Paired (d : Draft) : Type 0 where
 abbrev pub PairsWith : Draft → List ℕ → Line → Type 0
 PairsWith d text (line.Part p) = (t : RawTask) × (d.tasks.latest ≡ Some t)
 PairsWith d text line.Row = (feeds text ≡ 0) × (d.trace.begun ≡ true)
-PairsWith d text line.Step = (feeds text ≡ 0) × (d.script.begun ≡ true)
+PairsWith d text (line.Step kept) = (feeds text ≡ 0) × (d.script.begun ≡ true)
 PairsWith d text _ = Unit {0}
 
 both-more : {A : Type 0} (ns : List ℕ) (n : ℕ) (xs : List A) (x : A) → length ns ≡ length xs → length (ns ++ n ∷ []) ≡ length (xs ++ x ∷ [])
@@ -79,7 +79,7 @@ paired-more d n text line.Trace b w = record { decls = b.decls; tasks = b.tasks;
 paired-more d n text line.Script b w = record { decls = b.decls; tasks = b.tasks; parts = b.parts; trace = b.trace; script = b.script; no_trace = b.no_trace; no_script = λ e. absurd (cc) }
 paired-more d n text line.Done b w = record { decls = b.decls; tasks = b.tasks; parts = b.parts; trace = b.trace; script = b.script; no_trace = b.no_trace; no_script = b.no_script }
 paired-more d n text line.Row b w = record { decls = b.decls; tasks = b.tasks; parts = b.parts; trace = fed d.lines.trace n d.trace.text text b.trace w.0; script = b.script; no_trace = λ e. absurd (cc (e, w.1)); no_script = b.no_script }
-paired-more d n text line.Step b w = record { decls = b.decls; tasks = b.tasks; parts = b.parts; trace = b.trace; script = fed d.lines.script n d.script.text text b.script w.0; no_trace = b.no_trace; no_script = λ e. absurd (cc (e, w.1)) }
+paired-more d n text (line.Step kept) b w = record { decls = b.decls; tasks = b.tasks; parts = b.parts; trace = b.trace; script = fed d.lines.script n d.script.text text b.script w.0; no_trace = b.no_trace; no_script = λ e. absurd (cc (e, w.1)) }
 
 section-lines : (begun : Bool) (text : List ℕ) (n : ℕ) → n ≡ feeds text → (begun ≡ false → text ≡ []) → n ≡ line_count (if begun then Some text else None)
 section-lines true text n e none = e

@@ -420,14 +420,14 @@ sections-stay s line.Trace d n k = (refl, refl)
 sections-stay s line.Script d n k = (refl, refl)
 sections-stay s line.Done d n k = (refl, refl)
 sections-stay s line.Row d n k = absurd (no-row s k)
-sections-stay s line.Step d n k = absurd (no-step s k)
+sections-stay s (line.Step kept) d n k = absurd (no-step s kept k)
 
 pub prints-more : (before : List Said) (x : Said) (l : Line) (d : Draft) (n : ℕ) → PrintsAll (statements before) d → IsSoundLine (statements before) x → IsHeld x l → HasLatest d l
     → PrintsAll (statements (x ∷ before)) (drafted d n (kept_text x) l)
 prints-more before (says s) l d n p i k h = record { items = prints-stated (statements before) s l d n p.items i k h; trace = rw (sections-stay s l d n k).0 p.trace; script = rw (sections-stay s l d n k).1 p.script }
 prints-more before (row t) line.Row d n p i k h =
     record { items = prints-same p.items refl refl refl; trace = keeps-more SaysInTrace row d.trace.text t p.trace i; script = p.script }
-prints-more before (step t) line.Step d n p i k h =
+prints-more before (step t) (line.Step kept) d n p i k h =
     record { items = prints-same p.items refl refl refl; trace = p.trace; script = keeps-more SaysInScript step d.script.text t p.script i }
 prints-more before x l d n p i k h = absurd k
 

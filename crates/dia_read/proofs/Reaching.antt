@@ -89,11 +89,11 @@ module _ (bytes rest : List ℕ) (number : ℕ) (position : Position) (draft : D
   pairs (line.Part p) said r h = latest (line.Part p) said r h
   pairs line.Row (row t) (of_the_trace b s here (a_row c i k)) h = (row-has-no-feed t i, begun-trace here)
   pairs line.Row (row t) (of_the_script b s here i) h = elim i [ ]
-  pairs line.Step (step t) (of_the_script b s here (a_step c u ts e n o k)) h = (no-feed c t ts e k, begun-script here)
-  pairs line.Step (step t) (of_the_trace b s here i) h = elim i [ ]
+  pairs (line.Step kept) (step t) (of_the_script b s here (a_step c u ts e n o k)) h = (no-feed c t ts e k, begun-script here)
+  pairs (line.Step kept) (step t) (of_the_trace b s here i) h = elim i [ ]
   pairs line.Row (says s) r h = absurd (no-row s h)
-  pairs line.Step (says s) r h = absurd (no-step s h)
-  pairs line.Step (row t) r h = absurd h
+  pairs (line.Step kept) (says s) r h = absurd (no-step s kept h)
+  pairs (line.Step kept) (row t) r h = absurd h
   pairs line.Row (step t) r h = absurd h
   pairs l said r h = tt
 

@@ -293,7 +293,7 @@ steps-follow : (bytes rest : List ℕ) (p : Policy) (end : ℕ) (ds : List Decl)
 steps-follow bytes rest p end ds ts tr sc [] h at =
     subst (λ text. At bytes rest Script (content p end ds ts tr (record { begun = sc.begun; text = text }))) (sym (append-nil sc.text)) at
 steps-follow bytes rest p end ds ts tr sc (l ∷ lines) h at =
-    let next = next-line bytes l (ended_lines lines ++ rest) Script Script (content p end ds ts tr sc) (step l) line.Step (step-inside l l h.0) tt (λ before here. here)
+    let next = next-line bytes l (ended_lines lines ++ rest) Script Script (content p end ds ts tr sc) (step l) (line.Step l) (step-inside l l h.0) refl (λ before here. here)
     (λ before d here holds prints. of_the_script l (step l) here h.0) (at-same bytes _ _ Script _ (append_assoc l (10 ∷ ended_lines lines) rest) at) in
     subst (λ text. At bytes rest Script (content p end ds ts tr (record { begun = sc.begun; text = text }))) (kept-line sc l lines)
     (steps-follow bytes rest p end ds ts tr (record { begun = sc.begun; text = sc.text ++ l ++ 10 ∷ [] }) lines h.1 next)

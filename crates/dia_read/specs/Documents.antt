@@ -146,14 +146,18 @@ pub record IsFirstLine (lines : List (List ℕ)) (index : ℕ) (code : ReadCode)
   pub run : Run [] (take index lines) before
   pub fault : HasFault before line code
 
+-- no line has tokens
+abbrev pub is_blank_text : List ℕ → Bool
+is_blank_text bytes = list_all is_blank_line (lines_of bytes)
+
 -- The text's first fault, and the number of its line. A text without any line with tokens lacks its header at line 1, even
 -- where a later comment has a byte that isn't allowed; such a byte in line 1 itself comes first.
 pub data IsFirstFault (bytes : List ℕ) : ℕ → ReadCode → Type 0 where
-  at_a_line : (index : ℕ) (code : ReadCode) → list_all is_blank_line (lines_of bytes) ≡ false → IsFirstLine (lines_of bytes) index code
+  at_a_line : (index : ℕ) (code : ReadCode) → is_blank_text bytes ≡ false → IsFirstLine (lines_of bytes) index code
       → IsFirstFault bytes (index + 1) code
-  in_the_first_line : (code : ReadCode) → list_all is_blank_line (lines_of bytes) ≡ true → IsFirstLine (lines_of bytes) 0 code → IsFirstFault bytes 1 code
-  no_header : list_all is_blank_line (lines_of bytes) ≡ true → ((code : ReadCode) → IsFirstLine (lines_of bytes) 0 code → ⊥) → IsFirstFault bytes 1 MissingHeader
-  no_end : (said : List Said) → list_all is_blank_line (lines_of bytes) ≡ false → Run [] (lines_of bytes) said → place_behind said ≢ Ended
+  in_the_first_line : (code : ReadCode) → is_blank_text bytes ≡ true → IsFirstLine (lines_of bytes) 0 code → IsFirstFault bytes 1 code
+  no_header : is_blank_text bytes ≡ true → ((code : ReadCode) → IsFirstLine (lines_of bytes) 0 code → ⊥) → IsFirstFault bytes 1 MissingHeader
+  no_end : (said : List Said) → is_blank_text bytes ≡ false → Run [] (lines_of bytes) said → place_behind said ≢ Ended
       → IsFirstFault bytes (length (lines_of bytes) + 1) MissingDone
 
 -- ---- another script

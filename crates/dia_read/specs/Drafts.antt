@@ -1,8 +1,7 @@
 -- What lines add to a draft.
-use Rattle.std.specs.Prelude.{◌≡◌, ℕ, ◌+◌, ◌*◌, ◌<◌, ◌^◌, true, false, List, [], ◌∷◌, ◌++◌, length, Option, Some, None, if◌then◌else◌}
+use Rattle.std.specs.Prelude.{ℕ, ◌+◌, ◌*◌, ◌<◌, ◌^◌, true, false, List, [], ◌∷◌, ◌++◌, length, Option, Some, None, if◌then◌else◌}
 use Rattle.std.specs.Option.{option_to_list, IfSome}
 use Rattle.dbp_plan.specs.declared.diagram.Policy.TheVariants.{Fp}
-use Rattle.dia_tokens.specs.Spelling.{IsSpelling}
 use Rattle.dia_lines.specs.declared.item.Line.{Line}
 use Rattle.dia_lines.specs.declared.item.Line.TheVariants as line
 use Rattle.dia_lines.specs.declared.item.Part.{Part}
@@ -43,13 +42,13 @@ drafted d number text line.Trace = record d { trace = record d.trace { begun = t
 drafted d number text line.Script = record d { script = record d.script { begun = true } }
 drafted d number text line.Done = record d { lines = record d.lines { done_at = number } }
 drafted d number text line.Row = record d { trace = kept_line d.trace text; lines = record d.lines { trace = d.lines.trace ++ number ∷ [] } }
-drafted d number text line.Step = record d { script = kept_line d.script text; lines = record d.lines { script = d.lines.script ++ number ∷ [] } }
+drafted d number text (line.Step kept) = record d { script = kept_line d.script text; lines = record d.lines { script = d.lines.script ++ number ∷ [] } }
 
--- what is kept of the bytes of a line: a row as it is, a step's tokens as they are spelled, of other lines nothing
-abbrev pub IsKeptText : List ℕ → Line → List ℕ → Type 0
-IsKeptText bytes line.Row text = text ≡ bytes
-IsKeptText bytes line.Step text = IsSpelling bytes text
-IsKeptText bytes _ text = Unit {0}
+-- what is kept of a line of these bytes: a row as it is, a step's text, of other lines nothing
+abbrev pub text_of_line : List ℕ → Line → List ℕ
+text_of_line bytes line.Row = bytes
+text_of_line bytes (line.Step text) = text
+text_of_line bytes _ = []
 
 -- there is room for the line with the number, of so many bytes
 pub record HasRoom (d : Draft) (number bytes : ℕ) : Type 0 where

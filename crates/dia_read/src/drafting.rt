@@ -1,16 +1,13 @@
 // One more line in a draft.
 
-ghost use Rattle.std.specs.Prelude.{◌≡◌, ℕ, ◌+◌, ◌*◌, ◌<◌, ◌^◌, ◌++◌, List as Items, length, IfOk, OnOk};
+ghost use Rattle.std.specs.Prelude.{◌≡◌, ◌+◌, ◌*◌, ◌<◌, ◌≤◌, ◌^◌, ◌++◌, length, IfOk, OnOk};
 ghost use Rattle.std.specs.Option.{option_to_list, IfSome as ForSome};
-ghost use Rattle.dia_lines.specs.declared.item.Line.TheVariants.{Step};
-ghost use Rattle.dia_tokens.specs.Spelling.{HasTokens, IsSpelling};
-ghost use Rattle.dia_read.specs.Drafts.{begun, added, kept_line, drafted, IsKeptText, HasRoom, empty_section, empty_draft, section_text, finished};
+ghost use Rattle.dia_read.specs.Drafts.{begun, added, kept_line, drafted, text_of_line, HasRoom, empty_section, empty_draft, section_text, finished};
 
 use crate::draft::{Draft, Section, Tasks};
 use crate::{Body, Doc, DocLines, RawTask};
 use dbp_plan::{List, NoMemory, Policy};
 use dia_lines::{Line, Part, TaskLine};
-use dia_tokens::push_spelling;
 use std::alloc::Global;
 
 impl Tasks {
@@ -85,16 +82,6 @@ impl Section {
         self.text.extend_from_slice(line)?;
         self.text.push(b'\n')
     }
-
-    /// Keeps the tokens of a line as they are spelled.
-    fn keep_spelling(&mut self, line: &[u8]) -> Result<(), NoMemory>
-        requires tokens { HasTokens line.now }
-        requires room { length self.old.text + 2 * length line.now + 1 < 2 ^ 32 }
-        ensures { (text : Items ℕ) → IsSpelling line.now text → OnOk result (self.new ≡ kept_line self.old text) }
-    {
-        push_spelling(&mut self.text, line)?;
-        self.text.push(b'\n')
-    }
 }
 
 impl Draft {
@@ -151,10 +138,10 @@ impl Draft {
         bytes: &[u8],
         line: Line,
     ) -> Result<(), NoMemory>
-        requires tokens { line ≡ Step → HasTokens bytes.now }
+        requires kept { length (text_of_line bytes.now line) ≤ 2 * length bytes.now }
         requires few { number < 2 ^ 31 }
         requires room { HasRoom self.old number (length bytes.now) }
-        ensures { (text : Items ℕ) → IsKeptText bytes.now line text → OnOk result (self.new ≡ drafted self.old number text line) }
+        ensures { OnOk result (self.new ≡ drafted self.old number (text_of_line bytes.now line) line) }
     {
         match line {
             Line::Nothing | Line::Header => {}
@@ -185,8 +172,8 @@ impl Draft {
                 self.trace.keep(bytes)?;
                 self.lines.trace.push(number)?;
             }
-            Line::Step => {
-                self.script.keep_spelling(bytes)?;
+            Line::Step(text) => {
+                self.script.keep(text.bytes())?;
                 self.lines.script.push(number)?;
             }
         }

@@ -1,6 +1,6 @@
 // Reading a text, line by line.
 
-ghost use Rattle.std.specs.Prelude.{◌≡◌, ℕ, ◌≤◌, length, IfOk, IfErr};
+ghost use Rattle.std.specs.Prelude.{◌≡◌, ℕ, ◌≤◌, true, false, length, Err, IfOk, IfErr};
 ghost use Rattle.dbp_plan.specs.declared.limits.TheConstants.{MAX_TEXT};
 ghost use Rattle.dia_lines.specs.declared.fault.ReadCode.{ReadCode as Code};
 ghost use Rattle.dia_read.specs.declared.document.Doc.{Doc as Document};
@@ -8,18 +8,19 @@ ghost use Rattle.dia_read.specs.declared.fault.ReadFail.TheVariants.{Refused};
 ghost use Rattle.dia_read.specs.declared.document.Body.{Body as BodyRead};
 ghost use Rattle.dia_read.specs.Answers.{Refuses, Gives, HasBody, IsRefused};
 ghost use Rattle.dia_read.specs.Canonical.{canonical_text};
-ghost use Rattle.dia_read.specs.Documents.{Spells, IsFirstFault};
+ghost use Rattle.dia_read.specs.Documents.{is_blank_text, Spells, IsFirstFault};
 ghost use Rattle.dia_read.specs.Printable.{IsPrintable, HasItemLines};
 
 use crate::draft::Draft;
-use crate::refusal::{refused_at, refused_behind};
-use crate::{Doc, ReadFail};
+use crate::refusal::{blank_fault, is_blank_text, refused_at};
+use crate::{Doc, ReadCode, ReadFail};
 use dia_lines::{Position, next_line, read_line};
 use std::alloc::Global;
 
-/// The document that the text spells, or its first fault.
-fn read_text(alloc: Global, bytes: &[u8]) -> Result<Doc, ReadFail>
-    requires { length bytes.now ≤ MAX_TEXT }
+/// The document that a text with tokens spells, or its first fault.
+fn read_lines(alloc: Global, bytes: &[u8]) -> Result<Doc, ReadFail>
+    requires fits { length bytes.now ≤ MAX_TEXT }
+    requires full { is_blank_text bytes.now ≡ false }
     ensures found { IfOk result (λ doc. Spells bytes.now doc) }
     ensures printable { IfOk result (λ doc. IsPrintable doc.body) }
     ensures lines { IfOk result (λ doc. HasItemLines doc) }
@@ -37,14 +38,37 @@ fn read_text(alloc: Global, bytes: &[u8]) -> Result<Doc, ReadFail>
                 draft.add(alloc, number, line, item)?;
                 position = next;
             }
-            Err(error) => return Err(refused_at(bytes, number, error)),
+            Err(error) => return Err(refused_at(number, error)),
         }
         rest = after;
     }
     if position.is_ended() {
         Ok(draft.finish()?)
     } else {
-        Err(refused_behind(bytes, number))
+        Err(ReadFail::Refused {
+            line: number + 1,
+            code: ReadCode::MissingDone,
+        })
+    }
+}
+
+/// The document that the text spells, or its first fault.
+fn read_text(alloc: Global, bytes: &[u8]) -> Result<Doc, ReadFail>
+    requires { length bytes.now ≤ MAX_TEXT }
+    ensures found { IfOk result (λ doc. Spells bytes.now doc) }
+    ensures printable { IfOk result (λ doc. IsPrintable doc.body) }
+    ensures lines { IfOk result (λ doc. HasItemLines doc) }
+    ensures fault { IfErr result (λ e. Refuses bytes.now e) }
+    ensures blank { (line : ℕ) (code : Code) → is_blank_text bytes.now ≡ true
+        → IsFirstFault bytes.now line code → result ≡ Err (Refused line code) }
+{
+    if is_blank_text(bytes) {
+        Err(ReadFail::Refused {
+            line: 1,
+            code: blank_fault(bytes),
+        })
+    } else {
+        read_lines(alloc, bytes)
     }
 }
 
@@ -63,6 +87,9 @@ pub fn read_doc(alloc: Global, bytes: &[u8]) -> Result<Doc, ReadFail>
     ensures again { (body : BodyRead) → IsPrintable body → bytes.now ≡ canonical_text body → HasBody body result }
     // A refusal says the text's first fault, unless memory ran out.
     ensures fault { IfErr result (λ e. Refuses bytes.now e) }
+    // A text without any line with tokens is refused with its first fault, whatever memory there is.
+    ensures blank { (line : ℕ) (code : Code) → is_blank_text bytes.now ≡ true
+        → IsFirstFault bytes.now line code → result ≡ Err (Refused line code) }
     // A text with a first fault is refused with it, unless memory runs out.
     ensures refused { (line : ℕ) (code : Code) → IsFirstFault bytes.now line code → IsRefused (Refused line code) result }
 {

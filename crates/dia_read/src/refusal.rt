@@ -1,11 +1,13 @@
 // Texts without any line with tokens, and where a text is refused.
 
-ghost use Rattle.std.specs.Prelude.{◌≡◌, ◌+◌, ◌<◌, ◌^◌};
-ghost use Rattle.dia_read.specs.Refusals.{is_blank_text as has_no_tokens, refused_at as refusal_at, refused_behind as refusal_behind};
+ghost use Rattle.std.specs.Prelude.{◌≡◌, true};
+ghost use Rattle.dia_read.specs.Documents.{is_blank_text, IsFirstFault};
+ghost use Rattle.dia_read.specs.Refusals.{refused_at as refusal_at};
 ghost use Rattle.dia_tokens.specs.Blanks.{is_blank_line as is_blank};
 
 use crate::ReadFail;
 use dia_lines::{LineError, ReadCode, next_line};
+use dia_tokens::all_allowed;
 
 /// Whether the line has nothing but spaces, tabs and a comment.
 fn is_blank_line(line: &[u8]) -> bool
@@ -23,8 +25,8 @@ fn is_blank_line(line: &[u8]) -> bool
 }
 
 /// Whether no line of the text has tokens.
-fn is_blank_text(bytes: &[u8]) -> bool
-    ensures { result ≡ has_no_tokens bytes.now }
+pub(crate) fn is_blank_text(bytes: &[u8]) -> bool
+    ensures { result ≡ is_blank_text bytes.now }
 {
     let mut rest = bytes;
     while !rest.is_empty() {
@@ -37,37 +39,28 @@ fn is_blank_text(bytes: &[u8]) -> bool
     true
 }
 
-/// The refusal of a text, of which the line with the number is the first that isn't read.
-pub(crate) fn refused_at(bytes: &[u8], number: u32, error: LineError) -> ReadFail
-    ensures { result ≡ refusal_at bytes.now number error }
+/// The fault of a text without any line with tokens. It stands at line 1.
+pub(crate) fn blank_fault(bytes: &[u8]) -> ReadCode
+    requires { is_blank_text bytes.now ≡ true }
+    ensures { IsFirstFault bytes.now 1 result }
 {
-    match error {
-        LineError::NoMemory => ReadFail::NoMemory,
-        LineError::Refused(code) => if number > 1 && is_blank_text(bytes) {
-            ReadFail::Refused {
-                line: 1,
-                code: ReadCode::MissingHeader,
-            }
-        } else {
-            ReadFail::Refused { line: number, code }
-        },
+    if bytes.is_empty() {
+        return ReadCode::MissingHeader;
+    }
+    let (line, _) = next_line(bytes);
+    if all_allowed(line) {
+        ReadCode::MissingHeader
+    } else {
+        ReadCode::BadByte
     }
 }
 
-/// The refusal of a text of so many lines that comes to no end.
-pub(crate) fn refused_behind(bytes: &[u8], count: u32) -> ReadFail
-    requires { count + 1 < 2 ^ 32 }
-    ensures { result ≡ refusal_behind bytes.now count }
+/// The refusal of a text, of which the line with the number is the first that isn't read.
+pub(crate) fn refused_at(number: u32, error: LineError) -> ReadFail
+    ensures { result ≡ refusal_at number error }
 {
-    if is_blank_text(bytes) {
-        ReadFail::Refused {
-            line: 1,
-            code: ReadCode::MissingHeader,
-        }
-    } else {
-        ReadFail::Refused {
-            line: count + 1,
-            code: ReadCode::MissingDone,
-        }
+    match error {
+        LineError::Refused(code) => ReadFail::Refused { line: number, code },
+        LineError::NoMemory => ReadFail::NoMemory,
     }
 }

@@ -50,6 +50,10 @@ not-first b bs k e no_hash no_blank h = elim (blank-first b bs h) [ inl is ↦ n
 blank-behind : (b : ℕ) (bs : List ℕ) → kind_of b ≡ Blank → is_blank_line (b ∷ bs) ≡ true → is_blank_line bs ≡ true
 blank-behind b bs e h = elim (blank-first b bs h) [ inl is ↦ absurd (let no : Blank ≡ Hash = sym e ∙ is in cc) | inr is ↦ is.1 ]
 
+pub blank-lexes : (s : Bool) (line : List ℕ) → is_blank_line line ≡ true → Lexes s line []
+blank-lexes s [] h = ends s
+blank-lexes s (b ∷ bs) h = elim (blank-first b bs h) [ inl is ↦ a_comment s b bs is | inr is ↦ a_blank s b bs [] is.0 (blank-lexes s bs is.1) ]
+
 pub blank-texts : (s : Bool) (line : List ℕ) (ps : List Piece) → Lexes s line ps → is_blank_line line ≡ true → ps ≡ []
 blank-texts s line ps (ends t) h = refl
 blank-texts s line ps (a_comment t b bs e) h = refl

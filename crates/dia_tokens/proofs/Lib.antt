@@ -6,5 +6,7 @@ pub mod ValueLaws
 pub mod OneLine
 pub mod ReadLaws
 pub mod SpellingLaws
+pub mod Spelled
 pub mod LineSpells
 pub mod TokenTexts
+pub mod WordsAlone

@@ -1,29 +1,30 @@
--- The loop that reads a line's tokens.
+-- The loops that read a line's tokens.
 use Rattle.std.proofs.Common.{◌≡◌, ℕ, Bool, true, false, List, [], ◌∷◌, ◌++◌, Option, Some, None, refl, ap, ◌∙◌}
 use Rattle.std.specs.Prelude.{◌&&◌}
 use Rattle.std.specs.List.{list_all}
 use Rattle.std.proofs.Math.Bool.{and-true, and-false}
 use Rattle.std.proofs.lemmas.List.Folds.{list_all-append}
-use Rattle.dia_tokens.specs.declared.line.LineFail.{LineFail}
-use Rattle.dia_tokens.specs.declared.line.LineFail.TheVariants.{BadByte, BadToken, NumberTooWide, NameTooLong, NoMemory}
+use Rattle.dia_tokens.specs.declared.line.LineFail.TheVariants.{BadToken}
+use Rattle.dia_tokens.specs.declared.values.ValueFail.{ValueFail}
+use Rattle.dia_tokens.specs.declared.values.ValueFail.TheVariants.{NumberTooWide, NameTooLong}
 use Rattle.dia_tokens.specs.declared.token.Token.{Token}
+use Rattle.dia_tokens.specs.declared.token.Token.TheVariants as value
 use Rattle.dia_tokens.specs.Kinds.{is_allowed}
 use Rattle.dia_tokens.specs.Lexes.{signs}
 use Rattle.dia_tokens.specs.Line.{Spells, HasFault, a_bad_token, a_wide_number, a_long_name, Refuses}
 use Rattle.dia_tokens.specs.Pieces.{Piece, word, name, number, symbol}
 use Rattle.dia_tokens.specs.Reading.{nothing, bad, found, token_at}
-use Rattle.dia_tokens.specs.Shapes.{FailsOn, first_fault}
-use Rattle.dia_tokens.specs.Values.{is_narrow, is_short, HasValue, HaveValues, none}
+use Rattle.dia_tokens.specs.Shapes.{FailsOn, first_fault, line_fail}
+use Rattle.dia_tokens.specs.Values.{number_of, is_narrow, is_short, HasValue, of_word, of_name, of_number, of_symbol, HaveValues, none}
 use Rattle.dia_tokens.proofs.LexLaws.{Between, Between-starts, Between-found, Between-ends, Between-bad}
 use Rattle.dia_tokens.proofs.OneLine.{narrow, all-narrow}
 use Rattle.dia_tokens.proofs.ValueLaws.{HaveValues-push}
 
 -- the values of the texts, or the fault that goes before their others
-abbrev pub Tells : List Piece → List Token → Option LineFail → Type 0
+abbrev pub Tells : List Piece → List Token → Option ValueFail → Type 0
 Tells ps ts None = HaveValues ps ts
 Tells ps ts (Some NumberTooWide) = list_all is_narrow ps ≡ false
 Tells ps ts (Some NameTooLong) = (list_all is_narrow ps ≡ true) × (list_all is_short ps ≡ false)
-Tells ps ts (Some _) = ⊥
 
 pushed : (p : Piece → Bool) (ps : List Piece) (q : Piece) → list_all p (ps ++ q ∷ []) ≡ (list_all p ps && p q)
 pushed p ps q = list_all-append p ps (q ∷ []) ∙ ap (λ (b : Bool). list_all p ps && b) (and-true (p q))
@@ -37,13 +38,10 @@ fails-at p ps q e = rw (pushed p ps q, e) (and-false (list_all p ps))
 holds-on : (p : Piece → Bool) (ps : List Piece) (q : Piece) → list_all p ps ≡ true → p q ≡ true → list_all p (ps ++ q ∷ []) ≡ true
 holds-on p ps q e f = rw (pushed p ps q, e, f) refl
 
-Tells-value : (ps : List Piece) (ts : List Token) (f : Option LineFail) (p : Piece) (t : Token) → Tells ps ts f → HasValue p t → Tells (ps ++ p ∷ []) (ts ++ t ∷ []) f
+Tells-value : (ps : List Piece) (ts : List Token) (f : Option ValueFail) (p : Piece) (t : Token) → Tells ps ts f → HasValue p t → Tells (ps ++ p ∷ []) (ts ++ t ∷ []) f
 Tells-value ps ts None p t h v = HaveValues-push ps ts p t h v
 Tells-value ps ts (Some NumberTooWide) p t h v = fails-before is_narrow ps p h
 Tells-value ps ts (Some NameTooLong) p t h v = (holds-on is_narrow ps p h.0 (narrow p t v), fails-before is_short ps p h.1)
-Tells-value ps ts (Some BadByte) p t h v = absurd h
-Tells-value ps ts (Some BadToken) p t h v = absurd h
-Tells-value ps ts (Some NoMemory) p t h v = absurd h
 
 long-narrow : (p : Piece) → is_short p ≡ false → is_narrow p ≡ true
 long-narrow (name text) e = refl
@@ -51,24 +49,15 @@ long-narrow (number text) e = absurd cc
 long-narrow (word w) e = absurd cc
 long-narrow (symbol s) e = absurd cc
 
-Tells-fault : (ps : List Piece) (ts : List Token) (f : Option LineFail) (p : Piece) (e : LineFail) → Tells ps ts f → FailsOn p e → Tells (ps ++ p ∷ []) ts (Some (first_fault f e))
+Tells-fault : (ps : List Piece) (ts : List Token) (f : Option ValueFail) (p : Piece) (e : ValueFail) → Tells ps ts f → FailsOn p e → Tells (ps ++ p ∷ []) ts (Some (first_fault f e))
 Tells-fault ps ts (Some NumberTooWide) p e h g = fails-before is_narrow ps p h
 Tells-fault ps ts None p NumberTooWide h g = fails-at is_narrow ps p g
 Tells-fault ps ts None p NameTooLong h g = (holds-on is_narrow ps p (all-narrow ps ts h) (long-narrow p g), fails-at is_short ps p g)
 Tells-fault ps ts (Some NameTooLong) p NumberTooWide h g = fails-at is_narrow ps p g
 Tells-fault ps ts (Some NameTooLong) p NameTooLong h g = (holds-on is_narrow ps p h.0 (long-narrow p g), fails-at is_short ps p g)
-Tells-fault ps ts (Some NameTooLong) p BadByte h g = absurd g
-Tells-fault ps ts (Some NameTooLong) p BadToken h g = absurd g
-Tells-fault ps ts (Some NameTooLong) p NoMemory h g = absurd g
-Tells-fault ps ts None p BadByte h g = absurd g
-Tells-fault ps ts None p BadToken h g = absurd g
-Tells-fault ps ts None p NoMemory h g = absurd g
-Tells-fault ps ts (Some BadByte) p e h g = absurd h
-Tells-fault ps ts (Some BadToken) p e h g = absurd h
-Tells-fault ps ts (Some NoMemory) p e h g = absurd h
 
 -- what was read of the line, up to the rest
-pub record Reads (line : List ℕ) (ts : List Token) (fault : Option LineFail) (signed : Bool) (rest : List ℕ) : Type 0 where
+pub record Reads (line : List ℕ) (ts : List Token) (fault : Option ValueFail) (signed : Bool) (rest : List ℕ) : Type 0 where
   pub texts : List Piece
   pub between : Between line texts signed rest
   pub tells : Tells texts ts fault
@@ -76,7 +65,7 @@ pub record Reads (line : List ℕ) (ts : List Token) (fault : Option LineFail) (
 pub Reads-starts : (line : List ℕ) → Reads line [] None true line
 Reads-starts line = record { texts = []; between = Between-starts line; tells = none }
 
-pub Reads-value : {line : List ℕ} {ts : List Token} {f : Option LineFail} {signed : Bool} {rest : List ℕ} {p : Piece} {after : List ℕ} {t : Token} → Reads line ts f signed rest → found p after ≡ token_at signed rest → HasValue p t
+pub Reads-value : {line : List ℕ} {ts : List Token} {f : Option ValueFail} {signed : Bool} {rest : List ℕ} {p : Piece} {after : List ℕ} {t : Token} → Reads line ts f signed rest → found p after ≡ token_at signed rest → HasValue p t
     → Reads line (ts ++ t ∷ []) f (signs p) after
 Reads-value {line} {ts} {f} {signed} {rest} {p} {after} {t} r e v = record {
   texts = r.texts ++ p ∷ [];
@@ -84,7 +73,7 @@ Reads-value {line} {ts} {f} {signed} {rest} {p} {after} {t} r e v = record {
   tells = Tells-value r.texts ts f p t r.tells v;
 }
 
-pub Reads-fault : {line : List ℕ} {ts : List Token} {f : Option LineFail} {signed : Bool} {rest : List ℕ} {p : Piece} {after : List ℕ} (x : LineFail) → Reads line ts f signed rest → found p after ≡ token_at signed rest → FailsOn p x
+pub Reads-fault : {line : List ℕ} {ts : List Token} {f : Option ValueFail} {signed : Bool} {rest : List ℕ} {p : Piece} {after : List ℕ} (x : ValueFail) → Reads line ts f signed rest → found p after ≡ token_at signed rest → FailsOn p x
     → Reads line ts (Some (first_fault f x)) (signs p) after
 Reads-fault {line} {ts} {f} {signed} {rest} {p} {after} x r e g = record {
   texts = r.texts ++ p ∷ [];
@@ -92,18 +81,22 @@ Reads-fault {line} {ts} {f} {signed} {rest} {p} {after} x r e g = record {
   tells = Tells-fault r.texts ts f p x r.tells g;
 }
 
-pub Reads-bad : {line : List ℕ} {ts : List Token} {f : Option LineFail} {signed : Bool} {rest : List ℕ} → Reads line ts f signed rest → bad ≡ token_at signed rest → list_all is_allowed line ≡ true → HasFault line BadToken
+pub Reads-bad : {line : List ℕ} {ts : List Token} {f : Option ValueFail} {signed : Bool} {rest : List ℕ} → Reads line ts f signed rest → bad ≡ token_at signed rest → list_all is_allowed line ≡ true → HasFault line BadToken
 Reads-bad {line} {ts} {f} {signed} {rest} r e a = a_bad_token line a (Between-bad line r.texts signed rest r.between e)
 
 pub Reads-tokens : {line : List ℕ} {ts : List Token} {signed : Bool} {rest : List ℕ} → Reads line ts None signed rest → nothing ≡ token_at signed rest → list_all is_allowed line ≡ true → Spells line ts
 Reads-tokens {line} {ts} {signed} {rest} r e a = record { texts = r.texts; allowed = a; lexes = Between-ends line r.texts signed rest r.between e; values = r.tells }
 
-pub Reads-faulty : {line : List ℕ} {ts : List Token} {x : LineFail} {signed : Bool} {rest : List ℕ} → Reads line ts (Some x) signed rest → nothing ≡ token_at signed rest → list_all is_allowed line ≡ true → Refuses line x
+pub Reads-faulty : {line : List ℕ} {ts : List Token} {x : ValueFail} {signed : Bool} {rest : List ℕ} → Reads line ts (Some x) signed rest → nothing ≡ token_at signed rest → list_all is_allowed line ≡ true → Refuses line (line_fail x)
 Reads-faulty {line} {ts} {x} {signed} {rest} r e a = refused x r.tells
   where
-    refused : (x : LineFail) → Tells r.texts ts (Some x) → Refuses line x
+    refused : (x : ValueFail) → Tells r.texts ts (Some x) → Refuses line (line_fail x)
     refused NumberTooWide h = a_wide_number line r.texts a (Between-ends line r.texts signed rest r.between e) h
     refused NameTooLong h = a_long_name line r.texts a (Between-ends line r.texts signed rest r.between e) h.0 h.1
-    refused BadByte h = absurd h
-    refused BadToken h = absurd h
-    refused NoMemory h = absurd h
+
+-- a text without a fault has a value
+pub has-value : (p : Piece) → is_narrow p ≡ true → is_short p ≡ true → (t : Token) × HasValue p t
+has-value (word w) narrow short = (value.Word w, of_word w)
+has-value (name text) narrow short = (value.Name text, of_name text short)
+has-value (number text) narrow short = (value.Number (number_of text), of_number text narrow)
+has-value (symbol s) narrow short = (value.Symbol s, of_symbol s)

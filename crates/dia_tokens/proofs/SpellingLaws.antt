@@ -1,5 +1,5 @@
 -- What the texts of tokens are, and that they make the same tokens again.
-use Rattle.std.proofs.Common.{◌≡◌, ℕ, pos, neg_ℤ, zero, suc, ◌+◌, ◌*◌, ◌^◌, ◌<◌, ◌≤◌, drop, Bool, true, false, cond, All, List, [], ◌∷◌, ◌++◌, length, Option, Some, None, IfSome, refl, sym, ap, subst, ◌∙◌, Bor, append_assoc, arith, inl, inr}
+use Rattle.std.proofs.Common.{◌≡◌, ℕ, pos, neg_ℤ, zero, suc, ◌+◌, ◌*◌, ◌^◌, ◌<◌, ◌≤◌, drop, Bool, true, false, cond, All, List, [], ◌∷◌, ◌++◌, length, Option, Some, None, IfSome, refl, sym, ap, subst, ◌∙◌, append_assoc, arith, inl, inr}
 use Rattle.std.specs.Prelude.{◌==◌, nat_le, nat_lt}
 use Rattle.std.specs.List.{AllByRecursion, list_all, count_by}
 use Rattle.std.specs.Str.{bytes_eq}
@@ -14,18 +14,14 @@ use Rattle.dia_tokens.specs.declared.token.Symbol.TheVariants.{Assign, Equal, Un
 use Rattle.dia_tokens.specs.declared.token.Token.{Token}
 use Rattle.dia_tokens.specs.declared.token.Word.{Word}
 use Rattle.dia_tokens.specs.declared.token.Word.TheVariants as spelled
-use Rattle.dia_tokens.specs.declared.lexing.Front.{Front as HeldFront}
-use Rattle.dia_tokens.specs.declared.lexing.Front.TheVariants as held
-use Rattle.dia_tokens.specs.declared.piece.Piece.{Piece as Held}
 use Rattle.dia_tokens.specs.declared.kind.Kind.{Kind}
 use Rattle.dia_tokens.specs.declared.kind.Kind.TheVariants.{Blank, Hash, Letter, Digit, Dash, Bang, Pair, Plain, Other}
-use Rattle.dia_tokens.specs.Fronts.{front}
 use Rattle.dia_tokens.specs.Kinds.{is_allowed, kind_of, symbol_kind_of, is_name, is_digit, is_equals}
 use Rattle.dia_tokens.specs.Lexes.{signs, Stops, Lexes, ends, a_comment, a_blank, a_name, a_number, a_signed_number, a_minus, an_unequal, a_short, a_long, a_plain}
 use Rattle.dia_tokens.specs.Line.{Spells}
 use Rattle.dia_tokens.specs.Pieces.{Piece, word, name, number, symbol}
-use Rattle.dia_tokens.specs.Reading.{found, token_at}
-use Rattle.dia_tokens.specs.Spelling.{symbol_text, text_of, spaced, joined, IsSpelling, HasTokens}
+use Rattle.dia_tokens.specs.Reading.{nothing, found, token_at}
+use Rattle.dia_tokens.specs.Spelling.{symbol_text, text_of, spaced, joined, IsSpelling}
 use Rattle.dia_tokens.specs.Printable.{IsPrintableNumber, IsPrintableToken}
 use Rattle.dia_tokens.specs.Shapes.{IsNameText, letters}
 use Rattle.dia_tokens.specs.Values.{digits_value, is_negative, number_of, is_in_range, HasValue, of_word, of_name, of_number, of_symbol, HaveValues, none, another}
@@ -352,44 +348,33 @@ printable-tokens line ts s = All-from_recursion IsPrintableToken ts (each-printa
 -- ---- the loop over a line
 
 -- what was added and the tokens that are left make the line's tokens
-pub record Leaves (start line out : List ℕ) (first signed : Bool) (rest : List ℕ) : Type 0 where
-  pub tokens : (ps : List Piece) → Lexes true line ps → (us : List Piece) × Lexes signed rest us × (start ++ joined ps ≡ out ++ left first us)
-  pub grown : (added : List ℕ) × (out ≡ start ++ added)
+pub record Leaves (line out : List ℕ) (first signed : Bool) (rest : List ℕ) : Type 0 where
+  pub tokens : (ps : List Piece) → Lexes true line ps → (us : List Piece) × Lexes signed rest us × (joined ps ≡ out ++ left first us)
+
+pub Leaves-starts : (line : List ℕ) → Leaves line [] true true line
+Leaves-starts line = record { tokens = λ ps d. (ps, d, refl) }
 
 left-next : (first : Bool) (p : Piece) (ps : List Piece) → left first (p ∷ ps) ≡ spaced first p ++ left false ps
 left-next true p ps = joined-next p ps
 left-next false p ps = ap (λ (text : List ℕ). 32 ∷ text) (joined-next p ps)
 
 -- the token in front is the next of those that are left
-next-left : {start line out : List ℕ} {first signed : Bool} {rest : List ℕ} {p : Piece} {after : List ℕ} → Leaves start line out first signed rest → found p after ≡ token_at signed rest
-    → (ps : List Piece) → Lexes true line ps → (us : List Piece) × Lexes (signs p) after us × (start ++ joined ps ≡ (out ++ spaced first p) ++ left false us)
-next-left {start} {line} {out} {first} {signed} {rest} {p} {after} l e ps d =
-    let t = l.tokens ps d in
-    let i : Inverts t.0 (found p after) = subst (Inverts t.0) (sym e) (Inverts-at signed rest t.0 t.1) in
-    (i.0, i.2, t.2 ∙ ap (λ (us : List Piece). out ++ left first us) i.1 ∙ ap (λ (text : List ℕ). out ++ text) (left-next first p i.0) ∙ sym (append_assoc out (spaced first p) (left false i.0)))
-
-pub Leaves-found : {start line out : List ℕ} {first signed : Bool} {rest : List ℕ} {p : Piece} {after : List ℕ} → Leaves start line out first signed rest → found p after ≡ token_at signed rest
-    → Leaves start line (out ++ spaced first p) false (signs p) after
-Leaves-found {start} {line} {out} {first} {signed} {rest} {p} l e = record { tokens = next-left l e; grown = (l.grown.0 ++ spaced first p, ap (λ (text : List ℕ). text ++ spaced first p) l.grown.1 ∙ append_assoc start l.grown.0 (spaced first p)) }
-
-pub Leaves-room : {start line out : List ℕ} {first signed : Bool} {rest : List ℕ} {p : Piece} {after : List ℕ} → Leaves start line out first signed rest → found p after ≡ token_at signed rest
-    → HasTokens line → length out + length (spaced first p) ≤ length start + 2 * length line
-Leaves-room {start} {line} {out} {first} {signed} {rest} {p} {after} l e h =
-    let n = next-left l e h.texts h.lexes in
-    omega (arith, joined-fits line h.texts h.lexes, ap length n.2, length-append start (joined h.texts), length-append (out ++ spaced first p) (left false n.0), length-append out (spaced first p))
+pub Leaves-found : {line out : List ℕ} {first signed : Bool} {rest : List ℕ} {p : Piece} {after : List ℕ} → Leaves line out first signed rest → found p after ≡ token_at signed rest
+    → Leaves line (out ++ spaced first p) false (signs p) after
+Leaves-found {line} {out} {first} {signed} {rest} {p} {after} l e = record {
+  tokens = λ ps d.
+      let t = l.tokens ps d in
+      let i : Inverts t.0 (found p after) = subst (Inverts t.0) (sym e) (Inverts-at signed rest t.0 t.1) in
+      (i.0, i.2, t.2 ∙ ap (λ (us : List Piece). out ++ left first us) i.1 ∙ ap (λ (text : List ℕ). out ++ text) (left-next first p i.0) ∙ sym (append_assoc out (spaced first p) (left false i.0)));
+}
 
 left-none : (first : Bool) → left first [] ≡ []
 left-none true = refl
 left-none false = refl
 
 -- where no token is in front
-pub Leaves-ends : {start line out : List ℕ} {first signed : Bool} {rest : List ℕ} (f : HeldFront) → Leaves start line out first signed rest → front f ≡ token_at signed rest
-    → ((p : Held) (after : Bor (List ℕ)) → f ≡ held.Found p after → ⊥) → (ps : List Piece) → Lexes true line ps → out ≡ start ++ joined ps
-Leaves-ends {start} {line} {out} {first} {signed} {rest} f l e n ps d =
+pub Leaves-ends : {line out : List ℕ} {first signed : Bool} {rest : List ℕ} → Leaves line out first signed rest → nothing ≡ token_at signed rest → (ps : List Piece) → Lexes true line ps → out ≡ joined ps
+Leaves-ends {line} {out} {first} {signed} {rest} l e ps d =
     let t = l.tokens ps d in
-    sym (t.2 ∙ ended f n t.0 (subst (Inverts t.0) (sym e) (Inverts-at signed rest t.0 t.1)))
-  where
-    ended : (f : HeldFront) → ((p : Held) (after : Bor (List ℕ)) → f ≡ held.Found p after → ⊥) → (us : List Piece) → Inverts us (front f) → out ++ left first us ≡ out
-    ended held.Nothing n us i = ap (λ (us : List Piece). out ++ left first us) i ∙ ap (λ (text : List ℕ). out ++ text) (left-none first) ∙ append-nil out
-    ended held.Bad n us i = absurd i
-    ended (held.Found p after) n us i = absurd (n p after refl)
+    let i : Inverts t.0 nothing = subst (Inverts t.0) (sym e) (Inverts-at signed rest t.0 t.1) in
+    sym (t.2 ∙ ap (λ (us : List Piece). out ++ left first us) i ∙ ap (λ (text : List ℕ). out ++ text) (left-none first) ∙ append-nil out)

@@ -2,7 +2,9 @@
 use Rattle.std.specs.Prelude.{◌≡◌, ℕ, false, List, ◌∷◌, Option, Some}
 use Rattle.dia_tokens.specs.declared.kind.Kind.TheVariants.{Letter, Digit, Dash}
 use Rattle.dia_tokens.specs.declared.line.LineFail.{LineFail}
-use Rattle.dia_tokens.specs.declared.line.LineFail.TheVariants.{NumberTooWide, NameTooLong}
+use Rattle.dia_tokens.specs.declared.line.LineFail.TheVariants as line
+use Rattle.dia_tokens.specs.declared.values.ValueFail.{ValueFail}
+use Rattle.dia_tokens.specs.declared.values.ValueFail.TheVariants.{NumberTooWide, NameTooLong}
 use Rattle.dia_tokens.specs.Kinds.{kind_of, is_name, is_digit}
 use Rattle.dia_tokens.specs.Lexes.{Passes}
 use Rattle.dia_tokens.specs.Pieces.{Piece, name, number}
@@ -23,12 +25,16 @@ IsShaped (number text) = IsNumberText text
 IsShaped _ = Unit {0}
 
 -- why a token has no value
-abbrev pub FailsOn : Piece → LineFail → Type 0
+abbrev pub FailsOn : Piece → ValueFail → Type 0
 FailsOn p NumberTooWide = is_narrow p ≡ false
 FailsOn p NameTooLong = is_short p ≡ false
-FailsOn p _ = ⊥
 
 -- the fault of two that is said
-abbrev pub first_fault : Option LineFail → LineFail → LineFail
+abbrev pub first_fault : Option ValueFail → ValueFail → ValueFail
 first_fault (Some NumberTooWide) fail = NumberTooWide
 first_fault _ fail = fail
+
+-- the fault of the line
+abbrev pub line_fail : ValueFail → LineFail
+line_fail NumberTooWide = line.NumberTooWide
+line_fail NameTooLong = line.NameTooLong

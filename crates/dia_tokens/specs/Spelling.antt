@@ -44,8 +44,3 @@ joined (p ∷ q ∷ ps) = text_of p ++ 32 ∷ joined (q ∷ ps)
 -- the line's tokens as they are spelled, joined by one space
 abbrev pub IsSpelling : List ℕ → List ℕ → Type 0
 IsSpelling line text = (ps : List Piece) × Lexes true line ps × (text ≡ joined ps)
-
--- the line's bytes make tokens
-pub record HasTokens (line : List ℕ) : Type 0 where
-  pub texts : List Piece
-  pub lexes : Lexes true line texts

@@ -1,16 +1,17 @@
 // The tokens of a line, and its first fault.
 
-ghost use Rattle.std.specs.Prelude.{◌≡◌, ◌⊎◌, List, IfOk, IfErr, MatchResult};
+ghost use Rattle.std.specs.Prelude.{◌≡◌, ◌⊎◌, false, List, Err, IfOk, IfErr, MatchResult};
 ghost use Rattle.std.specs.List.{list_all};
 ghost use Rattle.dia_tokens.specs.Kinds.{is_allowed};
 ghost use Rattle.dia_tokens.specs.Line.{Spells, HasFault, Refuses};
 ghost use Rattle.dia_tokens.specs.declared.line.LineFail.{LineFail as Fault};
-ghost use Rattle.dia_tokens.specs.declared.line.LineFail.TheVariants.{NoMemory};
+ghost use Rattle.dia_tokens.specs.declared.line.LineFail.TheVariants.{BadByte, NoMemory as OutOfMemory};
 ghost use Rattle.dia_tokens.specs.declared.token.Token.{Token as Spelled};
 
 use crate::Token;
 use crate::lexing::{Front, may_sign, next_token};
 use crate::values::{first_fault, token_of};
+use dbp_plan::NoMemory;
 use std::alloc::{AllocError, AllocFailed, Global};
 
 /// Why a line has no tokens. Where it has several faults, the first of these that it has.
@@ -29,7 +30,7 @@ pub enum LineFail {
 }
 
 impl From<AllocError> for LineFail {
-    ghost from_gives = { λ _ e. e ≡ NoMemory };
+    ghost from_gives = { λ _ e. e ≡ OutOfMemory };
 
     fn from(_e: AllocError) -> LineFail {
         LineFail::NoMemory
@@ -37,9 +38,17 @@ impl From<AllocError> for LineFail {
 }
 
 impl<T: Drop> From<AllocFailed<T>> for LineFail {
-    ghost from_gives = { λ _ e. e ≡ NoMemory };
+    ghost from_gives = { λ _ e. e ≡ OutOfMemory };
 
     fn from(_e: AllocFailed<T>) -> LineFail {
+        LineFail::NoMemory
+    }
+}
+
+impl From<NoMemory> for LineFail {
+    ghost from_gives = { λ _ e. e ≡ OutOfMemory };
+
+    fn from(_: NoMemory) -> LineFail {
         LineFail::NoMemory
     }
 }
@@ -50,7 +59,8 @@ fn is_allowed_byte(byte: u8) -> bool
     matches!(byte, b' '..=b'~' | b'\t')
 }
 
-fn all_allowed(line: &[u8]) -> bool
+/// Whether a line may have each of these bytes.
+pub fn all_allowed(line: &[u8]) -> bool
     ensures { result ≡ list_all is_allowed line.now }
 {
     line.iter().all(|byte| is_allowed_byte(*byte))
@@ -60,6 +70,7 @@ fn all_allowed(line: &[u8]) -> bool
 fn read(alloc: Global, line: &[u8]) -> Result<Vec<Token>, LineFail>
     ensures found { IfOk result (λ ts. Spells line.now ts.items) }
     ensures fault { IfErr result (λ e. Refuses line.now e) }
+    ensures bad_byte { list_all is_allowed line.now ≡ false → result ≡ Err BadByte }
 {
     if !all_allowed(line) {
         return Err(LineFail::BadByte);
@@ -72,7 +83,7 @@ fn read(alloc: Global, line: &[u8]) -> Result<Vec<Token>, LineFail>
         match next_token(signed, rest) {
             Front::Nothing => {
                 return match fault {
-                    Some(fail) => Err(fail),
+                    Some(fail) => Err(LineFail::from(fail)),
                     None => Ok(out),
                 };
             }
@@ -94,11 +105,13 @@ pub fn tokens(alloc: Global, line: &[u8]) -> Result<Vec<Token>, LineFail>
     // The line spells the tokens.
     ensures found { IfOk result (λ ts. Spells line.now ts.items) }
     // Tokens that the line spells are given, unless memory runs out.
-    ensures only { (ts : List Spelled) → Spells line.now ts → MatchResult result (λ v. v.items ≡ ts) (λ e. e ≡ NoMemory) }
+    ensures only { (ts : List Spelled) → Spells line.now ts → MatchResult result (λ v. v.items ≡ ts) (λ e. e ≡ OutOfMemory) }
     // A refusal says the line's first fault, unless memory ran out.
     ensures fault { IfErr result (λ e. Refuses line.now e) }
+    // A line with a byte that isn't allowed is refused before any memory is taken.
+    ensures bad_byte { list_all is_allowed line.now ≡ false → result ≡ Err BadByte }
     // A line with a first fault is refused with it, unless memory runs out.
-    ensures refused { (f : Fault) → HasFault line.now f → MatchResult result (λ _. ⊥) (λ e. (e ≡ NoMemory) ⊎ (e ≡ f)) }
+    ensures refused { (f : Fault) → HasFault line.now f → MatchResult result (λ _. ⊥) (λ e. (e ≡ OutOfMemory) ⊎ (e ≡ f)) }
 {
     read(alloc, line)
 }

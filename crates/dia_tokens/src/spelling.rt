@@ -1,13 +1,45 @@
 // The tokens of a line as they are spelled.
 
-ghost use Rattle.std.specs.Prelude.{◌≡◌, ℕ, true, ◌+◌, ◌*◌, ◌^◌, ◌<◌, ◌≤◌, List as Items, ◌++◌, length, OnOk, OnErr};
-ghost use Rattle.dia_tokens.specs.Lexes.{Lexes};
-ghost use Rattle.dia_tokens.specs.Pieces.{Piece as Text, seen};
-ghost use Rattle.dia_tokens.specs.Spelling.{text_of, spaced, joined, HasTokens};
+ghost use Rattle.std.specs.Prelude.{◌≡◌, false, List, ◌++◌, Err, IfOk, IfErr, OnOk};
+ghost use Rattle.std.specs.List.{list_all};
+ghost use Rattle.dia_tokens.specs.declared.line.LineFail.TheVariants.{BadByte};
+ghost use Rattle.dia_tokens.specs.declared.token.Token.{Token as Spelled};
+ghost use Rattle.dia_tokens.specs.Kinds.{is_allowed};
+ghost use Rattle.dia_tokens.specs.Line.{Spells, Refuses};
+ghost use Rattle.dia_tokens.specs.Pieces.{seen};
+ghost use Rattle.dia_tokens.specs.Spelling.{text_of, spaced, IsSpelling};
 
+use crate::LineFail;
 use crate::lexing::{Front, may_sign, next_token};
+use crate::line::all_allowed;
 use crate::piece::Piece;
-use dbp_plan::{List, NoMemory};
+use crate::values::{fault_of, first_fault};
+use dbp_plan::NoMemory;
+use std::alloc::Global;
+use std::marker::Model;
+
+/// The tokens of a line as they are spelled, joined by one space. A contract sees the text.
+#[derive(Drop)]
+pub struct Spelling {
+    text: Vec<u8>,
+}
+
+impl Model for Spelling {
+    ghost use Rattle.std.specs.Prelude.{ℕ, List};
+
+    ghost Value = { List ℕ };
+
+    ghost view = { λ s. s.text.items };
+}
+
+impl Spelling {
+    /// The bytes of the text.
+    pub fn bytes(&self) -> &[u8]
+        ensures { result.now ≡ self.now }
+    {
+        &self.text
+    }
+}
 
 fn text_of<'a>(piece: Piece<'a>) -> &'a [u8]
     ensures { result.now ≡ text_of (seen piece.entry) }
@@ -20,36 +52,52 @@ fn text_of<'a>(piece: Piece<'a>) -> &'a [u8]
     }
 }
 
-/// Adds the token's text, behind a space unless it is the first.
-fn push_piece(first: bool, out: &mut List<u8>, piece: Piece) -> Result<(), NoMemory>
-    requires { length out.old + length (spaced first (seen piece)) < 2 ^ 32 }
-    ensures ok { OnOk result (out.new ≡ out.old ++ spaced first (seen piece.entry)) }
-    ensures err { OnErr result ((added : Items ℕ) × (out.new ≡ out.old ++ added)) }
+/// Adds the token's text, after a space unless it is the first.
+fn push_piece(first: bool, out: &mut Vec<u8>, piece: Piece) -> Result<(), NoMemory>
+    ensures { OnOk result (out.new.items ≡ out.old.items ++ spaced first (seen piece.entry)) }
 {
     if !first {
         out.push(b' ')?;
     }
-    out.extend_from_slice(text_of(piece))
+    out.extend_from_slice(text_of(piece))?;
+    Ok(())
 }
 
-/// Adds the tokens of the line as they are spelled, joined by one space. Where memory runs out a part of them may have
-/// been added.
-pub fn push_spelling(out: &mut List<u8>, line: &[u8]) -> Result<(), NoMemory>
-    requires lexes { HasTokens line.now }
-    // Each token's space is at most as long as the token.
-    requires room { length out.old + 2 * length line.now < 2 ^ 32 }
-    ensures ok { (ps : Items Text) → Lexes true line.now ps → OnOk result (out.new ≡ out.old ++ joined ps) }
-    ensures err { OnErr result ((added : Items ℕ) × (out.new ≡ out.old ++ added)) }
-    ensures fits { OnOk result (length out.new ≤ length out.old + 2 * length line.now) }
+/// The line's tokens as they are spelled, or the line's first fault. The line is gone through once.
+pub fn line_spelling(alloc: Global, line: &[u8]) -> Result<Spelling, LineFail>
+    // The line spells tokens, and the text is their spelling.
+    ensures found { IfOk result (λ text. (ts : List Spelled) × Spells line.now ts × IsSpelling line.now text) }
+    // A refusal says the line's first fault, unless memory ran out.
+    ensures fault { IfErr result (λ e. Refuses line.now e) }
+    // A line with a byte that isn't allowed is refused before any memory is taken.
+    ensures bad_byte { list_all is_allowed line.now ≡ false → result ≡ Err BadByte }
 {
+    if !all_allowed(line) {
+        return Err(LineFail::BadByte);
+    }
+    let mut text = Vec::with_capacity(alloc, line.len())?;
+    let mut fault = None;
     let mut first = true;
     let mut signed = true;
     let mut rest = line;
-    while let Front::Found(piece, after) = next_token(signed, rest) {
-        push_piece(first, out, piece)?;
-        first = false;
-        signed = may_sign(piece);
-        rest = after;
+    loop {
+        match next_token(signed, rest) {
+            Front::Nothing => {
+                return match fault {
+                    Some(fail) => Err(LineFail::from(fail)),
+                    None => Ok(Spelling { text }),
+                };
+            }
+            Front::Bad => return Err(LineFail::BadToken),
+            Front::Found(piece, after) => {
+                if let Some(fail) = fault_of(piece) {
+                    fault = Some(first_fault(fault, fail));
+                }
+                push_piece(first, &mut text, piece)?;
+                first = false;
+                signed = may_sign(piece);
+                rest = after;
+            }
+        }
     }
-    Ok(())
 }

@@ -1,9 +1,9 @@
 // Tokens, expressions and lines, each read with ample memory.
 
-use dbp_plan::{BinOp, Expr, List, MAX_NODES, Name, Node, UnOp};
+use dbp_plan::{BinOp, Expr, MAX_NODES, Name, Node, UnOp};
 use dia_exprs::{MAX_DEPTH, depth, expression, node_tokens};
 use dia_lines::{Line, Part, Position, read_line};
-use dia_tokens::{Symbol, Token, Word, push_spelling, tokens};
+use dia_tokens::{Symbol, Token, Word, line_spelling, tokens};
 use std::alloc::Global;
 use std::test::Fail;
 
@@ -24,22 +24,10 @@ fn tokens_of_a_line(rt: HostRuntime) -> Result<(), Fail> {
     Ok(())
 }
 
-// A `>` and after it the line's spelling.
-fn spelled(alloc: Global, line: &[u8]) -> Result<List<u8>, Fail> {
-    if line.len() > 100 {
-        return Err(Fail::new("a long line"));
-    }
-    let _tokens = tokens(alloc, line)?;
-    let mut out = List::new(alloc);
-    out.push(b'>')?;
-    push_spelling(&mut out, line)?;
-    Ok(out)
-}
-
 #[test]
 fn spelling_of_a_line(rt: HostRuntime) -> Result<(), Fail> {
-    let out = spelled(rt.alloc(), b"\tif x<=007  then!= # all")?;
-    assert_eq!(rt; out.items(), b">if x <= 007 then !=".as_slice());
+    let text = line_spelling(rt.alloc(), b"\tif x<=007  then!= # all")?;
+    assert_eq!(rt; text.bytes(), b"if x <= 007 then !=".as_slice());
     Ok(())
 }
 

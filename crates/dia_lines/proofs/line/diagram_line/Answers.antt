@@ -13,7 +13,7 @@ returns-in_err-tokens-clause-fault c before behind =
 pub returns-in-Some-clause-fault : goal.returns-in-Some-clause-fault
 returns-in-Some-clause-fault c before behind =
     let spelled = subst (SpellsTokens c.args.line.now) (sym c.deref.ensures.value) c.in_ok-tokens.ensures.found in
-    diagram-faulty before c.args.position behind c.args.line.now c.deref.result.now spelled c.in-Some.code (search rules)
+    rw c.from.ensures (diagram-faulty before c.args.position behind c.args.line.now c.deref.result.now spelled c.in-Some.code (search rules))
 
 pub returns-in_err-line-in-None-clause-fault : goal.returns-in_err-line-in-None-clause-fault
 returns-in_err-line-in-None-clause-fault c before behind =
@@ -29,4 +29,4 @@ returns-in-Ok-clause-found c before behind =
 pub returns-clause-fault : goal.returns-clause-fault
 returns-clause-fault c before behind =
     let spelled = subst (SpellsTokens c.args.line.now) (sym c.deref-in-None.ensures.value) c.in_ok-tokens.ensures.found in
-    diagram-passed before c.args.position behind c.args.line.now c.deref-in-None.result.now spelled (subst (λ ts. token_fault c.args.position.place ts ≡ None) (c.deref.ensures.value ∙ sym c.deref-in-None.ensures.value) (search rules)) c.in_ok-line-in-None.line c.in-Err.limit c.in_ok-line-in-None.ensures.found (search rules)
+    rw c.from-in-Err.ensures (diagram-passed before c.args.position behind c.args.line.now c.deref-in-None.result.now spelled (subst (λ ts. token_fault c.args.position.place ts ≡ None) (c.deref.ensures.value ∙ sym c.deref-in-None.ensures.value) (search rules)) c.in_ok-line-in-None.line c.in-Err.limit c.in_ok-line-in-None.ensures.found (search rules))

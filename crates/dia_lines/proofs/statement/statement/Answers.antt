@@ -22,7 +22,7 @@ returns-then-stands-clause-fault c =
     c.kept.ensures.fault
 
 pub returns-else-stands-clause-fault : goal.returns-else-stands-clause-fault
-returns-else-stands-clause-fault c = none-stands c.args.place c.args.tokens.now (shape_of c.in-Some.form) c.in-Some.ensures (sym c.stands.ensures ∙ c.if-stands.false)
+returns-else-stands-clause-fault c = rw c.from.ensures (none-stands c.args.place c.args.tokens.now (shape_of c.in-Some.form) c.in-Some.ensures (sym c.stands.ensures ∙ c.if-stands.false))
 
 pub returns-in-None-clause-fault : goal.returns-in-None-clause-fault
-returns-in-None-clause-fault c = no-form c.args.place c.args.tokens.now c.in-None.ensures
+returns-in-None-clause-fault c = rw c.from-in-None.ensures (no-form c.args.place c.args.tokens.now c.in-None.ensures)

@@ -1,57 +1,9 @@
-use Rattle.std.proofs.Common.{◌≡◌, ◌≢◌, [], subst, rules}
-use Rattle.dia_lines.specs.declared.place.Place.TheVariants.{Ended}
-use Rattle.dia_read.specs.Documents.{kept_text}
-use Rattle.dia_read.proofs.OneMore.{nothing-left}
-use Rattle.dia_read.proofs.KeptLines.{kept-is, step-tokens}
-use Rattle.dia_read.proofs.Reaching.{Reached, reached-start, reached-more, first-line}
-use Rattle.dia_lines.specs.Lines.{statements}
-use Rattle.dia_read.proofs.Paired.{paired-end}
-use Rattle.dia_read.proofs.Printing.{prints-end}
-use Rattle.dia_read.proofs.Ending.{ended, unended, refused}
+use Rattle.dia_read.proofs.FaultLaws.{one-first-fault}
 use Rattle.dia_read.proofs.read.read_text.Goals as goal
 
-pub loop-rest-init : goal.loop-rest-init
-loop-rest-init c = rw c.new-draft.ensures (reached-start c.args.bytes.now c.start-position.result c.start-position.ensures)
-
-pub add-requires-clause-tokens : goal.add-requires-clause-tokens
-add-requires-clause-tokens c =
-    let i = c.loop-rest.invariant in
-    let read = c.in-Ok.ensures.found i.before i.behind in
-    step-tokens i.before c.next_line.result.0.now read.0 c.in-Ok.item read.1 read.2
-
-pub returns-in-Err-clause-fault : goal.returns-in-Err-clause-fault
-returns-in-Err-clause-fault c =
-    let i = c.loop-rest.invariant in
-    let first = first-line c.args.bytes.now c.loop-rest.rest.now c.loop-rest.number c.loop-rest.position c.loop-rest.draft i c.next_line.result.0.now c.next_line.result.1.now
-    c.next_line.ensures.value c.next_line.ensures.shorter c.next_line.ensures.within in
-    rw c.refused_at.ensures (refused c.args.bytes.now c.loop-rest.number i.before c.next_line.result.0.now c.in-Err.error (c.in-Err.ensures.fault i.before i.behind) first)
-
-pub loop-rest-preserved : goal.loop-rest-preserved
-loop-rest-preserved c =
-    let i = c.loop-rest.invariant in
-    let read = c.in-Ok.ensures.found i.before i.behind in
-    let kept = kept-is i.before c.next_line.result.0.now read.0 c.in-Ok.item read.1 read.2 in
-    let more = reached-more c.args.bytes.now c.loop-rest.rest.now c.loop-rest.number c.loop-rest.position c.loop-rest.draft i c.next_line.result.0.now c.next_line.result.1.now
-    c.next_line.ensures.value c.next_line.ensures.shorter c.next_line.ensures.within c.in-Ok.item c.in-Ok.next read in
-    rw (c.in_ok-add-in-Ok.ensures (kept_text read.0) kept) more
-
-pub returns-in_ok-finish-clause-found : goal.returns-in_ok-finish-clause-found
-returns-in_ok-finish-clause-found c =
-    let end : c.loop-rest.rest.now ≡ [] = nothing-left c.loop-rest.rest.now (search rules) in
-    let i = subst (λ r. Reached c.args.bytes.now r c.loop-rest.number c.loop-rest.position c.loop-rest.draft) end c.loop-rest.invariant in
-    rw c.in_ok-finish.ensures (ended c.args.bytes.now c.loop-rest.number c.loop-rest.position c.loop-rest.draft i (search rules))
-
-pub returns-in_ok-finish-clause-printable : goal.returns-in_ok-finish-clause-printable
-returns-in_ok-finish-clause-printable c =
-    let i = c.loop-rest.invariant in
-    rw c.in_ok-finish.ensures (prints-end (statements i.before) c.loop-rest.draft i.printing)
-
-pub returns-in_ok-finish-clause-lines : goal.returns-in_ok-finish-clause-lines
-returns-in_ok-finish-clause-lines c = rw c.in_ok-finish.ensures (paired-end c.loop-rest.draft c.loop-rest.invariant.paired)
-
-pub returns-else-is_ended-clause-fault : goal.returns-else-is_ended-clause-fault
-returns-else-is_ended-clause-fault c =
-    let end : c.loop-rest.rest.now ≡ [] = nothing-left c.loop-rest.rest.now (search rules) in
-    let i = subst (λ r. Reached c.args.bytes.now r c.loop-rest.number c.loop-rest.position c.loop-rest.draft) end c.loop-rest.invariant in
-    let open_end : c.loop-rest.position.place ≢ Ended = search rules in
-    rw c.refused_behind.ensures (unended c.args.bytes.now c.loop-rest.number c.loop-rest.position c.loop-rest.draft i open_end)
+pub returns-then-is_blank_text-clause-blank : goal.returns-then-is_blank_text-clause-blank
+returns-then-is_blank_text-clause-blank c line code blank first =
+    let same = one-first-fault c.args.bytes.now 1 line c.blank_fault.result code c.blank_fault.ensures first in
+    let at = same.0 in
+    let is = same.1 in
+    cc

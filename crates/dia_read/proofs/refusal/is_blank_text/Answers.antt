@@ -1,7 +1,7 @@
 use Rattle.std.proofs.Common.{◌≡◌, [], sym, ◌∙◌, ap, true, rules}
 use Rattle.std.specs.List.{list_all}
 use Rattle.dia_lines.proofs.TextLaws.{lines_of-nil}
-use Rattle.dia_read.specs.Refusals.{is_blank_text}
+use Rattle.dia_read.specs.Documents.{is_blank_text}
 use Rattle.dia_tokens.specs.Blanks.{is_blank_line}
 use Rattle.dia_read.proofs.OneMore.{nothing-left}
 use Rattle.dia_read.proofs.refusal.is_blank_text.Goals as goal

@@ -1,5 +1,5 @@
 use Rattle.std.proofs.Common.{◌≡◌, length}
-use Rattle.dia_read.specs.Refusals.{is_blank_text}
+use Rattle.dia_read.specs.Documents.{is_blank_text}
 use Rattle.dia_read.proofs.refusal.is_blank_text.Given as goal
 
 abbrev pub invariant-loop-rest : goal.invariant-loop-rest

@@ -14,7 +14,7 @@ pub loop-fail-init : goal.loop-fail-init
 loop-fail-init c = rw c.new-out.ensures.items (Reads-starts c.args.line.now)
 
 pub returns-in-Some-clause-fault : goal.returns-in-Some-clause-fault
-returns-in-Some-clause-fault c = Reads-faulty (rw c.in-Some.is at c.loop-fail.invariant) c.in-Nothing.ensures (search rules)
+returns-in-Some-clause-fault c = rw c.from.ensures (Reads-faulty (rw c.in-Some.is at c.loop-fail.invariant) c.in-Nothing.ensures (search rules))
 
 pub returns-in-None-clause-found : goal.returns-in-None-clause-found
 returns-in-None-clause-found c = Reads-tokens (rw c.in-None.is at c.loop-fail.invariant) c.in-Nothing.ensures (search rules)

@@ -1,6 +1,6 @@
 use Rattle.std.proofs.Common.{length}
 use Rattle.dia_read.proofs.Reaching.{Reached}
-use Rattle.dia_read.proofs.read.read_text.Given as goal
+use Rattle.dia_read.proofs.read.read_lines.Given as goal
 
 abbrev pub invariant-loop-rest : goal.invariant-loop-rest
 invariant-loop-rest l = Reached l.bytes l.rest l.number l.position l.draft

@@ -1,0 +1,93 @@
+// The numbers and names of codes, and the words of limits.
+
+use crate::fault::{Limit, ReadCode};
+use std::fmt;
+
+impl ReadCode {
+    ghost use Rattle.std.specs.Prelude.{◌≡◌};
+    ghost use Rattle.dia_lines.specs.Codes.{code_number, code_name};
+
+    /// The number of the code.
+    pub fn number(self) -> u32
+        ensures { result ≡ code_number self }
+    {
+        match self {
+            ReadCode::BadByte => 1,
+            ReadCode::BadToken => 2,
+            ReadCode::BadLine => 3,
+            ReadCode::NumberTooWide => 4,
+            ReadCode::NameTooLong => 5,
+            ReadCode::LimitHit(_) => 6,
+            ReadCode::MissingDone => 7,
+            ReadCode::MissingHeader => 8,
+            ReadCode::DepthHit => 9,
+        }
+    }
+
+    /// The name of the code.
+    pub fn name(self) -> &'static str
+        ensures { result.now ≡ code_name self }
+    {
+        match self {
+            ReadCode::BadByte => "BadByte",
+            ReadCode::BadToken => "BadToken",
+            ReadCode::BadLine => "BadLine",
+            ReadCode::NumberTooWide => "NumberTooWide",
+            ReadCode::NameTooLong => "NameTooLong",
+            ReadCode::LimitHit(_) => "LimitHit",
+            ReadCode::MissingDone => "MissingDone",
+            ReadCode::MissingHeader => "MissingHeader",
+            ReadCode::DepthHit => "DepthHit",
+        }
+    }
+}
+
+impl Limit {
+    ghost use Rattle.std.specs.Prelude.{◌≡◌};
+    ghost use Rattle.dia_lines.specs.Codes.{limit_word};
+
+    /// The word of the limit.
+    pub fn word(self) -> &'static str
+        ensures { result.now ≡ limit_word self }
+    {
+        match self {
+            Limit::Tasks => "tasks",
+            Limit::Reads => "reads",
+            Limit::Links => "links",
+            Limit::Outs => "outs",
+            Limit::Inputs => "inputs",
+            Limit::Events => "events",
+            Limit::Body => "body",
+            Limit::Nodes => "nodes",
+            Limit::Number => "number",
+        }
+    }
+}
+
+impl fmt::Display for Limit {
+    ghost use Rattle.std.specs.Prelude.{Some};
+    ghost use Rattle.dia_lines.specs.Codes.{limit_word};
+
+    ghost output = { λ limit. Some (limit_word limit) };
+
+    fn fmt<W: fmt::Write>(&self, f: &mut fmt::Formatter<W>) -> fmt::Result {
+        f.write_str(self.word())
+    }
+}
+
+/// The name of the code, with the limit's word after a passed limit.
+impl fmt::Display for ReadCode {
+    ghost use Rattle.std.specs.Prelude.{Some};
+    ghost use Rattle.dia_lines.specs.Codes.{code_text};
+
+    ghost output = { λ code. Some (code_text code) };
+
+    fn fmt<W: fmt::Write>(&self, f: &mut fmt::Formatter<W>) -> fmt::Result {
+        f.write_str(self.name())?;
+        if let ReadCode::LimitHit(limit) = *self {
+            f.write_str(" ")?;
+            f.write_str(limit.word())?;
+        }
+        Ok(())
+    }
+}
