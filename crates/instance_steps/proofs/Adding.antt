@@ -1,5 +1,7 @@
 -- A recorder that gains steps: by one step, by a piece after another, and what stays true of it.
-use Rattle.std.proofs.Common.{◌≡◌, ℕ, ◌+◌, ◌<◌, List, [], ◌∷◌, ◌++◌, length, refl, sym, ap, ◌∙◌, subst, arith, append_assoc, length-append, Result, Ok, Err, OnOk}
+use Rattle.std.specs.Prelude.{is_some, unwrap_or}
+use Rattle.std.specs.Option.{option_map}
+use Rattle.std.proofs.Common.{◌≡◌, ℕ, ◌+◌, ◌<◌, ◌≤◌, Option, Some, None, List, [], ◌∷◌, ◌++◌, length, refl, sym, ap, ◌∙◌, subst, arith, append_assoc, length-append, Result, Ok, Err, OnOk}
 use Rattle.std.proofs.lemmas.List.{append-nil}
 use Rattle.dbp_plan.specs.declared.plan.Plan.{Plan}
 use Rattle.dbp_plan.specs.Lookups.{declared}
@@ -14,7 +16,7 @@ use Rattle.dbp_rules.proofs.SoundOwn.{IsOwn, own_wiring}
 use Rattle.dbp_rules.proofs.WiringParts.{wired_is}
 use Rattle.instance_steps.specs.Events.{Event, step_of}
 use Rattle.instance_steps.specs.Plays.{IsStepOf, Moves, Plays}
-use Rattle.instance_steps.specs.Recorders.{AddsStep, AddsSteps, count_in, plan_in, state_in, steps_in, wiring_in}
+use Rattle.instance_steps.specs.Recorders.{AddsStep, AddsSteps, count_in, plan_in, record_in, state_in, steps_in, wiring_in}
 use Rattle.instance_steps.specs.TaskPieces.{AddsPiece, ChangesTask, MayStep}
 use Rattle.instance_steps.specs.declared.recorder.Recorder.{Recorder}
 use Rattle.instance_steps.proofs.PlaysLaws.{plays_long, plays_on, plays_one}
@@ -35,10 +37,28 @@ wired_there r i named = omega (arith, named, r.core.shape.wiring.tasks)
 pub task_there : (r : Recorder) (i : ℕ) → i < length (plan_in r).diagram.tasks → i < length (state_in r).tasks
 task_there r i named = omega (arith, named, r.core.shape.wiring.tasks, r.core.shape.tasks)
 
+-- ---- a list that is kept, if one is: with no steps more, with more twice, how long, and that it stays kept
+
+kept_none : (kept : Option (List Step)) → kept ≡ option_map (λ steps. steps ++ []) kept
+kept_none None = refl
+kept_none (Some steps) = ap Some (sym (append-nil steps))
+
+kept_on : (kept : Option (List Step)) (first then_ : List Step) → option_map (λ steps. steps ++ then_) (option_map (λ steps. steps ++ first) kept) ≡ option_map (λ steps. steps ++ (first ++ then_)) kept
+kept_on None first then_ = refl
+kept_on (Some steps) first then_ = ap Some (append_assoc steps first then_)
+
+kept_long : (kept : Option (List Step)) (added : List Step) → length (unwrap_or (option_map (λ steps. steps ++ added) kept) []) ≤ length (unwrap_or kept []) + length added
+kept_long None added = omega arith
+kept_long (Some steps) added = omega (arith, length-append steps added)
+
+kept_still : (kept : Option (List Step)) (added : List Step) → is_some (option_map (λ steps. steps ++ added) kept) ≡ is_some kept
+kept_still None added = refl
+kept_still (Some steps) added = refl
+
 -- ---- steps that are added
 
 pub adds_none : (a : Recorder) → AddsSteps a a []
-adds_none a = record { plan = refl; wiring = refl; added = []; steps = sym (append-nil (steps_in a)); plays = refl }
+adds_none a = record { plan = refl; wiring = refl; added = []; steps = kept_none (record_in a); plays = refl }
 
 pub adds_on : (a b c : Recorder) (us vs : List Event) → AddsSteps a b us → AddsSteps b c vs → AddsSteps a c (us ++ vs)
 adds_on a b c us vs first then_ =
@@ -49,7 +69,7 @@ adds_on a b c us vs first then_ =
       plan = then_.plan ∙ first.plan;
       wiring = then_.wiring ∙ first.wiring;
       added = first.added ++ then_.added;
-      steps = then_.steps ∙ ap (λ (l : List Step). l ++ then_.added) first.steps ∙ append_assoc (steps_in a) first.added then_.added;
+      steps = then_.steps ∙ ap (option_map (λ (steps : List Step). steps ++ then_.added)) first.steps ∙ kept_on (record_in a) first.added then_.added;
       plays = plays_on (plan_in a) (wiring_in a) us vs first.added then_.added (state_in a) (state_in b) (state_in c) first.plays plays;
     }
 
@@ -63,12 +83,17 @@ adds_step a b v e step is moves = record {
   plays = subst (λ (x : State). Plays (plan_in a) (wiring_in a) (state_in a) (v ∷ []) (e ∷ []) x) (sym step.state) (plays_one (plan_in a) (wiring_in a) v e (state_in a) is moves);
 }
 
-pub steps_longer : (a b : Recorder) (e : Step) → AddsStep a b e → length (steps_in b) ≡ length (steps_in a) + 1
-steps_longer a b e step = ap length step.steps ∙ length-append (steps_in a) (e ∷ [])
+-- the list that is kept grows by no more, and stays kept
+pub steps_longer : (a b : Recorder) (e : Step) → AddsStep a b e → length (steps_in b) ≤ length (steps_in a) + 1
+steps_longer a b e step = omega (arith, ap (λ (kept : Option (List Step)). length (unwrap_or kept [])) step.steps, kept_long (record_in a) (e ∷ []))
 
-pub steps_long : (a b : Recorder) (vs : List Event) → AddsSteps a b vs → length (steps_in b) ≡ length (steps_in a) + length vs
+pub steps_long : (a b : Recorder) (vs : List Event) → AddsSteps a b vs → length (steps_in b) ≤ length (steps_in a) + length vs
 steps_long a b vs adds =
-    omega (arith, ap length adds.steps, length-append (steps_in a) adds.added, plays_long (plan_in a) (wiring_in a) vs adds.added (state_in a) (state_in b) adds.plays)
+    omega
+    (arith, ap (λ (kept : Option (List Step)). length (unwrap_or kept [])) adds.steps, kept_long (record_in a) adds.added, plays_long (plan_in a) (wiring_in a) vs adds.added (state_in a) (state_in b) adds.plays)
+
+pub still_kept : (a b : Recorder) (vs : List Event) → AddsSteps a b vs → is_some (record_in b) ≡ is_some (record_in a)
+still_kept a b vs adds = ap (λ (kept : Option (List Step)). is_some kept) adds.steps ∙ kept_still (record_in a) adds.added
 
 -- what follows of a call's result that holds on `Ok`
 pub on_ok : {T E P Q : Type 0} (r : Result T E) → (P → Q) → OnOk r P → OnOk r Q

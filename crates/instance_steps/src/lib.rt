@@ -8,4 +8,4 @@ mod recorder;
 mod release;
 
 pub use laws::{pieces_go_together, played_steps_are_allowed, rows_of_ended_instances};
-pub use recorder::Recorder;
+pub use recorder::{Keeping, Recorder};

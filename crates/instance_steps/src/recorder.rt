@@ -7,7 +7,30 @@ use dbp_plan::{List, NoMemory, Plan, Table};
 use std::alloc::Global;
 use sync_meaning::first_table;
 
-/// A core, the steps that it was taken through, and the rows of the instances that have ended.
+/// Which of its steps a recorder keeps.
+#[derive(Clone, Copy, Debug, PartialEq, Eq)]
+pub enum Keeping {
+    /// All of them, in the order in which they are made.
+    Steps,
+    /// None.
+    Nothing,
+}
+
+impl Keeping {
+    ghost use Rattle.instance_steps.specs.Recorders.{first_record};
+
+    // What is kept before the first step.
+    fn first_record(self, alloc: Global) -> Option<List<Step>>
+        ensures { result ≡ first_record self }
+    {
+        match self {
+            Keeping::Steps => Some(List::new(alloc)),
+            Keeping::Nothing => None,
+        }
+    }
+}
+
+/// A core, the steps that it was taken through, if they are kept, and the rows of the instances that have ended.
 ///
 /// Its calls make the pieces of a recorded list. Each says which events its steps play, from which state to which, and
 /// what else it changes. If memory runs out in a call, the recorder is of no further use: its core may be one step ahead
@@ -15,31 +38,37 @@ use sync_meaning::first_table;
 #[derive(Drop)]
 pub struct Recorder {
     pub(crate) core: Core,
-    pub(crate) steps: List<Step>,
+    pub(crate) steps: Option<List<Step>>,
     pub(crate) table: Table,
 }
 
 impl Recorder {
-    ghost use Rattle.std.specs.Prelude.{[]};
     ghost use Rattle.dbp_rules.specs.Start.{start_of};
     ghost use Rattle.dbp_rules.specs.Wired.{wiring_of};
     ghost use Rattle.instance_steps.specs.EndedRows.{HasEndedRows};
     ghost use Rattle.instance_steps.specs.Plays.{Moves};
-    ghost use Rattle.instance_steps.specs.Recorders.{AddsStep, count_in, plan_in, state_in, steps_in, table_in, wiring_in};
+    ghost use Rattle.instance_steps.specs.Recorders.{AddsStep, count_in, first_record, plan_in};
+    ghost use Rattle.instance_steps.specs.Recorders.{record_in, state_in, steps_in, table_in};
+    ghost use Rattle.instance_steps.specs.Recorders.{wiring_in};
 
     /// The recorder before the first step. If memory runs out the plan is given up.
-    pub fn new(alloc: Global, plan: Plan, count: Count) -> Result<Recorder, NoMemory>
+    pub fn new(
+        alloc: Global,
+        plan: Plan,
+        count: Count,
+        keeping: Keeping,
+    ) -> Result<Recorder, NoMemory>
         ensures plan { IfOk result (λ r. plan_in r ≡ plan) }
         ensures count { IfOk result (λ r. count_in r ≡ count) }
         ensures start { IfOk result (λ r. state_in r ≡ start_of plan (wiring_of plan count)) }
-        ensures steps { IfOk result (λ r. steps_in r ≡ []) }
+        ensures steps { IfOk result (λ r. record_in r ≡ first_record keeping) }
         ensures rows { IfOk result (λ r. HasEndedRows plan (state_in r) (table_in r)) }
     {
         let table = first_table(alloc, plan.diagram.tasks.items())?;
         let core = Core::new(alloc, plan, count)?;
         Ok(Recorder {
             core,
-            steps: List::new(alloc),
+            steps: keeping.first_record(alloc),
             table,
         })
     }
@@ -51,24 +80,25 @@ impl Recorder {
         &self.core
     }
 
-    /// The steps and the rows.
-    pub fn finish(self) -> (List<Step>, Table)
-        ensures steps { result.0 ≡ steps_in self }
+    /// The steps, if they were kept, and the rows.
+    pub fn finish(self) -> (Option<List<Step>>, Table)
+        ensures steps { result.0 ≡ record_in self }
         ensures table { result.1 ≡ table_in self }
     {
         (self.steps, self.table)
     }
 
-    // Makes the step.
+    // Makes the step, and keeps it if steps are kept.
     pub(crate) fn make(&mut self, step: Step) -> Result<(), NoMemory>
         requires moves { Moves (plan_in self.old) (wiring_in self.old) (state_in self.old) step }
         requires room { length (steps_in self.old) + 1 < 2 ^ 32 }
         ensures step { OnOk result (AddsStep self.old self.new step) }
         ensures table { OnOk result (table_in self.new ≡ table_in self.old) }
     {
-        let Ok(_) = self.core.step(step) else {
-            unreachable!()
-        };
-        self.steps.push(step)
+        self.core.make(step);
+        match &mut self.steps {
+            Some(steps) => steps.push(step),
+            None => Ok(()),
+        }
     }
 }

@@ -1,11 +1,13 @@
 -- The start of a simulation, and what it has at its end.
-use Rattle.std.proofs.Common.{◌≡◌, ℕ, zero, suc, ◌+◌, ◌<◌, List, [], ◌∷◌, ◌++◌, length, map, get_or, replicate, Option, Some, None, refl, sym, ap, ◌∙◌, subst, arith}
+use Rattle.std.specs.Prelude.{IfSome}
+use Rattle.std.proofs.Common.{◌≡◌, ℕ, zero, suc, ◌+◌, ◌<◌, List, [], ◌∷◌, ◌++◌, length, map, get_or, replicate, Option, Some, None, refl, sym, ap, ◌∙◌, subst, arith, rules}
 use Rattle.std.specs.List.{range_with_len}
 use Rattle.std.proofs.lemmas.List.{append-nil, get_or-replicate, take_all}
 use Rattle.dbp_plan.specs.declared.plan.Plan.{Plan}
 use Rattle.dbp_plan.specs.declared.schedule.Batch.{Batch}
 use Rattle.dbp_plan.specs.Lookups.{declared}
 use Rattle.dbp_plan.specs.Occurrences.{times_of}
+use Rattle.rank_order.specs.Ends.{NoOverrun}
 use Rattle.rank_order.specs.Instances.{Instance, IsInstance}
 use Rattle.rank_order.specs.Service.{left_of}
 use Rattle.rank_order.specs.ServiceOf.{service}
@@ -26,7 +28,9 @@ use Rattle.dbp_rules.specs.declared.wiring.Wiring.{Wiring}
 use Rattle.instance_steps.specs.EndedRows.{HasEndedRows}
 use Rattle.instance_steps.specs.Events.{Event}
 use Rattle.instance_steps.specs.Plays.{Plays}
-use Rattle.instance_steps.specs.Recorders.{count_in, plan_in, state_in, steps_in, table_in}
+use Rattle.instance_steps.specs.Recorders.{count_in, first_record, plan_in, record_in, state_in, table_in}
+use Rattle.instance_steps.specs.declared.recorder.Keeping.{Keeping}
+use Rattle.instance_steps.specs.declared.recorder.Keeping.TheVariants.{Steps, Nothing}
 use Rattle.instance_steps.proofs.RowsKept.{ended_rows_all}
 use Rattle.virtual_sim.specs.Outcomes.{AreEnds}
 use Rattle.virtual_sim.specs.Record.{IsRecord, events_before, events_so_far, service_events_of}
@@ -66,9 +70,13 @@ no_events : (p : Plan) → events_so_far p (service p) 0 0 ≡ []
 unfolding events_before
 no_events p = refl
 
-pub starts : (p : Plan) (s : Simulation) → IsRun p s.run → s.run.time ≡ 0 → s.run.released ≡ 0 → s.run.rest.items ≡ replicate (length p.diagram.tasks) 0 → s.run.ends ≡ replicate (length p.diagram.tasks) []
-    → plan_in s.recorder ≡ p → count_in s.recorder ≡ Ranked → state_in s.recorder ≡ start_of p (wiring_of p Ranked) → steps_in s.recorder ≡ [] → HasEndedRows p (state_in s.recorder) (table_in s.recorder) → IsSimulation p s
-starts p s run time released rest ends plan count state steps rows =
+none_kept : (keeping : Keeping) → IfSome (first_record keeping) (λ l. l ≡ [])
+none_kept Steps = refl
+none_kept Nothing = search rules
+
+pub starts : (p : Plan) (s : Simulation) (keeping : Keeping) → IsRun p s.run → s.run.time ≡ 0 → s.run.released ≡ 0 → s.run.rest.items ≡ replicate (length p.diagram.tasks) 0 → s.run.ends ≡ replicate (length p.diagram.tasks) []
+    → plan_in s.recorder ≡ p → count_in s.recorder ≡ Ranked → state_in s.recorder ≡ start_of p (wiring_of p Ranked) → record_in s.recorder ≡ first_record keeping → HasEndedRows p (state_in s.recorder) (table_in s.recorder) → IsSimulation p s
+starts p s keeping run time released rest ends plan count state kept rows =
     let w : Wiring = wiring_of p Ranked in
     let make : ℕ → TaskState = λ i. start_task (wired (wiring_of p Ranked) i) (declared p i) in
     let range : List ℕ = range_with_len 0 (length (wiring_of p Ranked).tasks) in
@@ -81,9 +89,9 @@ starts p s run time released rest ends plan count state steps rows =
       recorded = record {
         plan = plan;
         wiring = s.recorder.core.wired ∙ ap (λ (q : Plan). wiring_of q (count_in s.recorder)) plan ∙ ap (wiring_of p) count;
-        plays =
-            subst (λ (l : List Event). Plays p (wiring_of p Ranked) (start_of p (wiring_of p Ranked)) l (steps_in s.recorder) (state_in s.recorder)) (sym events)
-            (subst (λ (l : List Step). Plays p (wiring_of p Ranked) (start_of p (wiring_of p Ranked)) [] l (state_in s.recorder)) (sym steps) state);
+        steps = [];
+        plays = subst (λ (l : List Event). Plays p (wiring_of p Ranked) (start_of p (wiring_of p Ranked)) l [] (state_in s.recorder)) (sym events) state;
+        kept = subst (λ (o : Option (List Step)). IfSome o (λ l. l ≡ [])) (sym kept) (none_kept keeping);
         rows = rows;
         released = ap (λ (t : State). t.releaser.place) state ∙ sym (ap (batch_start p.diagram.links p.batches) released);
         aimed = λ i il. ap (λ (t : State). (task_entry t i).aimed) state ∙ first_entry (wiring_of p Ranked).tasks i ∙ sym (zero' i);
@@ -123,9 +131,12 @@ module _ (p : Plan) (s : Simulation) (h : IsSimulation p s) (last : s.run.releas
       let n = nothing_left x w.instance in
       absurd (omega (arith, n, w.unfinished))
 
-  pub is_record : IsRecord p (steps_in s.recorder)
+  pub in_time : NoOverrun p (left_of p (service p))
+  in_time = none_late p (service p) s.run.time s.run.rest.items s.run.ends (subst (λ (b : ℕ). IsSimulatedTo p (service p) b s.run.time s.run.rest.items s.run.ends) last h.run.at)
+
+  is_record : IsRecord p h.recorded.steps
   is_record = record {
-    in_time = none_late p (service p) s.run.time s.run.rest.items s.run.ends (subst (λ (b : ℕ). IsSimulatedTo p (service p) b s.run.time s.run.rest.items s.run.ends) last h.run.at);
+    in_time = in_time;
     last = s.run.time;
     released = λ k d kl. h.run.at.early k d (omega (arith, kl, last)) kl;
     ended = nothing_left;
@@ -137,8 +148,14 @@ module _ (p : Plan) (s : Simulation) (h : IsSimulation p s) (last : s.run.releas
         ∙ ap (λ (l : List Event). events_so_far p (service p) s.run.released s.run.time ++ l) (sym steps)
         ∙ with_service p (service p) s.run.released s.run.time (λ k d le kl same. omega (arith, le, kl, last))
         ∙ ap (events_before p (service p)) (let e : suc s.run.time ≡ s.run.time + 1 = omega arith in e) in
-        subst (λ (l : List Event). Plays p (wiring_of p Ranked) (start_of p (wiring_of p Ranked)) l (steps_in s.recorder) (state_in s.recorder)) events h.recorded.plays;
+        subst (λ (l : List Event). Plays p (wiring_of p Ranked) (start_of p (wiring_of p Ranked)) l h.recorded.steps (state_in s.recorder)) events h.recorded.plays;
   }
+
+  -- the list that is kept
+  pub kept_record : (script : List Step) → record_in s.recorder ≡ Some script → IsRecord p script
+  kept_record script is =
+      let same : script ≡ h.recorded.steps = subst (λ (o : Option (List Step)). IfSome o (λ l. l ≡ h.recorded.steps)) is h.recorded.kept in
+      subst (IsRecord p) (sym same) is_record
 
   pub is_meaning : table_in s.recorder ≡ meaning_of p
   is_meaning = ended_rows_all p (state_in s.recorder) (table_in s.recorder) h.recorded.rows (λ i il. h.recorded.ended i il ∙ all_counted i il)

@@ -1,5 +1,6 @@
 -- A piece of an instance, and the release of a batch, added to what is recorded.
-use Rattle.std.specs.Prelude.{Bool, ◌||◌, ◌==◌, if◌then◌else◌}
+use Rattle.std.specs.Prelude.{Bool, ◌||◌, ◌==◌, if◌then◌else◌, IfSome, Option, Some, None}
+use Rattle.std.specs.Option.{option_map}
 use Rattle.std.proofs.Common.{◌≡◌, ◌≢◌, ℕ, ◌+◌, ◌-◌, ◌<◌, true, false, List, [], ◌++◌, length, get_or, refl, sym, ap, ◌∙◌, subst, ⊎_elim, arith}
 use Rattle.std.proofs.lemmas.Bool.{cases_eq, cases_Bool, eq-eqb, ne_eqb}
 use Rattle.dbp_plan.specs.declared.plan.Plan.{Plan}
@@ -20,7 +21,7 @@ use Rattle.dbp_rules.specs.declared.wiring.Wiring.{Wiring}
 use Rattle.instance_steps.specs.EndedRows.{HasEndedRows}
 use Rattle.instance_steps.specs.Events.{Event, batch_events}
 use Rattle.instance_steps.specs.Plays.{Plays}
-use Rattle.instance_steps.specs.Recorders.{AddsSteps, plan_in, state_in, steps_in, table_in}
+use Rattle.instance_steps.specs.Recorders.{AddsSteps, plan_in, record_in, state_in, table_in}
 use Rattle.instance_steps.specs.Releases.{HasEnded, ReleasesBatch, batch_at}
 use Rattle.instance_steps.specs.TaskPieces.{AddsPiece, place_after}
 use Rattle.instance_steps.specs.declared.recorder.Recorder.{Recorder}
@@ -33,18 +34,25 @@ use Rattle.virtual_sim.specs.State.{Renewed, release_count}
 same_rows : (p : Plan) (r r' : Recorder) → ((i : ℕ) → (task (state_in r') i).part.ended ≡ (task (state_in r) i).part.ended) → table_in r' ≡ table_in r → HasEndedRows p (state_in r) (table_in r) → HasEndedRows p (state_in r') (table_in r')
 same_rows p r r' ended same rows = subst (λ (t : Table). HasEndedRows p (state_in r') t) (sym same) (ended_rows_stay p (state_in r) (state_in r') (table_in r) ended rows)
 
+-- the list that is kept, if one is, with more steps
+kept_more : (old new : Option (List Step)) (steps added : List Step) → new ≡ option_map (λ (l : List Step). l ++ added) old → IfSome old (λ l. l ≡ steps) → IfSome new (λ l. l ≡ steps ++ added)
+kept_more None new steps added more kept = subst (λ (o : Option (List Step)). IfSome o (λ l. l ≡ steps ++ added)) (sym more) kept
+kept_more (Some list) new steps added more kept = subst (λ (o : Option (List Step)). IfSome o (λ l. l ≡ steps ++ added)) (sym more) (ap (λ (l : List Step). l ++ added) kept)
+
 module _ (p : Plan) (r r' : Recorder) (b : ℕ) (events : List Event) (places : ℕ → Place) (ends : List (List ℕ)) (h : IsRecorded p b events places ends r) where
   abbrev start : State
   start = start_of p (wiring_of p Ranked)
 
   -- the steps play the events that are added
-  pub added_plays : (more : List Event) → AddsSteps r r' more → Plays p (wiring_of p Ranked) start (events ++ more) (steps_in r') (state_in r')
+  pub added_plays : (more : List Event) (adds : AddsSteps r r' more) → Plays p (wiring_of p Ranked) start (events ++ more) (h.steps ++ adds.added) (state_in r')
   added_plays more adds =
       let own : Plays p (wiring_of p Ranked) (state_in r) more adds.added (state_in r') =
       subst (λ (q : Plan). Plays q (wiring_of p Ranked) (state_in r) more adds.added (state_in r')) h.plan
       (subst (λ (w : Wiring). Plays (plan_in r) w (state_in r) more adds.added (state_in r')) h.wiring adds.plays) in
-      subst (λ (l : List Step). Plays p (wiring_of p Ranked) start (events ++ more) l (state_in r')) (sym adds.steps)
-      (plays_on p (wiring_of p Ranked) events more (steps_in r) adds.added start (state_in r) (state_in r') h.plays own)
+      plays_on p (wiring_of p Ranked) events more h.steps adds.added start (state_in r) (state_in r') h.plays own
+
+  pub added_kept : (more : List Event) (adds : AddsSteps r r' more) → IfSome (record_in r') (λ l. l ≡ h.steps ++ adds.added)
+  added_kept more adds = kept_more (record_in r) (record_in r') h.steps adds.added adds.steps h.kept
 
   -- a piece of an instance of task i
   pub adds_piece : (more : List Event) (i instances : ℕ) (place : Place) (places' : ℕ → Place) (ends' : List (List ℕ)) → AddsPiece r r' more i instances place
@@ -53,7 +61,9 @@ module _ (p : Plan) (r r' : Recorder) (b : ℕ) (events : List Event) (places : 
   adds_piece more i instances place places' ends' adds here others ended ended_others rows = record {
     plan = adds.steps.plan ∙ h.plan;
     wiring = adds.steps.wiring ∙ h.wiring;
+    steps = h.steps ++ adds.steps.added;
     plays = added_plays more adds.steps;
+    kept = added_kept more adds.steps;
     rows = rows;
     released = ap (λ (q : ReleaserPart). q.place) adds.changes.releaser ∙ h.released;
     aimed = λ j jl. ap (λ (q : ReleaserPart). (entry_in q j).aimed) adds.changes.releaser ∙ h.aimed j jl;
@@ -104,7 +114,9 @@ pub adds_batch : (p : Plan) (r r' : Recorder) (b : ℕ) (events : List Event) (r
 adds_batch p r r' b events rest rest' ends h adds releases table renewed free = record {
   plan = adds.plan ∙ h.plan;
   wiring = adds.wiring ∙ h.wiring;
+  steps = h.steps ++ adds.added;
   plays = added_plays p r r' b events (λ i. place_of p i (get_or rest i 0)) ends h (batch_events p (batch_at p b)) adds;
+  kept = added_kept p r r' b events (λ i. place_of p i (get_or rest i 0)) ends h (batch_events p (batch_at p b)) adds;
   rows = same_rows p r r' (λ i. ap (λ t. t.ended) (releases.parts i)) table h.rows;
   released = releases.released;
   aimed = releases.aimed;

@@ -1,5 +1,5 @@
 -- A simulation goes on: the first instance begins and reads, runs to its next event or to its end, or none runs.
-use Rattle.std.specs.Prelude.{count_by, nat_lt}
+use Rattle.std.specs.Prelude.{count_by, nat_lt, IfSome, Option, None, unwrap_or}
 use Rattle.std.proofs.Common.{◌≡◌, ◌≢◌, ℕ, suc, ◌+◌, ◌-◌, ◌<◌, ◌≤◌, true, false, List, [], ◌∷◌, ◌++◌, length, take, set, get_or, Some, refl, sym, ap, ◌∙◌, subst, ⊎_elim, arith, append_assoc, length-append, get_or-set_same, get_or-set_other}
 use Rattle.std.proofs.lemmas.Bool.{cases_eq, cases_Bool, eq-eqb, ne_eqb, le-ltb, lt-ltb}
 use Rattle.std.proofs.lemmas.List.{append-nil, get_or_default, take_all, take_more}
@@ -28,10 +28,11 @@ use Rattle.dbp_rules.specs.declared.parts.Place.{Place}
 use Rattle.dbp_rules.specs.declared.parts.Place.TheVariants.{Idle, Shut}
 use Rattle.dbp_rules.specs.declared.state.State.{State}
 use Rattle.dbp_rules.specs.declared.step.Count.TheVariants.{Ranked}
+use Rattle.dbp_rules.specs.declared.step.Step.{Step}
 use Rattle.instance_steps.specs.EndedRows.{HasEndedRows}
 use Rattle.instance_steps.specs.Events.{Event, batch_events, begin_events, end_events, read_events}
 use Rattle.instance_steps.specs.Plays.{Plays}
-use Rattle.instance_steps.specs.Recorders.{AddsSteps, plan_in, state_in, steps_in, table_in}
+use Rattle.instance_steps.specs.Recorders.{AddsSteps, plan_in, record_in, state_in, steps_in, table_in}
 use Rattle.instance_steps.specs.Releases.{HasEnded, ReleasesBatch, batch_at, no_batch}
 use Rattle.instance_steps.specs.TaskPieces.{AddsPiece, MayStep, place_after}
 use Rattle.instance_steps.specs.declared.recorder.Recorder.{Recorder}
@@ -56,8 +57,13 @@ use Rattle.virtual_sim.proofs.Steps.{busy_count_none, busy_count_one, quiet, wai
 
 -- ---- lengths
 
-pub recorded_length : (p : Plan) (b : ℕ) (events : List Event) (places : ℕ → Place) (ends : List (List ℕ)) (r : Recorder) → IsRecorded p b events places ends r → length (steps_in r) ≡ length events
-recorded_length p b events places ends r h = plays_long p (wiring_of p Ranked) events (steps_in r) (start_of p (wiring_of p Ranked)) (state_in r) h.plays
+kept_length : (kept : Option (List Step)) (steps : List Step) → IfSome kept (λ l. l ≡ steps) → length (unwrap_or kept []) ≤ length steps
+kept_length None steps is = omega arith
+kept_length (Some list) steps is = omega (arith, ap length is)
+
+pub recorded_length : (p : Plan) (b : ℕ) (events : List Event) (places : ℕ → Place) (ends : List (List ℕ)) (r : Recorder) → IsRecorded p b events places ends r → length (steps_in r) ≤ length events
+recorded_length p b events places ends r h =
+    omega (arith, kept_length (record_in r) h.steps h.kept, plays_long p (wiring_of p Ranked) events h.steps (start_of p (wiring_of p Ranked)) (state_in r) h.plays)
 
 occurrences_before : (bs : List Batch) (b : ℕ) → occurrence_count (take b bs) ≤ occurrence_count bs
 occurrences_before bs b = sum_by-take-le (λ (a : Batch). length a.tasks) bs b
@@ -84,7 +90,9 @@ same_places : (p : Plan) (b : ℕ) (events events' : List Event) (places places'
 same_places p b events events' places places' ends r h same each = record {
   plan = h.plan;
   wiring = h.wiring;
-  plays = subst (λ (l : List Event). Plays p (wiring_of p Ranked) (start_of p (wiring_of p Ranked)) l (steps_in r) (state_in r)) (sym same) h.plays;
+  steps = h.steps;
+  plays = subst (λ (l : List Event). Plays p (wiring_of p Ranked) (start_of p (wiring_of p Ranked)) l h.steps (state_in r)) (sym same) h.plays;
+  kept = h.kept;
   rows = h.rows;
   released = h.released;
   aimed = h.aimed;

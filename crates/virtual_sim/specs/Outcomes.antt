@@ -1,8 +1,9 @@
 -- What a simulation gives.
 use Rattle.std.specs.Prelude.{◌≡◌, ℕ, ◌+◌, ◌<◌, List, [], length, slice_index, slice_index_or}
 use Rattle.dbp_plan.specs.declared.plan.Plan.{Plan}
+use Rattle.dbp_plan.specs.declared.table.Table.{Table}
 use Rattle.dbp_plan.specs.Occurrences.{times_of}
-use Rattle.rank_order.specs.Ends.{IsEnd, IsOverrun}
+use Rattle.rank_order.specs.Ends.{IsEnd, IsOverrun, NoOverrun}
 use Rattle.rank_order.specs.Service.{left_of}
 use Rattle.rank_order.specs.ServiceOf.{service}
 use Rattle.sync_meaning.specs.SomeMeaning.{meaning_of}
@@ -25,6 +26,11 @@ pub record IsSimRun (p : Plan) (run : SimRun) : Type 0 where
   pub table : run.table ≡ meaning_of p
   pub script : IsRecord p run.script
   pub ends : AreEnds p run.ends
+
+-- the meaning's table alone, of a plan in which no release comes too early
+pub record IsSimTable (p : Plan) (table : Table) : Type 0 where
+  pub meant : table ≡ meaning_of p
+  pub in_time : NoOverrun p (left_of p (service p))
 
 -- the overrun, or that memory ran out
 abbrev pub IsSimFail : Plan → SimFail → Type 0

@@ -1,5 +1,5 @@
 -- What a simulation keeps of the protocol: it stands where the time has it.
-use Rattle.std.specs.Prelude.{◌≡◌, ℕ, ◌-◌, ◌<◌, ◌==◌, ◌||◌, if◌then◌else◌, List, [], length, slice_index, slice_index_or}
+use Rattle.std.specs.Prelude.{◌≡◌, ℕ, ◌-◌, ◌<◌, ◌==◌, ◌||◌, if◌then◌else◌, IfSome, List, [], length, slice_index, slice_index_or}
 use Rattle.dbp_plan.specs.declared.plan.Plan.{Plan}
 use Rattle.dbp_plan.specs.Lookups.{declared}
 use Rattle.dbp_rules.specs.Places.{task, task_entry}
@@ -8,10 +8,11 @@ use Rattle.dbp_rules.specs.Wired.{wiring_of}
 use Rattle.dbp_rules.specs.declared.parts.Place.{Place}
 use Rattle.dbp_rules.specs.declared.parts.Place.TheVariants.{Idle}
 use Rattle.dbp_rules.specs.declared.step.Count.TheVariants.{Ranked}
+use Rattle.dbp_rules.specs.declared.step.Step.{Step}
 use Rattle.instance_steps.specs.EndedRows.{HasEndedRows}
 use Rattle.instance_steps.specs.Events.{Event}
 use Rattle.instance_steps.specs.Plays.{Plays}
-use Rattle.instance_steps.specs.Recorders.{plan_in, state_in, steps_in, table_in, wiring_in}
+use Rattle.instance_steps.specs.Recorders.{plan_in, record_in, state_in, table_in, wiring_in}
 use Rattle.instance_steps.specs.Releases.{HasReleased}
 use Rattle.instance_steps.specs.TaskPieces.{place_after}
 use Rattle.instance_steps.specs.declared.recorder.Recorder.{Recorder}
@@ -23,13 +24,15 @@ place_of p i rest =
     if (rest == 0) || (rest == (declared p i).cost) then Idle
     else place_after p i ((declared p i).cost - rest)
 
--- the steps play the events, from the start; the first b batches are released, the tasks have ended so many instances and stand at
--- these places
+-- some steps play the events, from the start, and are those that are kept, if any are; the first b batches are released,
+-- the tasks have ended so many instances and stand at these places
 pub record IsRecorded (p : Plan) (b : ℕ) (events : List Event) (places : ℕ → Place) (ends : List (List ℕ))
     (r : Recorder) : Type 0 where
   pub plan : plan_in r ≡ p
   pub wiring : wiring_in r ≡ wiring_of p Ranked
-  pub plays : Plays p (wiring_of p Ranked) (start_of p (wiring_of p Ranked)) events (steps_in r) (state_in r)
+  pub steps : List Step
+  pub plays : Plays p (wiring_of p Ranked) (start_of p (wiring_of p Ranked)) events steps (state_in r)
+  pub kept : IfSome (record_in r) (λ kept. kept ≡ steps)
   pub rows : HasEndedRows p (state_in r) (table_in r)
   pub released : HasReleased p (state_in r) b
   pub aimed : (i : ℕ) → i < length p.diagram.tasks

@@ -1,8 +1,10 @@
 -- What a simulation keeps from one event to the next.
-use Rattle.std.specs.Prelude.{◌+◌, ◌*◌, ◌≤◌, length, slice_index, take}
+use Rattle.std.specs.Prelude.{◌≡◌, ℕ, ◌+◌, ◌*◌, ◌<◌, ◌≤◌, is_some, length, slice_index, take}
 use Rattle.dbp_plan.specs.declared.plan.Plan.{Plan}
 use Rattle.dbp_plan.specs.Occurrences.{occurrence_count}
 use Rattle.rank_order.specs.ServiceOf.{service}
+use Rattle.instance_steps.specs.Recorders.{first_record, record_in}
+use Rattle.instance_steps.specs.declared.recorder.Keeping.{Keeping}
 use Rattle.virtual_sim.specs.declared.simulation.Simulation.{Simulation}
 use Rattle.virtual_sim.specs.Budgets.{steps_below}
 use Rattle.virtual_sim.specs.Record.{events_so_far}
@@ -16,3 +18,10 @@ pub record IsSimulation (p : Plan) (s : Simulation) : Type 0 where
   pub few : length (events_so_far p (service p) s.run.released s.run.time)
       ≤ 131 * occurrence_count (take s.run.released p.batches)
       + steps_below p s.run.rest.items s.run.ends (length p.diagram.tasks)
+
+-- it has come to its end: all batches are released, and nothing is left of any instance; its steps are kept if they were to be
+pub record IsFinished (p : Plan) (keeping : Keeping) (s : Simulation) : Type 0 where
+  pub simulation : IsSimulation p s
+  pub released : s.run.released ≡ length p.batches
+  pub idle : (i : ℕ) → i < length p.diagram.tasks → slice_index s.run.rest.items i ≡ 0
+  pub keeps : is_some (record_in s.recorder) ≡ is_some (first_record keeping)

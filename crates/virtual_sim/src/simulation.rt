@@ -2,13 +2,14 @@
 
 ghost use Rattle.std.specs.Prelude.{◌≡◌, ◌+◌, ◌<◌, ◌≤◌, ◌++◌, ℕ, length, slice_index, IfOk, OnOk, MatchResult};
 ghost use Rattle.virtual_sim.specs.Events.{IsNextEvent};
-ghost use Rattle.virtual_sim.specs.Outcomes.{IsSimFail, IsSimRun};
+ghost use Rattle.virtual_sim.specs.Outcomes.{IsSimFail, IsSimRun, IsSimTable};
+ghost use Rattle.virtual_sim.specs.Simulations.{IsFinished};
 
 use crate::outcome::{SimFail, SimRun};
 use crate::run::Run;
 use dbp_core::Count;
-use dbp_plan::{NoMemory, Plan, Task};
-use instance_steps::Recorder;
+use dbp_plan::{NoMemory, Plan, Table, Task};
+use instance_steps::{Keeping, Recorder};
 use std::alloc::Global;
 
 // Its time, and the protocol that is taken through it.
@@ -19,10 +20,12 @@ pub(crate) struct Simulation {
 }
 
 impl Simulation {
+    ghost use Rattle.std.specs.Prelude.{is_some};
     ghost use Rattle.dbp_plan.specs.Lookups.{declared};
     ghost use Rattle.rank_order.specs.Queue.{IsServedFirst};
     ghost use Rattle.rank_order.specs.ServiceOf.{service};
     ghost use Rattle.instance_steps.specs.Events.{read_events};
+    ghost use Rattle.instance_steps.specs.Recorders.{first_record, record_in};
     ghost use Rattle.instance_steps.specs.Releases.{batch_at};
     ghost use Rattle.instance_steps.specs.TaskPieces.{place_after};
     ghost use Rattle.virtual_sim.specs.Record.{begin_events_at, events_so_far};
@@ -31,11 +34,13 @@ impl Simulation {
     ghost use Rattle.virtual_sim.specs.State.{NoBatchBefore};
 
     // Nothing is released yet.
-    fn new(alloc: Global, plan: &Plan) -> Result<Simulation, NoMemory>
+    fn new(alloc: Global, plan: &Plan, keeping: Keeping) -> Result<Simulation, NoMemory>
         ensures simulation { IfOk result (λ s. IsSimulation plan.now s) }
         ensures released { IfOk result (λ s. s.run.released ≡ 0) }
+        ensures keeps { IfOk result (λ s.
+            is_some (record_in s.recorder) ≡ is_some (first_record keeping)) }
     {
-        let recorder = Recorder::new(alloc, plan.copy()?, Count::Ranked)?;
+        let recorder = Recorder::new(alloc, plan.copy()?, Count::Ranked, keeping)?;
         let run = Run::new(alloc, plan)?;
         Ok(Simulation { run, recorder })
     }
@@ -54,6 +59,8 @@ impl Simulation {
             ++ begin_events_at plan.now (service plan.now) task served)
             (places_with plan.now self.old.run.rest.items task (place_after plan.now task served))
             self.old.run.ends self.new.recorder) }
+        ensures keeps { OnOk result
+            (is_some (record_in self.new.recorder) ≡ is_some (record_in self.old.recorder)) }
     {
         if served > 0 {
             return Ok(());
@@ -78,6 +85,8 @@ impl Simulation {
             (places_with plan.now self.old.run.rest.items task
             (place_after plan.now task (served + 1)))
             self.old.run.ends self.new.recorder) }
+        ensures keeps { OnOk result
+            (is_some (record_in self.new.recorder) ≡ is_some (record_in self.old.recorder)) }
     {
         self.begin(plan, task, served)?;
         self.recorder.make_reads(task, served)?;
@@ -94,6 +103,8 @@ impl Simulation {
         ensures later { OnOk result (self.old.run.time < self.new.run.time) }
         ensures limit { OnOk result (self.new.run.time ≤ limit) }
         ensures released { OnOk result (self.new.run.released ≡ self.old.run.released) }
+        ensures keeps { OnOk result
+            (is_some (record_in self.new.recorder) ≡ is_some (record_in self.old.recorder)) }
     {
         let body = &plan.diagram.tasks.items()[task as usize];
         let rest = self.run.rest[task as usize];
@@ -117,6 +128,8 @@ impl Simulation {
         ensures time { OnOk result
             (self.new.run.time ≡ (batch_at plan.now self.old.run.released).time) }
         ensures released { OnOk result (self.new.run.released ≡ self.old.run.released) }
+        ensures keeps { OnOk result
+            (is_some (record_in self.new.recorder) ≡ is_some (record_in self.old.recorder)) }
     {
         let limit = plan.batches.items()[self.run.released as usize].time;
         while self.run.time < limit {
@@ -137,6 +150,8 @@ impl Simulation {
         ensures idle { OnOk result ((i : ℕ) → i < length plan.now.diagram.tasks
             → slice_index self.new.run.rest.items i ≡ 0) }
         ensures released { OnOk result (self.new.run.released ≡ self.old.run.released) }
+        ensures keeps { OnOk result
+            (is_some (record_in self.new.recorder) ≡ is_some (record_in self.old.recorder)) }
     {
         while let Some(task) = self.run.ready.first() {
             self.serve(plan, task, u64::MAX)?;
@@ -151,7 +166,8 @@ impl Simulation {
         requires due { self.old.run.time ≡ (batch_at plan.now self.old.run.released).time }
         ensures { MatchResult result
             (λ _. IsSimulation plan.now self.new
-            × (self.new.run.released ≡ self.old.run.released + 1))
+            × (self.new.run.released ≡ self.old.run.released + 1)
+            × (is_some (record_in self.new.recorder) ≡ is_some (record_in self.old.recorder)))
             (λ why. IsSimFail plan.now why) }
     {
         if let Some(task) = self.run.late_task(plan) {
@@ -183,14 +199,12 @@ fn ticks_to_event(task: &Task, served: u64) -> u64
     next - served
 }
 
-/// The simulation of the plan in virtual time: on one processor tasks are served by their policy, by ticks, and their
-/// buffers step by the protocol under `Ranked`. It goes from one event to the next: the next batch, the next reads of the
-/// instance that is served, or its end. The table is the zero-time meaning's, the script is the one recorded list that
-/// the plan has, and each instance's end is that of the plan's service.
-pub fn simulate(alloc: Global, plan: &Plan) -> Result<SimRun, SimFail>
-    ensures { MatchResult result (λ run. IsSimRun plan.now run) (λ why. IsSimFail plan.now why) }
+// The simulation of the plan at its end. Its steps are kept if they are asked for.
+fn finished_simulation(alloc: Global, plan: &Plan, keeping: Keeping) -> Result<Simulation, SimFail>
+    ensures { MatchResult result
+        (λ s. IsFinished plan.now keeping s) (λ why. IsSimFail plan.now why) }
 {
-    let Ok(mut simulation) = Simulation::new(alloc, plan) else {
+    let Ok(mut simulation) = Simulation::new(alloc, plan, keeping) else {
         return Err(SimFail::NoMemory);
     };
     for _ in 0..plan.batches.len() {
@@ -202,11 +216,32 @@ pub fn simulate(alloc: Global, plan: &Plan) -> Result<SimRun, SimFail>
     let Ok(()) = simulation.serve_rest(plan) else {
         return Err(SimFail::NoMemory);
     };
-    let Simulation { run, recorder } = simulation;
-    let (script, table) = recorder.finish();
+    Ok(simulation)
+}
+
+/// The simulation of the plan in virtual time: on one processor tasks are served by their policy, by ticks, and their
+/// buffers step by the protocol under `Ranked`. It goes from one event to the next: the next batch, the next reads of the
+/// instance that is served, or its end. The table is the zero-time meaning's, the script is the one recorded list that
+/// the plan has, and each instance's end is that of the plan's service.
+pub fn simulate(alloc: Global, plan: &Plan) -> Result<SimRun, SimFail>
+    ensures { MatchResult result (λ run. IsSimRun plan.now run) (λ why. IsSimFail plan.now why) }
+{
+    let Simulation { run, recorder } = finished_simulation(alloc, plan, Keeping::Steps)?;
+    let (steps, table) = recorder.finish();
+    let Some(script) = steps else { unreachable!() };
     Ok(SimRun {
         table,
         script,
         ends: run.ends,
     })
+}
+
+/// The table of the same simulation. Its steps are made as for `simulate`, and none is kept.
+pub fn simulate_table(alloc: Global, plan: &Plan) -> Result<Table, SimFail>
+    ensures { MatchResult result
+        (λ table. IsSimTable plan.now table) (λ why. IsSimFail plan.now why) }
+{
+    let Simulation { recorder, .. } = finished_simulation(alloc, plan, Keeping::Nothing)?;
+    let (_, table) = recorder.finish();
+    Ok(table)
 }

@@ -1,4 +1,4 @@
-use Rattle.std.proofs.Common.{◌≡◌, ◌+◌, length}
+use Rattle.std.proofs.Common.{◌≡◌, ◌+◌, ◌≤◌, length}
 use Rattle.instance_steps.specs.Recorders.{state_in, steps_in, table_in}
 use Rattle.instance_steps.proofs.ClaimedLinks.{HasClaimed}
 use Rattle.instance_steps.proofs.recorder.Recorder.claim_links_into.Given as goal
@@ -7,6 +7,6 @@ abbrev pub invariant-loop-n : goal.invariant-loop-n
 invariant-loop-n l = record {
   adds : HasClaimed l.initial.self l.task l.self l.n;
   entries : (state_in l.self).releaser.tasks ≡ (state_in l.initial.self).releaser.tasks;
-  size : length (steps_in l.self) ≡ length (steps_in l.initial.self) + l.n;
+  size : length (steps_in l.self) ≤ length (steps_in l.initial.self) + l.n;
   table : table_in l.self ≡ table_in l.initial.self;
 }

@@ -1,4 +1,4 @@
-use Rattle.std.proofs.Common.{◌≡◌, ◌+◌, length}
+use Rattle.std.proofs.Common.{◌≡◌, ◌+◌, ◌≤◌, length}
 use Rattle.std.specs.Prelude.{replicate}
 use Rattle.dbp_rules.specs.Moves.{hear_place}
 use Rattle.dbp_rules.specs.Places.{task, wired}
@@ -11,6 +11,6 @@ use Rattle.instance_steps.proofs.recorder.Recorder.hear_orders.Given as goal
 abbrev pub invariant-loop : goal.invariant-loop
 invariant-loop l = record {
   piece : AddsPiece l.initial.self l.self (replicate l.counter (step_of (Hear l.task))) l.task (task (state_in l.initial.self) l.task).part.ended (hear_place (wired (wiring_in l.initial.self) l.task) l.counter);
-  size : length (steps_in l.self) ≡ length (steps_in l.initial.self) + l.counter;
+  size : length (steps_in l.self) ≤ length (steps_in l.initial.self) + l.counter;
   table : table_in l.self ≡ table_in l.initial.self;
 }

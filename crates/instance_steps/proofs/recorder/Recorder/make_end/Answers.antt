@@ -6,6 +6,11 @@ use Rattle.instance_steps.proofs.recorder.Recorder.make_end.Goals as goal
 pub make-requires-clause-moves : goal.make-requires-clause-moves
 make-requires-clause-moves c = shut_may c.args.self.now c.args.task c.requires.task c.requires.free c.requires.place
 
+pub put_outs-requires-clause-room : goal.put_outs-requires-clause-room
+put_outs-requires-clause-room c =
+    let outs = shut_outs c.args.self.now c.args.task c.requires.task c.requires.free c.requires.place c.make.new.self c.in_ok-make.ensures.step in
+    omega (arith, steps_longer _ _ _ c.in_ok-make.ensures.step, outs, c.requires.room)
+
 pub make-requires-2-clause-moves : goal.make-requires-2-clause-moves
 make-requires-2-clause-moves c =
     done_may c.args.self.now c.args.task c.requires.task c.requires.free c.requires.place c.make.new.self c.in_ok-make.ensures.step c.put_outs.new.self c.in_ok-put_outs.ensures.piece

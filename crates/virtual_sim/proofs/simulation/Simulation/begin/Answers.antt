@@ -5,6 +5,7 @@ use Rattle.release_list.proofs.IntoLinks.{into_few}
 use Rattle.dbp_rules.specs.declared.wiring.Wiring.{Wiring}
 use Rattle.instance_steps.specs.Recorders.{state_in}
 use Rattle.instance_steps.specs.TaskPieces.{MayStep}
+use Rattle.instance_steps.proofs.Adding.{still_kept}
 use Rattle.virtual_sim.proofs.Running.{first_small}
 use Rattle.virtual_sim.proofs.Serving.{began, begins_first, events_few, gate_open, is_idle, may, recorded_length}
 use Rattle.virtual_sim.proofs.simulation.Simulation.begin.Goals as goal
@@ -36,6 +37,7 @@ pub returns-then-served-gt0 : goal.returns-then-served-gt0
 returns-then-served-gt0 c = record {
   run = refl;
   recorded = began c.args.plan.now c.args.self.now c.requires.simulation c.args.task c.args.served c.requires.first c.requires.served (omega (arith, c.if-served-gt0.true));
+  keeps = refl;
 }
 
 pub returns : goal.returns
@@ -43,4 +45,5 @@ returns c = record {
   run = refl;
   recorded = begins_first c.args.plan.now c.args.self.now c.requires.simulation c.args.task c.args.served c.requires.first c.requires.served c.begin_instance.new.self (omega (arith, c.if-served-gt0.false))
       c.in_ok-begin_instance.ensures.piece c.in_ok-begin_instance.ensures.table;
+  keeps = still_kept _ _ _ c.in_ok-begin_instance.ensures.piece.steps;
 }

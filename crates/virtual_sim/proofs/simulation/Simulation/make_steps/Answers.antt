@@ -6,6 +6,7 @@ use Rattle.dbp_rules.specs.Places.{task}
 use Rattle.dbp_rules.specs.declared.wiring.Wiring.{Wiring}
 use Rattle.instance_steps.specs.Recorders.{state_in}
 use Rattle.instance_steps.specs.TaskPieces.{MayStep, place_after}
+use Rattle.instance_steps.proofs.Adding.{still_kept}
 use Rattle.virtual_sim.specs.Record.{begin_events_at, events_so_far}
 use Rattle.virtual_sim.proofs.Budgets.{begin_few}
 use Rattle.virtual_sim.proofs.PlanRules.{closed_task}
@@ -43,4 +44,5 @@ returns c = record {
   run = c.in_ok-begin.ensures.run;
   recorded = reads_first c.args.plan.now c.args.self.now c.requires.simulation c.args.task c.args.served c.requires.first c.requires.served c.begin.new.self.recorder c.make_reads.new.self
       c.in_ok-begin.ensures.recorded c.in_ok-make_reads.ensures.piece c.in_ok-make_reads.ensures.table;
+  keeps = still_kept _ _ _ c.in_ok-make_reads.ensures.piece.steps ∙ c.in_ok-begin.ensures.keeps;
 }

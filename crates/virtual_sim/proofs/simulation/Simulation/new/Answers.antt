@@ -1,8 +1,10 @@
-use Rattle.std.proofs.Common.{◌∙◌, ap, subst}
+use Rattle.std.specs.Prelude.{is_some}
+use Rattle.std.proofs.Common.{◌∙◌, ap, subst, List, Option}
 use Rattle.dbp_plan.specs.declared.plan.Plan.{Plan}
 use Rattle.dbp_rules.specs.Start.{start_of}
 use Rattle.dbp_rules.specs.Wired.{wiring_of}
 use Rattle.dbp_rules.specs.declared.step.Count.TheVariants.{Ranked}
+use Rattle.dbp_rules.specs.declared.step.Step.{Step}
 use Rattle.instance_steps.specs.EndedRows.{HasEndedRows}
 use Rattle.instance_steps.specs.Recorders.{state_in, table_in}
 use Rattle.virtual_sim.proofs.Finals.{starts}
@@ -12,9 +14,12 @@ pub returns-clause-simulation : goal.returns-clause-simulation
 returns-clause-simulation c =
     let e = c.in_ok-copy.ensures in
     let r = c.in_ok-recorder.ensures in
-    starts c.args.plan.now _ c.in_ok-run.ensures.run c.in_ok-run.ensures.time c.in_ok-run.ensures.released c.in_ok-run.ensures.rest c.in_ok-run.ensures.ends
+    starts c.args.plan.now _ c.args.keeping c.in_ok-run.ensures.run c.in_ok-run.ensures.time c.in_ok-run.ensures.released c.in_ok-run.ensures.rest c.in_ok-run.ensures.ends
     (r.plan ∙ e) r.count (r.start ∙ ap (λ (q : Plan). start_of q (wiring_of q Ranked)) e) r.steps
     (subst (λ (q : Plan). HasEndedRows q (state_in c.in_ok-recorder.recorder) (table_in c.in_ok-recorder.recorder)) e r.rows)
 
 pub returns-clause-released : goal.returns-clause-released
 returns-clause-released c = c.in_ok-run.ensures.released
+
+pub returns-clause-keeps : goal.returns-clause-keeps
+returns-clause-keeps c = ap (λ (o : Option (List Step)). is_some o) c.in_ok-recorder.ensures.steps

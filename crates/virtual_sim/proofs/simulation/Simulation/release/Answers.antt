@@ -7,6 +7,7 @@ use Rattle.rank_order.specs.Service.{left_of}
 use Rattle.rank_order.specs.ServiceOf.{service}
 use Rattle.instance_steps.specs.Recorders.{state_in}
 use Rattle.instance_steps.specs.Releases.{HasEnded, HasReleased, batch_at}
+use Rattle.instance_steps.proofs.Adding.{still_kept}
 use Rattle.virtual_sim.specs.State.{instance}
 use Rattle.virtual_sim.proofs.Running.{few_ends}
 use Rattle.virtual_sim.proofs.Serving.{batch_ended, batch_few, events_few, recorded_length, renews}
@@ -72,4 +73,5 @@ returns c =
       renews p s _ c.requires.simulation c.requires.more c.requires.due c.in_default.ensures c.renew.ensures.run c.renew.ensures.time c.renew.ensures.released c.renew.ensures.rest c.renew.ensures.ends
           c.in-Ok.ensures.steps c.in-Ok.ensures.state c.in-Ok.ensures.table,
       c.renew.ensures.released,
+      still_kept _ _ _ c.in-Ok.ensures.steps,
     )

@@ -10,6 +10,7 @@ use Rattle.instance_steps.specs.EndedRows.{HasEndedRows}
 use Rattle.instance_steps.specs.Events.{read_events}
 use Rattle.instance_steps.specs.Recorders.{state_in, table_in}
 use Rattle.instance_steps.specs.TaskPieces.{MayStep}
+use Rattle.instance_steps.proofs.Adding.{still_kept}
 use Rattle.virtual_sim.specs.Record.{begin_events_at, events_so_far}
 use Rattle.virtual_sim.specs.Runs.{IsRun}
 use Rattle.virtual_sim.specs.State.{NoBatchBefore}
@@ -325,3 +326,6 @@ returns-clause-released c =
     let own = body_is p c.items.result.now i t c.items.ensures.value small c.index-items-task.is in
     let f = of_first p s h i c.requires.first t.cost rest (ap (λ (u : Task). u.cost) own) (get_or_read s.run.rest.items i rest (omega (arith, small, h.run.at.rests)) c.index-rest.ensures 0) in
     c.in_ok-finish.ensures.released ∙ ap (λ (r : Run). r.released) c.in_ok-make_steps.ensures.run
+
+pub returns-clause-keeps : goal.returns-clause-keeps
+returns-clause-keeps c = still_kept _ _ _ c.in_ok-end_instance.ensures.piece.steps ∙ c.in_ok-make_steps.ensures.keeps

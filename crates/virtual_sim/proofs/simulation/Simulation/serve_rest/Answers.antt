@@ -26,4 +26,5 @@ pub loop-task-preserved : goal.loop-task-preserved
 loop-task-preserved c = record {
   simulation = c.in_ok-serve.ensures.simulation;
   released = c.in_ok-serve.ensures.released ∙ c.loop-task.invariant.released;
+  keeps = c.in_ok-serve.ensures.keeps ∙ c.loop-task.invariant.keeps;
 }

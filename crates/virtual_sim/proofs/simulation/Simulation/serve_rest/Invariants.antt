@@ -1,4 +1,6 @@
+use Rattle.std.specs.Prelude.{is_some}
 use Rattle.std.proofs.Common.{◌≡◌, ◌-◌}
+use Rattle.instance_steps.specs.Recorders.{record_in}
 use Rattle.virtual_sim.specs.Simulations.{IsSimulation}
 use Rattle.virtual_sim.proofs.simulation.Simulation.serve_rest.Given as goal
 
@@ -6,6 +8,7 @@ abbrev pub invariant-loop-task : goal.invariant-loop-task
 invariant-loop-task l = record {
   simulation : IsSimulation l.plan l.self;
   released : l.self.run.released ≡ l.initial.self.run.released;
+  keeps : is_some (record_in l.self.recorder) ≡ is_some (record_in l.initial.self.recorder);
 }
 
 abbrev pub decreases-loop-task : goal.decreases-loop-task

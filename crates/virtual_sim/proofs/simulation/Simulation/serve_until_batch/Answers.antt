@@ -43,4 +43,5 @@ loop-self-preserved c = record {
   limit = c.loop-self.invariant.limit ∙ ap (λ (b : ℕ). (batch_at c.args.plan.now b).time) (sym c.in_ok-serve.ensures.released);
   released = c.in_ok-serve.ensures.released ∙ c.loop-self.invariant.released;
   in_time = c.in_ok-serve.ensures.limit;
+  keeps = c.in_ok-serve.ensures.keeps ∙ c.loop-self.invariant.keeps;
 }

@@ -1,4 +1,6 @@
+use Rattle.std.specs.Prelude.{is_some}
 use Rattle.std.proofs.Common.{◌≡◌, ◌≤◌, ◌-◌}
+use Rattle.instance_steps.specs.Recorders.{record_in}
 use Rattle.instance_steps.specs.Releases.{batch_at}
 use Rattle.virtual_sim.specs.Simulations.{IsSimulation}
 use Rattle.virtual_sim.proofs.simulation.Simulation.serve_until_batch.Given as goal
@@ -9,6 +11,7 @@ invariant-loop-self l = record {
   limit : l.limit ≡ (batch_at l.plan l.self.run.released).time;
   released : l.self.run.released ≡ l.initial.self.run.released;
   in_time : l.self.run.time ≤ l.limit;
+  keeps : is_some (record_in l.self.recorder) ≡ is_some (record_in l.initial.self.recorder);
 }
 
 abbrev pub decreases-loop-self : goal.decreases-loop-self
