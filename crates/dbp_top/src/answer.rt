@@ -25,7 +25,7 @@ use dia_read::{print_doc, read_doc};
 use std::alloc::Global;
 use sync_meaning::mean;
 use trace_io::lines;
-use virtual_sim::{SimFail, simulate};
+use virtual_sim::{SimFail, simulate, simulate_table};
 
 /// The status and the text that a command that runs no tasks gives to an input that isn't too large.
 pub(crate) fn answer(
@@ -99,14 +99,16 @@ fn simulation_text(alloc: Global, record_it: bool, plan: &Plan) -> Result<Vec<u8
     ensures text { IfOk result (λ text. (doc : Document) → PlanText doc plan.now (Sim record_it) text.items) }
     ensures stop { IfErr result (λ stop. (input : Items ℕ) → Accepts input plan.now → IsStopOf input (Sim record_it) stop) }
 {
-    let run = match simulate(alloc, plan) {
-        Ok(run) => run,
-        Err(fail) => return Err(stop_of(alloc, plan, fail)),
-    };
     if record_it {
-        Ok(print_script(alloc, &plan.diagram, &run.script)?)
+        match simulate(alloc, plan) {
+            Ok(run) => Ok(print_script(alloc, &plan.diagram, &run.script)?),
+            Err(fail) => Err(stop_of(alloc, plan, fail)),
+        }
     } else {
-        Ok(lines(alloc, plan, &run.table)?)
+        match simulate_table(alloc, plan) {
+            Ok(table) => Ok(lines(alloc, plan, &table)?),
+            Err(fail) => Err(stop_of(alloc, plan, fail)),
+        }
     }
 }
 

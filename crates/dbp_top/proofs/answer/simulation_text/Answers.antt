@@ -16,16 +16,21 @@ print_script-requires c =
     let leads = record_leads c.args.plan.now c.in-Ok.run'.script c.in-Ok.ensures.script in
     all_there c.args.plan.now Ranked c.in-Ok.run'.script leads.0 leads.1
 
-pub returns-then-record_it-clause-text : goal.returns-then-record_it-clause-text
-returns-then-record_it-clause-text c = λ doc.
-    rw c.if-record_it.true (subst (λ (text : List ℕ). PlanText doc c.args.plan.now (Sim true) text) (sym c.in_ok-print_script.ensures) (record_of c.in-Ok.run'.script c.in-Ok.ensures.script))
+pub returns-in_ok-print_script-in-Ok-clause-text : goal.returns-in_ok-print_script-in-Ok-clause-text
+returns-in_ok-print_script-in-Ok-clause-text c = λ doc.
+    rw c.if-record_it.true (subst (λ (text : List ℕ). PlanText doc c.args.plan.now (Sim true) text) (sym c.in_ok-print_script-in-Ok.ensures) (record_of c.in-Ok.run'.script c.in-Ok.ensures.script))
 
 pub lines-requires : goal.lines-requires
 lines-requires c =
     let p = c.args.plan.now in
-    has_rows p.diagram.tasks p.batches c.in-Ok.run'.table (meant p c.in-Ok.run'.table c.in-Ok.ensures.table).rows
+    let table = c.in-Ok-simulate_table.table in
+    has_rows p.diagram.tasks p.batches table (meant p table c.in-Ok-simulate_table.ensures.meant).rows
 
-pub returns-clause-text : goal.returns-clause-text
-returns-clause-text c = λ doc.
-    rw c.if-record_it.false (subst (λ (text : List ℕ). PlanText doc c.args.plan.now (Sim false) text) (sym c.in_ok-lines.ensures)
-    (simulation c.in-Ok.run'.table c.in-Ok.ensures.script.in_time (meant c.args.plan.now c.in-Ok.run'.table c.in-Ok.ensures.table)))
+pub returns-in_ok-lines-in-Ok-simulate_table-clause-text : goal.returns-in_ok-lines-in-Ok-simulate_table-clause-text
+returns-in_ok-lines-in-Ok-simulate_table-clause-text c = λ doc.
+    let table = c.in-Ok-simulate_table.table in
+    rw c.if-record_it.false (subst (λ (text : List ℕ). PlanText doc c.args.plan.now (Sim false) text) (sym c.in_ok-lines-in-Ok-simulate_table.ensures)
+    (simulation table c.in-Ok-simulate_table.ensures.in_time (meant c.args.plan.now table c.in-Ok-simulate_table.ensures.meant)))
+
+pub returns-in-Err-simulate_table-clause-stop : goal.returns-in-Err-simulate_table-clause-stop
+returns-in-Err-simulate_table-clause-stop c = λ input accepted. c.stop_of-in-Err-simulate_table.ensures input c.args.record_it accepted
