@@ -19,6 +19,32 @@ pub enum ScriptCode {
     NoScript,
 }
 
+impl ScriptCode {
+    ghost use Rattle.dbp_replay.specs.Codes.{script_name, script_number};
+
+    /// The number of the code.
+    pub fn number(self) -> u32
+        ensures { result ≡ script_number self }
+    {
+        match self {
+            ScriptCode::BadStep => 27,
+            ScriptCode::StepName => 28,
+            ScriptCode::NoScript => 29,
+        }
+    }
+
+    /// The name of the code.
+    pub fn name(self) -> &'static str
+        ensures { result.now ≡ script_name self }
+    {
+        match self {
+            ScriptCode::BadStep => "BadStep",
+            ScriptCode::StepName => "StepName",
+            ScriptCode::NoScript => "NoScript",
+        }
+    }
+}
+
 /// Why a document has no script.
 #[derive(Clone, Copy, Debug, PartialEq, Eq)]
 pub enum ScriptFail {

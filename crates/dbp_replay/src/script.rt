@@ -1,9 +1,11 @@
 // The steps of a document's script.
 
-ghost use Rattle.std.specs.Prelude.{◌≡◌, All, IfErr, IfOk};
+ghost use Rattle.std.specs.Prelude.{◌≡◌, All, Err, IfErr, IfOk, None};
 ghost use Rattle.dia_lines.specs.Lines.{SaysInScript, step as kept_step};
 ghost use Rattle.dia_tokens.specs.declared.line.LineFail.TheVariants.{NoMemory as OutOfMemory};
 ghost use Rattle.dia_read.specs.Printable.{HasItemLines, IsPrintable};
+ghost use Rattle.dbp_replay.specs.declared.fail.ScriptCode.TheVariants.{NoScript as NoSection};
+ghost use Rattle.dbp_replay.specs.declared.fail.ScriptFail.TheVariants as script_fail;
 ghost use Rattle.dbp_replay.specs.Places.{IsThere};
 ghost use Rattle.dbp_replay.specs.Scripts.{IsScript, IsScriptRefusal, Says};
 
@@ -31,6 +33,9 @@ pub fn read_script(alloc: Global, diagram: &Diagram, doc: &Doc) -> Result<List<S
     ensures there { IfOk result (λ steps. All (IsThere diagram.now) steps) }
     // It has this first fault, unless memory ran out.
     ensures fault { IfErr result (λ fail. IsScriptRefusal diagram.now doc.now fail) }
+    // A document without a script section is refused so whatever memory there is.
+    ensures no_script { doc.now.body.script ≡ None
+        → result ≡ Err (script_fail.Refused doc.now.lines.done_at NoSection) }
 {
     let Some(text) = &doc.body.script else {
         return Err(ScriptFail::Refused {

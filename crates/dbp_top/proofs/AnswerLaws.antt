@@ -28,14 +28,14 @@ use Rattle.trace_io.specs.Lines.{lines_of}
 use Rattle.trace_io.specs.Texts.{Accepts, Refuses, IsSameCode}
 use Rattle.dbp_top.specs.Answer.{Answers, IsInTime, IsOverrunLine, IsRefused, Makes, Overruns, PlanOverrun, PlanRefusal, PlanText, canonical, count_of, illegal, line_of, made, meaning, needs_plan, no_plan, no_script, no_text, of_plan, of_plan_overrun, of_plan_refused, overran, overrun, record_of, refused, replay, run_of, simulation, slots}
 use Rattle.dbp_top.specs.OverrunLines.{overrun_line}
-use Rattle.dbp_top.specs.Refusals.{check_name, code_text, refusal_line}
+use Rattle.dbp_top.specs.Refusals.{code_text, refusal_line}
 use Rattle.dbp_top.specs.declared.command.Command.{Command}
 use Rattle.dbp_top.specs.declared.command.Command.TheVariants.{Form}
 use Rattle.dbp_top.specs.declared.refusal.Refusal.{Refusal}
 use Rattle.dbp_top.specs.declared.refusal.Refusal.TheVariants.{Document, Script, Illegal}
 use Rattle.dbp_top.specs.declared.status.Status.{Status}
 
-same-name : (a b : CheckCode) → checking.IsSameCode a b → check_name a ≡ check_name b
+same-name : (a b : CheckCode) → checking.IsSameCode a b → code_text (Checking a) ≡ code_text (Checking b)
 same-name a b (checking.same code) = refl
 same-name a b (checking.cycles names others) = refl
 

@@ -9,6 +9,7 @@ use Rattle.dbp_plan.specs.FirstFault.{first_fault}
 use Rattle.dia_read.specs.declared.document.Doc.{Doc}
 pub use Rattle.trace_rows.specs.declared.fail.TraceCode.{TraceCode}
 pub use Rattle.trace_rows.specs.declared.fail.TraceCode.TheVariants.{BadHeader, BadRow, BadCell, TimeNotRising, TimePastEnd, TooManyOccurrences, TooManyRows}
+pub use Rattle.trace_rows.specs.TraceCodes.{trace_code_name, trace_code_number}
 pub use Rattle.trace_rows.specs.declared.fail.TraceFail.{TraceFail}
 pub use Rattle.trace_rows.specs.declared.fail.TraceFail.TheVariants.{Refused, NoMemory}
 use Rattle.trace_rows.specs.Headers.{is_header, kind_of_column}
