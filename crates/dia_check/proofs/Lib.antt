@@ -1,3 +1,4 @@
+pub mod BareLaws
 pub mod ClosedTasks
 pub mod Closedness
 pub mod DiagramTasks
@@ -6,9 +7,11 @@ pub mod LetLines
 pub mod LinkLaws
 pub mod LinkLists
 pub mod NameTests
+pub mod NoOuts
 pub mod PlaceLaws
 pub mod RankLaws
 pub mod ReadLines
+pub mod Refusals
 pub mod ShapeLaws
 pub mod TaskFaults
 pub mod TaskParts

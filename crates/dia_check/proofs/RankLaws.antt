@@ -3,7 +3,7 @@ use Rattle.std.proofs.Common.{◌≡◌, ◌≢◌, ℕ, zero, suc, ◌+◌, ◌
 use Rattle.std.specs.Prelude.{◌==◌, ◌||◌, ◌&&◌, nat_lt, if◌then◌else◌, is_none, IsSome, slice_index}
 use Rattle.std.specs.List.{flat_map, list_any}
 use Rattle.std.specs.Option.{option_and_then}
-use Rattle.std.proofs.lemmas.Bool.{cases_Bool, eqb-true}
+use Rattle.std.proofs.lemmas.Bool.{both_ways, cases_Bool, cases_eq, eqb-true}
 use Rattle.std.proofs.lemmas.Bool.Decides.{nat_tests}
 use Rattle.std.proofs.lemmas.List.{get_or_default, get_or-map, length-map}
 use Rattle.std.proofs.lemmas.List.Elements.{All-append, All-cons, All-map}
@@ -16,9 +16,9 @@ use Rattle.dbp_plan.specs.declared.diagram.Policy.TheVariants.{Fp, Edf}
 use Rattle.dbp_plan.specs.declared.diagram.Task.{Task}
 use Rattle.dbp_plan.specs.Closed.{IsClosed}
 use Rattle.dbp_plan.specs.Ranked.{IsRanked}
-use Rattle.dbp_plan.specs.Ranks.{ranks_of}
+use Rattle.dbp_plan.specs.Ranks.{is_above, ranks_of}
 use Rattle.dbp_plan.specs.FirstFault.{faults_behind, first_fault}
-use Rattle.dbp_plan.proofs.RankLaws.{length-ranks_of, ranks-apart}
+use Rattle.dbp_plan.proofs.RankLaws.{above-fewer, above-total, length-ranks_of, rank-index, ranks-apart}
 use Rattle.dbp_plan.proofs.ListParts.{split-at}
 use Rattle.dbp_plan.proofs.FirstFaults.{append-none, cons-none, first-append, first-front}
 use Rattle.dia_check.specs.declared.fail.RankFault.{RankFault}
@@ -69,11 +69,38 @@ reads-linked s closed lines = λ k d below.
     let link : get_or (map (λ r. r.link) s.read_lines) k 0 ≡ (get_or s.read_lines k d).link = get_or-map (λ r. r.link) s.read_lines k d 0 below in
     rw link at (each k 0 (omega (arith, below, length-map s.read_lines (λ r. r.link))))
 
-pub ends-ranked : (d : Diagram) (ranks : List ℕ) → IsClosed d → ranks ≡ ranks_of d.policy d.tasks → All (λ l. (l.writer < length ranks) × (l.reader < length ranks)) d.links
-ends-ranked d ranks closed is = λ k e below.
-    let ends = closed.ends k e below in
-    let size : length ranks ≡ length d.tasks = ap length is ∙ length-ranks_of d.policy d.tasks in
-    (omega (arith, size, ends.0), omega (arith, size, ends.1))
+pub ends-there : (d : Diagram) → IsClosed d → All (λ l. (l.writer < length d.tasks) × (l.reader < length d.tasks)) d.links
+ends-there d closed = λ k e below. let ends = closed.ends k e below in (ends.0, ends.1)
+
+-- ---- who is ranked above whom
+
+is-less : (m n : ℕ) → m < n → nat_lt m n ≡ true
+is-less m n less = grind (arith, nat_tests)
+
+isnt-less : (m n : ℕ) → n ≤ m → nat_lt m n ≡ false
+isnt-less m n more = grind (arith, nat_tests)
+
+module _ (p : Policy) (tasks : List Task) where
+  lesser : (j i : ℕ) (u t : Task) → slice_get tasks j ≡ Some u → slice_get tasks i ≡ Some t → is_above p (j, u) (i, t) ≡ true
+      → slice_index (ranks_of p tasks) j < slice_index (ranks_of p tasks) i
+  lesser j i u t at_j at_i above = rw (rank-index p tasks j u at_j, rank-index p tasks i t at_i) (above-fewer p tasks j i u t at_j above)
+
+  greater : (j i : ℕ) (u t : Task) → slice_get tasks j ≡ Some u → slice_get tasks i ≡ Some t → is_above p (j, u) (i, t) ≡ false
+      → slice_index (ranks_of p tasks) i ≤ slice_index (ranks_of p tasks) j
+  greater j i u t at_j at_i isnt = elim (cases_eq j i) [
+    | inl same ↦ let alike : slice_index (ranks_of p tasks) j ≡ slice_index (ranks_of p tasks) i = ap (λ (k : ℕ). slice_index (ranks_of p tasks) k) same in omega (arith, alike)
+    | inr apart ↦ elim (above-total p (j, u) (i, t) apart) [
+      | inl above ↦ absurd (both_ways (is_above p (j, u) (i, t)) isnt above)
+      | inr below ↦ let less : slice_index (ranks_of p tasks) i < slice_index (ranks_of p tasks) j = lesser i j t u at_i at_j below in omega (arith, less)
+    ]
+  ]
+
+  pub above-is-less : (j i : ℕ) (u t : Task) → slice_get tasks j ≡ Some u → slice_get tasks i ≡ Some t
+      → is_above p (j, u) (i, t) ≡ nat_lt (slice_index (ranks_of p tasks) j) (slice_index (ranks_of p tasks) i)
+  above-is-less j i u t at_j at_i = elim (cases_Bool (is_above p (j, u) (i, t))) [
+    | inl above ↦ above ∙ sym (is-less (slice_index (ranks_of p tasks) j) (slice_index (ranks_of p tasks) i) (lesser j i u t at_j at_i above))
+    | inr isnt ↦ isnt ∙ sym (isnt-less (slice_index (ranks_of p tasks) j) (slice_index (ranks_of p tasks) i) (greater j i u t at_j at_i isnt))
+  ]
 
 -- ---- no fault
 

@@ -47,7 +47,7 @@ same-task law body number raw t u one other =
     let order : t.order ≡ u.order = law (let_base (task_of body number raw t.order)) (lets_of raw) t.order u.order first second in
     one.is ∙ ap (task_of body number raw) order ∙ sym other.is
 
-same-diagram : HaveOneOrder → (body : Body) (d e : Diagram) → IsDiagramOf body d → IsDiagramOf body e → d.ranks ≡ e.ranks → d ≡ e
+pub same-diagram : HaveOneOrder → (body : Body) (d e : Diagram) → IsDiagramOf body d → IsDiagramOf body e → d.ranks ≡ e.ranks → d ≡ e
 same-diagram law body d e one other ranks =
     let policy : d.policy ≡ e.policy = one.policy ∙ sym other.policy in
     let until : d.until ≡ e.until = one.until ∙ sym other.until in

@@ -1,14 +1,13 @@
 -- The parts of a task, as they are put together.
-use Rattle.std.proofs.Common.{◌≡◌, ◌≢◌, ℕ, suc, ◌+◌, ◌-◌, ◌<◌, ◌≤◌, All, List, [], ◌∷◌, length, slice_get, Option, Some, None, refl, sym, ap, ◌∙◌, subst, arith}
+use Rattle.std.proofs.Common.{◌≡◌, ◌≢◌, ℕ, suc, ◌+◌, ◌-◌, ◌<◌, ◌≤◌, All, List, [], ◌∷◌, length, get_or, slice_get, Option, Some, None, refl, sym, ap, ◌∙◌, subst, arith}
 use Rattle.std.specs.List.{flat_map}
-use Rattle.std.proofs.lemmas.Option.{slice_get_within}
+use Rattle.std.proofs.lemmas.Option.{slice_get_within, slice_get-get_or}
 use Rattle.dbp_plan.specs.Closed.{let_base}
 use Rattle.dbp_plan.specs.LetOrder.{VariablesBelow}
 use Rattle.dbp_plan.specs.declared.limits.TheConstants.{MAX_BODY}
 use Rattle.dbp_plan.specs.declared.diagram.Clock.{Clock}
 use Rattle.dbp_plan.specs.declared.diagram.Task.{Task}
 use Rattle.dbp_plan.specs.declared.diagram.Let.{Let}
-use Rattle.dbp_plan.specs.declared.diagram.Out.{Out}
 use Rattle.dia_lines.specs.declared.item.Part.{Part}
 use Rattle.dia_lines.specs.declared.item.Part.TheVariants as part
 use Rattle.dia_read.specs.declared.document.Body.{Body}
@@ -18,11 +17,11 @@ use Rattle.expr_eval.specs.declared.order.LetFail.TheVariants as let_fail
 use Rattle.expr_eval.specs.LetOrders.{IsFrontOrder, Uses, IsCycleFrom, IsFailOf}
 use Rattle.dia_check.specs.declared.tasks.Given.{Given}
 use Rattle.dia_check.specs.declared.tasks.Work.{Work}
-use Rattle.dia_check.specs.Diagrams.{clock_of, state_of, sense_of, read_of, let_of, lets_of, out_of, task_of, IsTaskOf}
-use Rattle.dia_check.specs.Faults.{base_of, let_lines}
+use Rattle.dia_check.specs.Diagrams.{clock_of, state_of, sense_of, read_of, let_of, lets_of, task_of, IsTaskOf}
+use Rattle.dia_check.specs.Faults.{base_of, let_lines, a_cycle}
 use Rattle.dia_check.specs.Names.{input_name, event_name, state_name, sense_name, read_name, env_names, out_name}
-use Rattle.dia_check.specs.Scopes.{IsWorkOf, IsGivenTo, HasFaultlessParts, IsTaskFail, task_fail_of}
-use Rattle.dia_check.proofs.ClosedTasks.{states-alike, senses-alike, reads-alike, outs-alike, few-names, let-variables-below, base-and-lets}
+use Rattle.dia_check.specs.Scopes.{IsWorkOf, IsGivenTo, HasFaultlessParts, IsTaskRefusal, let_refusal}
+use Rattle.dia_check.proofs.ClosedTasks.{states-alike, senses-alike, reads-alike, few-names, let-variables-below, base-and-lets}
 use Rattle.dia_check.proofs.PlaceLaws.{made-alike}
 
 -- ---- lets
@@ -45,27 +44,7 @@ module _ (t : RawTask) (names : List (List ℕ)) (lets : List Let) (named : name
       let all : All (λ l. VariablesBelow (length (env_names t.parts)) l.expr.nodes) lets = subst (λ ls. All (λ l. VariablesBelow (length (env_names t.parts)) l.expr.nodes) ls) (sym lets-are) (let-variables-below body t fine) in
       subst (λ (n : ℕ). All (λ l. VariablesBelow n l.expr.nodes) lets) bound all
 
--- ---- outs
-
-nothing : {A : Type 0} (xs : List A) → length xs ≡ 0 → xs ≡ []
-nothing [] e = refl
-nothing (x ∷ xs) e = absurd (omega (arith, e))
-
-module _ (names : List (List ℕ)) (ps : List Part) (outs : List Out) (are : outs ≡ flat_map (out_of names) ps) where
-  same-count : length outs ≡ length (flat_map out_name ps)
-  same-count = ap (λ (os : List Out). length os) are ∙ made-alike (out_of names) out_name (outs-alike names) ps
-
-  pub no-outs : outs ≡ [] → flat_map out_name ps ≡ []
-  no-outs none = nothing (flat_map out_name ps) (sym same-count ∙ ap (λ (os : List Out). length os) none)
-
-  pub some-outs : (outs ≡ [] → ⊥) → flat_map out_name ps ≢ []
-  some-outs some none = some (nothing outs (same-count ∙ ap (λ (ns : List (List ℕ)). length ns) none))
-
 -- ---- failures
-
-pub fail-is : (t : RawTask) (fail : LetFail) → flat_map out_name t.parts ≢ [] → IsFailOf (base_of t) (lets_of t) fail → IsTaskFail t (task_fail_of fail)
-fail-is t (let_fail.Cycle first names) some is = (some, is)
-fail-is t let_fail.NoMemory some is = tt
 
 -- the lets of a cycle are there
 second-or-last : (base : ℕ) (lets : List Let) (first : ℕ) (cycle : List ℕ) → IsCycleFrom base lets first cycle → (second : Option ℕ) → slice_get cycle 1 ≡ second → (j : ℕ) × Uses base lets first j
@@ -93,6 +72,19 @@ let-line-each (part.Sense m i ∷ ps) (n ∷ ns) names few = let-line-each ps ns
 let-line-each (part.Read m d w q a ∷ ps) (n ∷ ns) names few = let-line-each ps ns names (omega arith)
 let-line-each (part.Next m e ∷ ps) (n ∷ ns) names few = let-line-each ps ns names (omega arith)
 let-line-each (part.Out m v e ∷ ps) (n ∷ ns) names few = let-line-each ps ns names (omega arith)
+
+-- the first let of the cycle has a line
+pub let-there : (t : RawTask) (lines : List ℕ) (first : ℕ) (names : List (List ℕ)) → length t.parts ≤ length lines
+    → IsFailOf (base_of t) (lets_of t) (let_fail.Cycle first names) → first < length (let_lines t.parts lines)
+let-there t lines first names few (cycle, is, named) =
+    omega (arith, first-there (base_of t) (lets_of t) first cycle is.is, let-line-each t.parts lines (env_names t.parts) few)
+
+pub let-refused : (t : RawTask) (begins : ℕ) (lines : List ℕ) (fail : LetFail) → flat_map out_name t.parts ≢ [] → length t.parts ≤ length lines
+    → IsFailOf (base_of t) (lets_of t) fail → IsTaskRefusal t begins lines (let_refusal t lines fail)
+let-refused t begins lines (let_fail.Cycle first names) some few (cycle, is, named) =
+    let there = let-there t lines first names few (cycle, is, named) in
+    a_cycle (get_or (let_lines t.parts lines) first 0) first cycle names some is named (slice_get-get_or (let_lines t.parts lines) first 0 there)
+let-refused t begins lines let_fail.NoMemory some few is = tt
 
 -- ---- a task
 

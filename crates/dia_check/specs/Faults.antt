@@ -1,5 +1,5 @@
 -- The first fault of a document's names and shape.
-use Rattle.std.specs.Prelude.{◌≡◌, ◌≢◌, ℕ, ◌+◌, ◌<◌, sum_by, Bool, false, not, ◌||◌, nat_le, if◌then◌else◌, List, [], ◌∷◌, ◌++◌, length, map, take, drop, slice_get, Option, Some, None}
+use Rattle.std.specs.Prelude.{◌≡◌, ◌≢◌, ℕ, ◌+◌, ◌<◌, sum_by, Bool, true, false, not, ◌||◌, nat_le, if◌then◌else◌, List, [], ◌∷◌, ◌++◌, length, map, take, drop, slice_get, Option, Some, None}
 use Rattle.std.specs.List.{flat_map, list_any}
 use Rattle.std.specs.Str.{bytes_eq}
 use Rattle.dbp_plan.specs.declared.expr.Expr.{Expr}
@@ -15,10 +15,13 @@ use Rattle.dia_lines.specs.declared.item.RawClock.TheVariants.{Every, On}
 use Rattle.dia_read.specs.declared.document.Body.{Body}
 use Rattle.dia_read.specs.declared.document.Doc.{Doc}
 use Rattle.dia_read.specs.declared.document.RawTask.{RawTask}
+use Rattle.dia_read.specs.Printable.{is_out_part}
 use Rattle.expr_eval.specs.LetOrders.{IsCycle, IsFirstCycle, AreNamesOf}
 use Rattle.dia_check.specs.declared.fail.CheckCode.{CheckCode}
 use Rattle.dia_check.specs.declared.fail.CheckCode.TheVariants as code
 use Rattle.dia_check.specs.declared.fail.CheckCode.TheVariants.{LetCycle, NoOut}
+use Rattle.dia_check.specs.declared.fail.CheckFail.{CheckFail}
+use Rattle.dia_check.specs.declared.fail.CheckFail.TheVariants.{Refused}
 use Rattle.dia_check.specs.declared.fail.LineFault.{LineFault}
 use Rattle.dia_check.specs.declared.fail.LineFault.TheVariants.{Duplicate, Unknown, SelfLink, ReadPastCost}
 use Rattle.dia_check.specs.Diagrams.{lets_of}
@@ -105,6 +108,10 @@ code_of Unknown = code.Unknown
 code_of SelfLink = code.SelfLink
 code_of ReadPastCost = code.ReadPastCost
 
+-- the refusal for a fault of the line with the number
+abbrev pub line_refusal : ℕ × LineFault → CheckFail
+line_refusal f = Refused f.0 (code_of f.1)
+
 -- the same code, but for the names of a cycle
 pub data IsSameCode : CheckCode → CheckCode → Type 0 where
   same : (code : CheckCode) → IsSameCode code code
@@ -136,6 +143,28 @@ pub data HasTaskFault (t : RawTask) (line : ℕ) (parts : List ℕ) : ℕ → Ch
 -- the lines of the bodies, from the task with this number on
 abbrev pub part_lines : Doc → ℕ → List ℕ
 part_lines doc i = drop (sum_by (λ t. length t.parts) (take i doc.body.tasks)) doc.lines.parts
+
+-- ---- tasks without outs
+
+abbrev pub is_let_part : Part → Bool
+is_let_part (Let n e) = true
+is_let_part _ = false
+
+abbrev pub lacks_outs : RawTask → Bool
+lacks_outs t = not (list_any is_out_part t.parts)
+
+abbrev pub has_lets : RawTask → Bool
+has_lets t = list_any is_let_part t.parts
+
+-- the line of the first of these tasks without outs, if no task before it has lets, which may have a cycle
+abbrev pub outless_line : List RawTask → List ℕ → Option ℕ
+outless_line (t ∷ ts) (n ∷ ns) =
+    if lacks_outs t then Some n else
+    if has_lets t then None else outless_line ts ns
+outless_line _ _ = None
+
+abbrev pub line_without_out : Doc → Option ℕ
+line_without_out doc = outless_line doc.body.tasks doc.lines.tasks
 
 -- ---- of a document
 

@@ -1,6 +1,8 @@
 -- Definitions that public clauses cite.
 pub use Rattle.dbp_plan.specs.Ranks
+pub mod BareBodies
 pub mod Checks
+pub mod Codes
 pub mod Diagrams
 pub mod Faults
 pub mod Names

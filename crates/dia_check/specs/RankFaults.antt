@@ -45,6 +45,10 @@ code_of_rank MissingPrio = code.MissingPrio
 code_of_rank MissingDeadline = code.MissingDeadline
 code_of_rank (UndelayedUpward writer reader) = code.UndelayedUpward writer reader
 
+-- the refusal for a fault of ranks at the line with the number
+abbrev pub rank_refusal : ℕ × RankFault → CheckFail
+rank_refusal f = fail.Refused f.0 (code_of_rank f.1)
+
 -- the first fault is at this line, and its code is this
 abbrev pub IsRankFault : Shaped → ℕ → CheckCode → Type 0
 IsRankFault s line fault = (f : RankFault) × (first_fault (rank_faults s) ≡ Some (line, f)) × (fault ≡ code_of_rank f)

@@ -1,23 +1,22 @@
 -- What the names of a document mean in all of its tasks, and how one task is put together.
-use Rattle.std.specs.Prelude.{◌≡◌, ◌≢◌, ℕ, List, [], take, slice_get, Some, None}
+use Rattle.std.specs.Prelude.{◌≡◌, ℕ, List, take, slice_get, slice_index, Some, None}
 use Rattle.std.specs.List.{flat_map}
 use Rattle.dia_lines.specs.declared.item.Part.{Part}
 use Rattle.dia_read.specs.declared.document.Body.{Body}
 use Rattle.dia_read.specs.declared.document.RawTask.{RawTask}
 use Rattle.expr_eval.specs.declared.order.LetFail.{LetFail}
 use Rattle.expr_eval.specs.declared.order.LetFail.TheVariants as let_fail
-use Rattle.expr_eval.specs.LetOrders.{IsFrontOrder, IsCycle, IsFailOf}
+use Rattle.expr_eval.specs.LetOrders.{IsFrontOrder, IsCycle}
+use Rattle.dia_check.specs.declared.fail.CheckCode.TheVariants.{LetCycle}
 use Rattle.dia_check.specs.declared.fail.CheckFail.{CheckFail}
 use Rattle.dia_check.specs.declared.fail.CheckFail.TheVariants as check_fail
 use Rattle.dia_check.specs.declared.scope.Scope.{Scope}
 use Rattle.dia_check.specs.declared.tasks.Given.{Given}
 use Rattle.dia_check.specs.declared.tasks.OrderedLets.{OrderedLets}
-use Rattle.dia_check.specs.declared.tasks.TaskFail.{TaskFail}
-use Rattle.dia_check.specs.declared.tasks.TaskFail.TheVariants.{NoOut, Cycle, NoMemory}
 use Rattle.dia_check.specs.declared.tasks.Work.{Work}
 use Rattle.dia_check.specs.Diagrams.{links_of, lets_of, state_of, sense_of, read_of, next_of, out_of}
-use Rattle.dia_check.specs.Faults.{part_fault, base_of, HasTaskFault}
-use Rattle.dia_check.specs.Names.{input_name, event_name, state_name, out_name, env_names, task_names}
+use Rattle.dia_check.specs.Faults.{part_fault, base_of, let_lines, HasTaskFault}
+use Rattle.dia_check.specs.Names.{input_name, event_name, state_name, env_names, task_names}
 
 -- the scope has the body's names and links
 pub record IsScopeOf (body : Body) (s : Scope) : Type 0 where
@@ -53,15 +52,11 @@ pub record IsGivenTo (body : Body) (number : ℕ) (parts : List Part) (g : Given
   pub senses : g.senses ≡ flat_map (sense_of (flat_map input_name body.decls)) parts
   pub reads : g.reads ≡ flat_map (read_of body.tasks number) parts
 
--- what a failure tells of a task as a whole; want of memory tells nothing
-abbrev pub IsTaskFail : RawTask → TaskFail → Type 0
-IsTaskFail t NoOut = flat_map out_name t.parts ≡ []
-IsTaskFail t (Cycle first names) = (flat_map out_name t.parts ≢ []) × IsFailOf (base_of t) (lets_of t) (let_fail.Cycle first names)
-IsTaskFail t NoMemory = Unit {0}
-
-abbrev pub task_fail_of : LetFail → TaskFail
-task_fail_of (let_fail.Cycle first names) = Cycle first names
-task_fail_of let_fail.NoMemory = NoMemory
+-- the refusal for a failure of the task's lets; the lines of its body have the first of these numbers
+abbrev pub let_refusal : RawTask → List ℕ → LetFail → CheckFail
+let_refusal t parts (let_fail.Cycle first names) =
+    check_fail.Refused (slice_index (let_lines t.parts parts) first) (LetCycle names)
+let_refusal t parts let_fail.NoMemory = check_fail.NoMemory
 
 -- what a refusal tells of the task, whose first line and those of its body have these numbers
 abbrev pub IsTaskRefusal : RawTask → ℕ → List ℕ → CheckFail → Type 0

@@ -1,6 +1,9 @@
 // Why a document has no diagram.
 
 ghost use Rattle.std.specs.Prelude.{◌≡◌};
+ghost use Rattle.dia_check.specs.Codes.{check_name, check_number};
+ghost use Rattle.dia_check.specs.Faults.{line_refusal};
+ghost use Rattle.dia_check.specs.RankFaults.{rank_refusal};
 ghost use Rattle.dia_check.specs.declared.fail.CheckFail.TheVariants.{NoMemory as OutOfMemory};
 
 use dbp_plan::{List, Name, NoMemory};
@@ -27,6 +30,42 @@ pub enum CheckCode {
     NoOut,
     /// A direct link goes from a lower to a higher rank: the numbers of its tasks.
     UndelayedUpward { writer: u32, reader: u32 },
+}
+
+impl CheckCode {
+    /// The number of the code, as a refusal prints it.
+    pub fn number(&self) -> u32
+        ensures { result ≡ check_number self.now }
+    {
+        match self {
+            CheckCode::Duplicate => 10,
+            CheckCode::Unknown => 11,
+            CheckCode::SelfLink => 12,
+            CheckCode::LetCycle { .. } => 13,
+            CheckCode::MissingPrio => 14,
+            CheckCode::MissingDeadline => 15,
+            CheckCode::ReadPastCost => 16,
+            CheckCode::NoOut => 17,
+            CheckCode::UndelayedUpward { .. } => 18,
+        }
+    }
+
+    /// The name of the code, as a refusal prints it.
+    pub fn name(&self) -> &'static str
+        ensures { result.now ≡ check_name self.now }
+    {
+        match self {
+            CheckCode::Duplicate => "Duplicate",
+            CheckCode::Unknown => "Unknown",
+            CheckCode::SelfLink => "SelfLink",
+            CheckCode::LetCycle { .. } => "LetCycle",
+            CheckCode::MissingPrio => "MissingPrio",
+            CheckCode::MissingDeadline => "MissingDeadline",
+            CheckCode::ReadPastCost => "ReadPastCost",
+            CheckCode::NoOut => "NoOut",
+            CheckCode::UndelayedUpward { .. } => "UndelayedUpward",
+        }
+    }
 }
 
 /// Why a document wasn't taken for a diagram.
@@ -58,7 +97,7 @@ pub(crate) enum LineFault {
 impl LineFault {
     ghost use Rattle.dia_check.specs.Faults.{code_of};
 
-    pub(crate) fn code(self) -> CheckCode
+    fn code(self) -> CheckCode
         ensures { result ≡ code_of self }
     {
         match self {
@@ -67,6 +106,16 @@ impl LineFault {
             LineFault::SelfLink => CheckCode::SelfLink,
             LineFault::ReadPastCost => CheckCode::ReadPastCost,
         }
+    }
+}
+
+/// The refusal for a fault of the line with the number.
+pub(crate) fn line_refusal(fault: (u32, LineFault)) -> CheckFail
+    ensures { result ≡ line_refusal fault }
+{
+    CheckFail::Refused {
+        line: fault.0,
+        code: fault.1.code(),
     }
 }
 
@@ -81,7 +130,7 @@ pub(crate) enum RankFault {
 impl RankFault {
     ghost use Rattle.dia_check.specs.RankFaults.{code_of_rank};
 
-    pub(crate) fn code(self) -> CheckCode
+    fn code(self) -> CheckCode
         ensures { result ≡ code_of_rank self }
     {
         match self {
@@ -91,5 +140,15 @@ impl RankFault {
                 CheckCode::UndelayedUpward { writer, reader }
             }
         }
+    }
+}
+
+/// The refusal for a fault of ranks at the line with the number.
+pub(crate) fn rank_refusal(fault: (u32, RankFault)) -> CheckFail
+    ensures { result ≡ rank_refusal fault }
+{
+    CheckFail::Refused {
+        line: fault.0,
+        code: fault.1.code(),
     }
 }

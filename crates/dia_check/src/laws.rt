@@ -7,8 +7,9 @@ ghost use Rattle.dia_read.specs.Printable.{HasItemLines};
 ghost use Rattle.dia_check.specs.declared.fail.CheckCode.{CheckCode};
 ghost use Rattle.dia_check.specs.declared.shaped.Shaped.{Shaped};
 ghost use Rattle.dbp_plan.specs.declared.diagram.Diagram.{Diagram};
+ghost use Rattle.dia_check.specs.BareBodies.{bare_diagram, HaveSameBareBody, StandOnSameLines};
 ghost use Rattle.dia_check.specs.Checks.{IsCheckedOf, IsCheckFault};
-ghost use Rattle.dia_check.specs.Faults.{IsShapeFault, IsSameCode};
+ghost use Rattle.dia_check.specs.Faults.{IsShapeFault, IsSameCode, HasNoShapeFault, line_faults};
 ghost use Rattle.dia_check.specs.Shapes.{IsShapeOf};
 
 use expr_eval::one_front_order;
@@ -26,6 +27,18 @@ pub fn one_shape_fault()
     ensures none { (doc : Doc) (s : Shaped) (line : ℕ) (code : CheckCode) → IsShapeOf doc s → IsShapeFault doc line code → ⊥ }
     ensures one { (doc : Doc) (line other : ℕ) (code another : CheckCode) → IsShapeFault doc line code → IsShapeFault doc other another → (line ≡ other) × IsSameCode code another }
 {}
+
+/// A shape depends on the declarations and on the names, clocks, costs and parts of tasks alone. So documents that differ
+/// in policy, end, prios, deadlines, trace, script and lines have the same diagram except for the first four of these. If
+/// their items stand on the same lines, their lines have the same faults, and either both have a shape or neither.
+pub fn bare_bodies_decide_shapes()
+    ensures diagram { (a b : Doc) (s t : Shaped) → HaveSameBareBody a b → IsShapeOf a s → IsShapeOf b t
+        → bare_diagram s.diagram ≡ bare_diagram t.diagram }
+    ensures faults { (a b : Doc) → HaveSameBareBody a b → StandOnSameLines a b → line_faults a ≡ line_faults b }
+    ensures none { (a b : Doc) → HaveSameBareBody a b → StandOnSameLines a b → HasNoShapeFault a → HasNoShapeFault b }
+{
+    one_front_order();
+}
 
 /// A document has one checked diagram at most, and none where it has a fault; it has one first fault at most, but for
 /// the names of a cycle.

@@ -7,6 +7,7 @@ mod laws;
 mod line_faults;
 mod links;
 mod names;
+mod outs;
 mod parts;
 mod placing;
 mod rank_faults;
@@ -18,7 +19,9 @@ mod shaping;
 mod tasks;
 
 pub use fail::{CheckCode, CheckFail};
-pub use laws::{one_check, one_shape, one_shape_fault, the_script_is_not_checked};
+pub use laws::{
+    bare_bodies_decide_shapes, one_check, one_shape, one_shape_fault, the_script_is_not_checked,
+};
 pub use rank_faults::ranked;
 pub use ranking::{ranks, ranks_are_distinct};
 pub use shaped::{ReadLine, Shaped};

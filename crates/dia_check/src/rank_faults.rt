@@ -1,16 +1,17 @@
 // The ranks of a diagram's tasks, and the first fault that keeps it from having them.
 
-ghost use Rattle.std.specs.Prelude.{◌≡◌, ◌<◌, ◌≤◌, All, IfErr, IfOk, [], length, map};
+ghost use Rattle.std.specs.Prelude.{◌≡◌, ◌<◌, ◌≤◌, All, IfErr, IfOk, IfSome, IsErrOf, [], length, map};
 ghost use Rattle.dbp_plan.specs.Closed.{IsClosed};
 ghost use Rattle.dbp_plan.specs.Ranked.{IsRanked};
 ghost use Rattle.dbp_plan.specs.FirstFault.{faults_behind, first_fault};
-ghost use Rattle.dia_check.specs.RankFaults.{task_rank_fault, link_rank_fault, read_rank_fault, HasNoRankFault, IsRankRefusal, ranked_diagram};
+ghost use Rattle.dbp_plan.specs.Ranks.{ranks_of};
+ghost use Rattle.dia_check.specs.RankFaults.{task_rank_fault, link_rank_fault, read_rank_fault, rank_faults, HasNoRankFault, IsRankRefusal, rank_refusal, ranked_diagram};
 ghost use Rattle.dia_read.specs.declared.document.Doc.{Doc as AnyDoc};
 ghost use Rattle.dia_check.specs.Checks.{IsCheckedOf};
 ghost use Rattle.dia_check.specs.Shapes.{IsShapeOf, HasLines};
 
-use crate::fail::{CheckFail, RankFault};
-use crate::ranking::ranks;
+use crate::fail::{CheckFail, RankFault, rank_refusal};
+use crate::ranking::{is_ranked_above, ranks};
 use crate::shaped::{ReadLine, Shaped};
 use dbp_plan::{Diagram, Link, Policy, Task};
 use std::alloc::Global;
@@ -40,11 +41,11 @@ fn tasks_rank_fault(policy: Policy, tasks: &[Task], lines: &[u32]) -> Option<(u3
 }
 
 /// `UndelayedUpward`, where the link is direct and its reader is ranked above its writer.
-fn link_rank_fault(ranks: &[u32], link: Link) -> Option<RankFault>
-    requires { (link.writer < length ranks.now) × (link.reader < length ranks.now) }
-    ensures { result ≡ link_rank_fault ranks.now link }
+fn link_rank_fault(policy: Policy, tasks: &[Task], link: Link) -> Option<RankFault>
+    requires { (link.writer < length tasks.now) × (link.reader < length tasks.now) }
+    ensures { result ≡ link_rank_fault (ranks_of policy tasks.now) link }
 {
-    if link.delay == 0 && ranks[link.reader as usize] < ranks[link.writer as usize] {
+    if link.delay == 0 && is_ranked_above(policy, tasks, link.reader, link.writer) {
         return Some(RankFault::UndelayedUpward {
             writer: link.writer,
             reader: link.reader,
@@ -53,18 +54,39 @@ fn link_rank_fault(ranks: &[u32], link: Link) -> Option<RankFault>
     None
 }
 
-/// The first fault of the read lines, which read over these links.
-fn reads_rank_fault(ranks: &[u32], links: &[Link], reads: &[ReadLine]) -> Option<(u32, RankFault)>
-    requires ends { All (λ l. (l.writer < length ranks.now) × (l.reader < length ranks.now)) links.now }
+/// The first fault of the read lines, which read over these links of these tasks.
+fn reads_rank_fault(
+    policy: Policy,
+    tasks: &[Task],
+    links: &[Link],
+    reads: &[ReadLine],
+) -> Option<(u32, RankFault)>
+    requires ends { All (λ l. (l.writer < length tasks.now) × (l.reader < length tasks.now)) links.now }
     requires linked { All (λ r. r.link < length links.now) reads.now }
-    ensures { result ≡ first_fault (map (λ r. (r.line, read_rank_fault ranks.now links.now r)) reads.now) }
+    ensures { result ≡ first_fault
+        (map (λ r. (r.line, read_rank_fault (ranks_of policy tasks.now) links.now r)) reads.now) }
 {
     for read in reads {
-        if let Some(fault) = link_rank_fault(ranks, links[read.link as usize]) {
+        if let Some(fault) = link_rank_fault(policy, tasks, links[read.link as usize]) {
             return Some((read.line, fault));
         }
     }
     None
+}
+
+/// The first fault of the tasks, or else of the read lines.
+fn first_rank_fault(shaped: &Shaped) -> Option<(u32, RankFault)>
+    requires closed { IsClosed shaped.now.diagram }
+    requires lines { HasLines shaped.now }
+    ensures { result ≡ first_fault (rank_faults shaped.now) }
+{
+    let policy = shaped.diagram.policy;
+    let tasks = shaped.diagram.tasks.items();
+    if let Some(fault) = tasks_rank_fault(policy, tasks, shaped.task_lines.items()) {
+        return Some(fault);
+    }
+    let links = shaped.diagram.links.items();
+    reads_rank_fault(policy, tasks, links, shaped.read_lines.items())
 }
 
 /// Gives the tasks of a document's diagram their ranks, by its policy. Refused is the first fault, at its line: of
@@ -80,19 +102,13 @@ pub fn ranked(alloc: Global, shaped: Shaped) -> Result<Diagram, CheckFail>
     ensures checked { (doc : AnyDoc) → IsShapeOf doc shaped → IfOk result (λ d. IsCheckedOf doc d) }
     // It has this first fault, unless memory ran out.
     ensures fault { IfErr result (λ e. IsRankRefusal shaped e) }
+    // The first fault is found before memory is taken, so it is never out of memory.
+    ensures refused { IfSome (first_fault (rank_faults shaped)) (λ f. IsErrOf result (rank_refusal f)) }
 {
-    let policy = shaped.diagram.policy;
-    let tasks = shaped.diagram.tasks.items();
-    if let Some((line, fault)) = tasks_rank_fault(policy, tasks, shaped.task_lines.items()) {
-        let code = fault.code();
-        return Err(CheckFail::Refused { line, code });
+    if let Some(fault) = first_rank_fault(&shaped) {
+        return Err(rank_refusal(fault));
     }
-    let ranks = ranks(alloc, policy, tasks)?;
-    let links = shaped.diagram.links.items();
-    if let Some((line, fault)) = reads_rank_fault(ranks.items(), links, shaped.read_lines.items()) {
-        let code = fault.code();
-        return Err(CheckFail::Refused { line, code });
-    }
+    let ranks = ranks(alloc, shaped.diagram.policy, shaped.diagram.tasks.items())?;
     Ok(Diagram {
         ranks,
         ..shaped.diagram

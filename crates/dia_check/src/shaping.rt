@@ -1,17 +1,20 @@
 // The diagram that a document says.
 
-ghost use Rattle.std.specs.Prelude.{◌≡◌, ◌<◌, ◌^◌, [], None, length, IfOk, IfErr};
+ghost use Rattle.std.specs.Prelude.{◌≡◌, ◌<◌, ◌^◌, [], None, length, IfOk, IfErr, IfSome, IsErrOf};
 ghost use Rattle.std.specs.List.{flat_map};
 ghost use Rattle.dbp_plan.specs.Closed.{IsClosed};
 ghost use Rattle.dbp_plan.specs.FirstFault.{first_fault};
 ghost use Rattle.dia_read.specs.Printable.{IsPrintable, HasItemLines};
 ghost use Rattle.dia_check.specs.Diagrams.{IsDiagramOf, input_of};
-ghost use Rattle.dia_check.specs.Faults.{line_faults};
+ghost use Rattle.dia_check.specs.declared.fail.CheckCode.TheVariants.{NoOut};
+ghost use Rattle.dia_check.specs.declared.fail.CheckFail.TheVariants.{Refused};
+ghost use Rattle.dia_check.specs.Faults.{line_faults, line_refusal, line_without_out};
 ghost use Rattle.dia_check.specs.Scopes.{IsScopeOf};
 ghost use Rattle.dia_check.specs.Shapes.{IsShapeOf, IsShapeRefusal, HasLines, AreTasksOf, AreWhole};
 
-use crate::fail::CheckFail;
+use crate::fail::{CheckCode, CheckFail, line_refusal};
 use crate::first_line::first_line_fault;
+use crate::outs::line_without_out;
 use crate::reads::read_lines_of;
 use crate::scope::{Scope, scope_of};
 use crate::shaped::Shaped;
@@ -84,6 +87,27 @@ fn diagram_of(alloc: Global, doc: &Doc, scope: Scope) -> Result<Diagram, CheckFa
     })
 }
 
+/// The diagram and the lines of the document, of which no line has a fault.
+fn shaped_of(alloc: Global, doc: &Doc) -> Result<Shaped, CheckFail>
+    requires printable { IsPrintable doc.now.body }
+    requires lines { HasItemLines doc.now }
+    requires faultless { first_fault (line_faults doc.now) ≡ None }
+    ensures found { IfOk result (λ shaped. IsShapeOf doc.now shaped) }
+    ensures closed { IfOk result (λ shaped. IsClosed shaped.diagram) }
+    ensures lines { IfOk result (λ shaped. HasLines shaped) }
+    ensures fault { IfErr result (λ fail. IsShapeRefusal doc.now fail) }
+{
+    let scope = scope_of(alloc, &doc.body)?;
+    let read_lines = read_lines_of(alloc, doc, &scope)?;
+    let task_lines = doc.lines.tasks.copied()?;
+    let diagram = diagram_of(alloc, doc, scope)?;
+    Ok(Shaped {
+        diagram,
+        task_lines,
+        read_lines,
+    })
+}
+
 /// The diagram that the document says, still without ranks. Its names are looked up where they are declared, before
 /// or behind their use; of two tasks with one name, which are refused at the second, a `read` means the first. A state
 /// without a `next` keeps its value.
@@ -100,20 +124,20 @@ pub fn shape(alloc: Global, doc: &Doc) -> Result<Shaped, CheckFail>
     ensures lines { IfOk result (λ shaped. HasLines shaped) }
     // It has this first fault, unless memory ran out.
     ensures fault { IfErr result (λ fail. IsShapeRefusal doc.now fail) }
+    // The first line with a fault is found before memory is taken, so it is never out of memory.
+    ensures line_refused { IfSome (first_fault (line_faults doc.now)) (λ f. IsErrOf result (line_refusal f)) }
+    // So is the first task without outs, if no line has a fault and no task before it has lets.
+    ensures task_refused { first_fault (line_faults doc.now) ≡ None
+        → IfSome (line_without_out doc.now) (λ line. IsErrOf result (Refused line NoOut)) }
 {
-    if let Some((line, fault)) = first_line_fault(doc) {
+    if let Some(fault) = first_line_fault(doc) {
+        return Err(line_refusal(fault));
+    }
+    if let Some(line) = line_without_out(doc) {
         return Err(CheckFail::Refused {
             line,
-            code: fault.code(),
+            code: CheckCode::NoOut,
         });
     }
-    let scope = scope_of(alloc, &doc.body)?;
-    let read_lines = read_lines_of(alloc, doc, &scope)?;
-    let task_lines = doc.lines.tasks.copied()?;
-    let diagram = diagram_of(alloc, doc, scope)?;
-    Ok(Shaped {
-        diagram,
-        task_lines,
-        read_lines,
-    })
+    shaped_of(alloc, doc)
 }

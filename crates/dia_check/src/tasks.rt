@@ -1,15 +1,18 @@
 // The tasks of a document.
 
-ghost use Rattle.std.specs.Prelude.{◌≡◌, ◌<◌, ◌≤◌, ℕ, Some, length, slice_get, sum_by, IfOk, IfErr};
+ghost use Rattle.std.specs.Prelude.{◌≡◌, ◌<◌, ◌≤◌, ℕ, Some, true, length, slice_get, sum_by, IfOk, IfErr, IsErrOf};
 ghost use Rattle.dbp_plan.specs.declared.limits.TheConstants.{MAX_BODY};
+ghost use Rattle.dia_check.specs.declared.fail.CheckCode.TheVariants.{NoOut};
+ghost use Rattle.dia_check.specs.declared.fail.CheckFail.TheVariants.{Refused};
 ghost use Rattle.dia_check.specs.Diagrams.{IsTaskOf, clock_of, lets_of};
-ghost use Rattle.dia_check.specs.Faults.{IsWhole, base_of, let_lines};
+ghost use Rattle.dia_check.specs.Faults.{IsWhole, base_of, lacks_outs, let_lines};
 ghost use Rattle.dia_check.specs.Names.{env_names};
-ghost use Rattle.dia_check.specs.Scopes.{IsScopeOf, HasFaultlessParts, HasNoCycle, AreOrderedLets, IsWorkOf, IsGivenTo, IsTaskFail, IsTaskRefusal};
+ghost use Rattle.dia_check.specs.Scopes.{IsScopeOf, HasFaultlessParts, HasNoCycle, AreOrderedLets, IsWorkOf, IsGivenTo, IsTaskRefusal, let_refusal};
 ghost use Rattle.expr_eval.specs.LetOrders.{IsFailOf};
 
 use crate::fail::{CheckCode, CheckFail};
 use crate::names::{env_names, index_of, state_names};
+use crate::outs::lacks_outs;
 use crate::parts::{lets_of, nexts_of, outs_of, senses_of, states_of};
 use crate::reads::reads_of;
 use crate::scope::Scope;
@@ -18,38 +21,6 @@ use dia_lines::{Part, RawClock};
 use dia_read::{Body, RawTask};
 use expr_eval::{LetFail, no_order_of_a_cycle, order_lets};
 use std::alloc::Global;
-
-/// Why a task as a whole isn't right.
-#[derive(Drop)]
-pub(crate) enum TaskFail {
-    NoOut,
-    /// The earliest let that lies on a cycle, from 0, and the names of a cycle from it on.
-    Cycle { first: u32, names: List<Name> },
-    NoMemory,
-}
-
-impl From<NoMemory> for TaskFail {
-    ghost use Rattle.dia_check.specs.declared.tasks.TaskFail.TheVariants.{NoMemory as OutOfMemory};
-
-    ghost from_gives = { λ _ e. e ≡ OutOfMemory };
-
-    fn from(_: NoMemory) -> TaskFail {
-        TaskFail::NoMemory
-    }
-}
-
-impl From<LetFail> for TaskFail {
-    ghost use Rattle.dia_check.specs.Scopes.{task_fail_of};
-
-    ghost from_gives = { λ fail e. e ≡ task_fail_of fail };
-
-    fn from(fail: LetFail) -> TaskFail {
-        match fail {
-            LetFail::Cycle { first, names } => TaskFail::Cycle { first, names },
-            LetFail::NoMemory => TaskFail::NoMemory,
-        }
-    }
-}
 
 fn clock_of(scope: &Scope, clock: &RawClock) -> Clock
     ensures { result ≡ clock_of scope.now.events clock.now }
@@ -101,19 +72,16 @@ struct Work {
     outs: List<Out>,
 }
 
-fn work_of(alloc: Global, body: &Body, raw: &RawTask) -> Result<Work, TaskFail>
+fn work_of(alloc: Global, body: &Body, raw: &RawTask) -> Result<Work, LetFail>
     requires few { length raw.now.parts ≤ MAX_BODY }
     requires faultless { HasFaultlessParts body.now raw.now }
     ensures work { IfOk result (λ work. IsWorkOf raw.now work) }
-    ensures whole { IfOk result (λ _. IsWhole raw.now) }
-    ensures fail { IfErr result (λ fail. IsTaskFail raw.now fail) }
+    ensures whole { IfOk result (λ _. HasNoCycle raw.now) }
+    ensures fail { IfErr result (λ fail. IsFailOf (base_of raw.now) (lets_of raw.now) fail) }
 {
     let parts = raw.parts.items();
     let names = env_names(alloc, parts)?;
     let outs = outs_of(alloc, names.items(), parts)?;
-    if outs.is_empty() {
-        return Err(TaskFail::NoOut);
-    }
     let OrderedLets { lets, order } = ordered_lets(alloc, body, raw, names.items())?;
     let states = state_names(alloc, parts)?;
     let nexts = nexts_of(alloc, states.items(), names.items(), parts)?;
@@ -158,13 +126,13 @@ fn task_of(
     scope: &Scope,
     number: u32,
     raw: &RawTask,
-) -> Result<Task, TaskFail>
+) -> Result<Task, LetFail>
     requires scope { IsScopeOf body.now scope.now }
     requires few { length raw.now.parts ≤ MAX_BODY }
     requires faultless { HasFaultlessParts body.now raw.now }
     ensures task { IfOk result (λ task. IsTaskOf body.now number raw.now task) }
-    ensures whole { IfOk result (λ _. IsWhole raw.now) }
-    ensures fail { IfErr result (λ fail. IsTaskFail raw.now fail) }
+    ensures whole { IfOk result (λ _. HasNoCycle raw.now) }
+    ensures fail { IfErr result (λ fail. IsFailOf (base_of raw.now) (lets_of raw.now) fail) }
 {
     let work = work_of(alloc, body, raw)?;
     let given = given_to(alloc, body, scope, number, raw.parts.items())?;
@@ -202,22 +170,18 @@ fn let_line(parts: &[Part], lines: &[u32], number: u32) -> u32
     unreachable!()
 }
 
-/// The refusal of a task, whose first line and those of its body have these numbers.
-fn refused(raw: &RawTask, begins: u32, lines: &[u32], fail: TaskFail) -> CheckFail
-    requires fail { IsTaskFail raw.now fail }
+/// The refusal for a failure of the task's lets. The lines of its body have the first of these numbers.
+fn let_refusal(raw: &RawTask, lines: &[u32], fail: LetFail) -> CheckFail
+    requires fail { IsFailOf (base_of raw.now) (lets_of raw.now) fail }
     requires lines { length raw.now.parts ≤ length lines.now }
-    ensures { IsTaskRefusal raw.now begins lines.now result }
+    ensures { result ≡ let_refusal raw.now lines.now fail }
 {
     match fail {
-        TaskFail::NoOut => CheckFail::Refused {
-            line: begins,
-            code: CheckCode::NoOut,
-        },
-        TaskFail::Cycle { first, names } => CheckFail::Refused {
+        LetFail::Cycle { first, names } => CheckFail::Refused {
             line: let_line(raw.parts.items(), lines, first),
             code: CheckCode::LetCycle { names },
         },
-        TaskFail::NoMemory => CheckFail::NoMemory,
+        LetFail::NoMemory => CheckFail::NoMemory,
     }
 }
 
@@ -239,9 +203,17 @@ pub(crate) fn checked_task(
     ensures task { IfOk result (λ task. IsTaskOf body.now number raw.now task) }
     ensures whole { IfOk result (λ _. IsWhole raw.now) }
     ensures fault { IfErr result (λ fail. IsTaskRefusal raw.now begins lines.now fail) }
+    // A task without outs is refused before memory is taken.
+    ensures no_out { lacks_outs raw.now ≡ true → IsErrOf result (Refused begins NoOut) }
 {
+    if lacks_outs(raw) {
+        return Err(CheckFail::Refused {
+            line: begins,
+            code: CheckCode::NoOut,
+        });
+    }
     match task_of(alloc, body, scope, number, raw) {
         Ok(task) => Ok(task),
-        Err(fail) => Err(refused(raw, begins, lines, fail)),
+        Err(fail) => Err(let_refusal(raw, lines, fail)),
     }
 }

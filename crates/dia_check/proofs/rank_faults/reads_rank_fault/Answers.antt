@@ -1,5 +1,6 @@
-use Rattle.std.proofs.Common.{◌≡◌, ◌<◌, Some, None, length, get_or, ap, ◌∙◌, sym}
+use Rattle.std.proofs.Common.{◌≡◌, ◌<◌, ℕ, List, Some, None, length, get_or, ap, ◌∙◌, sym}
 use Rattle.dbp_plan.specs.declared.diagram.Link.{Link}
+use Rattle.dbp_plan.specs.Ranks.{ranks_of}
 use Rattle.dia_check.specs.declared.shaped.ReadLine.{ReadLine}
 use Rattle.dia_check.specs.RankFaults.{read_rank_fault}
 use Rattle.dia_check.proofs.RankLaws.{read_line_fault, link-of-read, rest-here, rest-later}
@@ -7,7 +8,7 @@ use Rattle.dia_check.proofs.rank_faults.reads_rank_fault.Goals as goal
 
 pub returns-in-Some : goal.returns-in-Some
 returns-in-Some c =
-    let ranks = c.args.ranks.now in
+    let ranks : List ℕ = ranks_of c.args.policy c.args.tasks.now in
     let links = c.args.links.now in
     let reads = c.args.reads.now in
     let no_read : ReadLine = record { line = 0; link = 0 } in
@@ -19,7 +20,7 @@ returns-in-Some c =
 
 pub loop-read-preserved : goal.loop-read-preserved
 loop-read-preserved c =
-    let ranks = c.args.ranks.now in
+    let ranks : List ℕ = ranks_of c.args.policy c.args.tasks.now in
     let links = c.args.links.now in
     let reads = c.args.reads.now in
     let no_read : ReadLine = record { line = 0; link = 0 } in

@@ -1,22 +1,56 @@
-use Rattle.std.proofs.Common.{sym, ◌∙◌, subst, rules}
-use Rattle.dia_check.specs.Faults.{IsShapeFault, of_a_line}
-use Rattle.dia_check.proofs.Closedness.{closed, few-parts}
-use Rattle.dia_check.proofs.ReadLines.{lines-of-shape}
+use Rattle.std.proofs.Common.{◌≡◌, None, Some, refl, sym, ◌∙◌, rules}
+use Rattle.std.proofs.lemmas.Option.{none-some}
+use Rattle.dia_check.specs.declared.fail.CheckCode.TheVariants.{NoOut}
+use Rattle.dia_check.specs.declared.fail.CheckFail.TheVariants.{Refused}
+use Rattle.dia_check.proofs.NoOuts.{task-refused}
+use Rattle.dia_check.proofs.Refusals.{exactly, line-refused, none-found}
 use Rattle.dia_check.proofs.shaping.shape.Goals as goal
 
 pub returns-in-Some-clause-fault : goal.returns-in-Some-clause-fault
-returns-in-Some-clause-fault c = subst (λ code. IsShapeFault c.args.doc.now c.in-Some.line code) (sym c.code.ensures) (of_a_line c.in-Some.line c.in-Some.fault (sym c.first_line_fault.ensures ∙ c.in-Some.is))
+returns-in-Some-clause-fault c =
+    let found : c.first_line_fault.result ≡ Some c.in-Some.fault = search rules in
+    rw c.line_refusal.ensures (line-refused c.args.doc.now c.in-Some.fault (sym c.first_line_fault.ensures ∙ found))
 
-pub scope_of-requires-clause-parts : goal.scope_of-requires-clause-parts
-scope_of-requires-clause-parts c = few-parts c.args.doc.now.body c.requires.printable
+pub returns-in-Some-clause-line_refused : goal.returns-in-Some-clause-line_refused
+returns-in-Some-clause-line_refused c =
+    let found : c.first_line_fault.result ≡ Some c.in-Some.fault = search rules in
+    exactly _ _ _ c.in-Some.fault c.line_refusal.result (sym c.first_line_fault.ensures ∙ found) c.line_refusal.ensures
 
-pub read_lines_of-requires-clause-few : goal.read_lines_of-requires-clause-few
-read_lines_of-requires-clause-few c = few-parts c.args.doc.now.body c.requires.printable
+pub returns-in-Some-clause-task_refused : goal.returns-in-Some-clause-task_refused
+returns-in-Some-clause-task_refused c =
+    let found : c.first_line_fault.result ≡ Some c.in-Some.fault = search rules in
+    λ none. absurd (none-some c.in-Some.fault (sym none ∙ sym c.first_line_fault.ensures ∙ found))
 
-pub returns-clause-closed : goal.returns-clause-closed
-returns-clause-closed c =
-    closed c.args.doc.now c.in_ok-diagram.diagram c.requires.printable c.requires.lines (record { lines = sym c.first_line_fault.ensures ∙ search rules; whole = c.in_ok-diagram.ensures.whole }) c.in_ok-diagram.ensures.diagram
+pub returns-in-Some-line_without_out-clause-fault :
+    goal.returns-in-Some-line_without_out-clause-fault
+returns-in-Some-line_without_out-clause-fault c =
+    let none : c.first_line_fault.result ≡ None = search rules in
+    let found : c.line_without_out.result ≡ Some c.in-Some-line_without_out.line = search rules in
+    task-refused c.args.doc.now c.in-Some-line_without_out.line (sym c.first_line_fault.ensures ∙ none) (sym c.line_without_out.ensures ∙ found)
 
-pub returns-clause-lines : goal.returns-clause-lines
-returns-clause-lines c =
-    lines-of-shape c.args.doc.now c.in_ok-diagram.diagram c.in_ok-task_lines.task_lines c.in_ok-read_lines.read_lines c.requires.lines c.in_ok-diagram.ensures.diagram c.in_ok-task_lines.ensures c.in_ok-read_lines.ensures
+pub returns-in-Some-line_without_out-clause-line_refused :
+    goal.returns-in-Some-line_without_out-clause-line_refused
+returns-in-Some-line_without_out-clause-line_refused c =
+    let none : c.first_line_fault.result ≡ None = search rules in
+    none-found _ _ (sym c.first_line_fault.ensures ∙ none)
+
+pub returns-in-Some-line_without_out-clause-task_refused :
+    goal.returns-in-Some-line_without_out-clause-task_refused
+returns-in-Some-line_without_out-clause-task_refused c =
+    let found : c.line_without_out.result ≡ Some c.in-Some-line_without_out.line = search rules in
+    λ none. exactly _ (λ line. Refused line NoOut) _ c.in-Some-line_without_out.line _ (sym c.line_without_out.ensures ∙ found) refl
+
+pub shaped_of-requires-clause-faultless : goal.shaped_of-requires-clause-faultless
+shaped_of-requires-clause-faultless c =
+    let none : c.first_line_fault.result ≡ None = search rules in
+    sym c.first_line_fault.ensures ∙ none
+
+pub returns-clause-line_refused : goal.returns-clause-line_refused
+returns-clause-line_refused c =
+    let none : c.first_line_fault.result ≡ None = search rules in
+    none-found _ _ (sym c.first_line_fault.ensures ∙ none)
+
+pub returns-clause-task_refused : goal.returns-clause-task_refused
+returns-clause-task_refused c =
+    let none : c.line_without_out.result ≡ None = search rules in
+    λ _. none-found _ _ (sym c.line_without_out.ensures ∙ none)

@@ -1,0 +1,40 @@
+-- What of a document its shape depends on.
+use Rattle.std.specs.Prelude.{◌≡◌, map, None}
+use Rattle.dbp_plan.specs.declared.diagram.Diagram.{Diagram}
+use Rattle.dbp_plan.specs.declared.diagram.Policy.TheVariants.{Fp}
+use Rattle.dbp_plan.specs.declared.diagram.Task.{Task}
+use Rattle.dia_read.specs.declared.document.Body.{Body}
+use Rattle.dia_read.specs.declared.document.Doc.{Doc}
+use Rattle.dia_read.specs.declared.document.RawTask.{RawTask}
+
+-- the task's name, clock, cost and parts
+abbrev pub bare_raw_task : RawTask → RawTask
+bare_raw_task t = record t { prio = None; deadline = None }
+
+-- the declarations, and of each task its name, clock, cost and parts
+abbrev pub bare_body : Body → Body
+bare_body body = record body {
+  policy = Fp;
+  until = 0;
+  tasks = map bare_raw_task body.tasks;
+  trace = None;
+  script = None;
+}
+
+-- the task without prio and deadline
+abbrev pub bare_task : Task → Task
+bare_task t = record t { prio = None; deadline = None }
+
+-- the diagram without policy, end, prios and deadlines
+abbrev pub bare_diagram : Diagram → Diagram
+bare_diagram d = record d { policy = Fp; until = 0; tasks = map bare_task d.tasks }
+
+-- the documents have the same declarations, and tasks of the same names, clocks, costs and parts
+abbrev pub HaveSameBareBody : Doc → Doc → Type 0
+HaveSameBareBody a b = bare_body a.body ≡ bare_body b.body
+
+-- their declarations, tasks and parts stand on the same lines
+pub record StandOnSameLines (a b : Doc) : Type 0 where
+  pub decls : a.lines.decls ≡ b.lines.decls
+  pub tasks : a.lines.tasks ≡ b.lines.tasks
+  pub parts : a.lines.parts ≡ b.lines.parts
