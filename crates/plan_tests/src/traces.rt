@@ -15,7 +15,7 @@ use std::str::from_utf8;
 use std::test::Fail;
 use test_inputs::doc_in;
 use trace_rows::{
-    Kind, TraceCode, TraceFail, event_times, is_header, kinds, records, samples, times,
+    Kind, RowValues, TraceCode, TraceFail, event_times, is_header, kinds, records, row_values,
 };
 
 // The records that the trace section of a document has.
@@ -180,30 +180,32 @@ fn columns_hold_values_or_marks(rt: HostRuntime) -> Result<(), Fail> {
     Ok(())
 }
 
-// The times of rows at lines with these numbers, or their first fault.
-fn times_of(
+// What rows at lines with these numbers say after this header, or their first fault.
+fn said_by(
     alloc: Global,
     until: u64,
-    kinds: &[Kind],
+    header: &str,
     lines: &[&str],
     numbers: &[u32],
-) -> Result<Result<List<u64>, TraceFail>, Fail> {
+) -> Result<Result<RowValues, TraceFail>, Fail> {
+    let inputs = inputs(alloc, &["a", "b"])?;
+    let header = record(alloc, header)?;
     let rows = rows_of(alloc, lines)?;
-    if kinds.len() > 2 || rows.len() > numbers.len() {
+    if inputs.len() > 16 || rows.len() > numbers.len() {
         return Err(Fail::new("too much"));
     }
-    Ok(times(alloc, until, kinds, &rows, numbers))
+    Ok(row_values(alloc, until, &inputs, &header, &rows, numbers))
 }
 
-const VALUE_AND_MARK: &[Kind] = &[Kind::Value, Kind::Mark];
+const VALUE_AND_MARK: &str = "time,a,e";
 
 static TIMED: &[&str] = &["3,-5,1", "010,,", "11,7,0"];
 
 #[test]
 fn rows_have_times_or_a_fault_at_a_line(rt: HostRuntime) -> Result<(), Fail> {
-    let found = times_of(rt.alloc(), 12, VALUE_AND_MARK, TIMED, &[5, 6, 9])??;
-    assert_eq!(rt; found.items(), [3, 10, 11].as_slice());
-    let refused = times_of(rt.alloc(), 11, VALUE_AND_MARK, TIMED, &[5, 6, 9])?;
+    let said = said_by(rt.alloc(), 12, VALUE_AND_MARK, TIMED, &[5, 6, 9])??;
+    assert_eq!(rt; said.times.items(), [3, 10, 11].as_slice());
+    let refused = said_by(rt.alloc(), 11, VALUE_AND_MARK, TIMED, &[5, 6, 9])?;
     assert_eq!(rt;
         refused.err(),
         Some(TraceFail::Refused {
@@ -251,39 +253,19 @@ static GIVEN: &[Sample] = &[
     },
 ];
 
-// Compares what they give to the inputs a and b.
-fn compare_samples(
-    rt: &impl Abort,
-    alloc: Global,
-    header: &ByteRecord,
-    times: &[u64],
-    rows: &[ByteRecord],
-) -> Result<(), Fail>
-    requires times { times.now ≡ map time_of (map fields_of rows.now) }
-    requires few { length rows.now ≤ MAX_ROWS }
-{
-    let inputs = inputs(alloc, &["a", "b"])?;
-    if inputs.len() > 16 {
-        return Err(Fail::new("too many inputs"));
-    }
-    let found = samples(alloc, &inputs, header, times, rows)?;
-    assert_eq!(rt; found.items(), GIVEN);
-    Ok(())
-}
-
 fn compare_given(
     rt: &impl Abort,
     alloc: Global,
     header: &ByteRecord,
     rows: &[ByteRecord],
 ) -> Result<(), Fail> {
-    if rows.len() > 3 {
-        return Err(Fail::new("too many rows"));
+    let inputs = inputs(alloc, &["a", "b"])?;
+    if inputs.len() > 16 || rows.len() > 3 {
+        return Err(Fail::new("too much"));
     }
-    let kinds = [Kind::Mark, Kind::Value, Kind::Value];
-    let times = times(alloc, 9, &kinds, rows, &[4, 5, 6])?;
-    compare_events(rt, alloc, header, times.items(), rows)?;
-    compare_samples(rt, alloc, header, times.items(), rows)
+    let said = row_values(alloc, 9, &inputs, header, rows, &[4, 5, 6])?;
+    assert_eq!(rt; said.samples.items(), GIVEN);
+    compare_events(rt, alloc, header, said.times.items(), rows)
 }
 
 #[test]
@@ -293,14 +275,14 @@ fn rows_give_times_of_events_and_samples(rt: HostRuntime) -> Result<(), Fail> {
     compare_given(&rt, rt.alloc(), &header, &rows)
 }
 
-// The first fault of these rows, behind a value and a mark or behind times alone.
+// The first fault of these rows after this header.
 fn fault(
     alloc: Global,
     until: u64,
-    kinds: &[Kind],
+    header: &str,
     lines: &[&str],
 ) -> Result<Option<TraceCode>, Fail> {
-    match times_of(alloc, until, kinds, lines, &[0, 0])? {
+    match said_by(alloc, until, header, lines, &[0, 0])? {
         Ok(_) => Ok(None),
         Err(TraceFail::Refused { code, .. }) => Ok(Some(code)),
         Err(TraceFail::NoMemory) => Err(Fail::new("no memory")),
@@ -308,8 +290,8 @@ fn fault(
 }
 
 // Rows that no document has: with a byte that stands in none, with spaces around a cell or without a byte, and with
-// times up to a later tick than tasks have. Behind each stands the first fault.
-static ROWS: [(u64, &[Kind], &[&str], Option<TraceCode>); 12] = [
+// times up to a later tick than tasks have. After each stands the first fault.
+static ROWS: [(u64, &str, &[&str], Option<TraceCode>); 12] = [
     (100, VALUE_AND_MARK, &["7,+5,"], Some(TraceCode::BadCell)),
     (100, VALUE_AND_MARK, &["7, 5,"], Some(TraceCode::BadCell)),
     (100, VALUE_AND_MARK, &["7,5 ,"], Some(TraceCode::BadCell)),
@@ -320,25 +302,25 @@ static ROWS: [(u64, &[Kind], &[&str], Option<TraceCode>); 12] = [
     (100, VALUE_AND_MARK, &[""], Some(TraceCode::BadRow)),
     (
         18446744073709551615,
-        &[],
+        "time",
         &["9223372036854775806", "9223372036854775807"],
         None,
     ),
     (
         9223372036854775807,
-        &[],
+        "time",
         &["9223372036854775807"],
         Some(TraceCode::TimePastEnd),
     ),
     (
         18446744073709551615,
-        &[],
+        "time",
         &["9223372036854775808"],
         Some(TraceCode::BadCell),
     ),
     (
         18446744073709551615,
-        &[],
+        "time",
         &["00000000000000000000009223372036854775807"],
         None,
     ),
@@ -346,8 +328,8 @@ static ROWS: [(u64, &[Kind], &[&str], Option<TraceCode>); 12] = [
 
 #[test]
 fn cells_that_no_document_has_are_checked(rt: HostRuntime) -> Result<(), Fail> {
-    for (until, kinds, lines, want) in &ROWS {
-        let found = fault(rt.alloc(), *until, *kinds, *lines)?;
+    for (until, header, lines, want) in &ROWS {
+        let found = fault(rt.alloc(), *until, *header, *lines)?;
         assert_eq!(rt; found, *want);
     }
     Ok(())

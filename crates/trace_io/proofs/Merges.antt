@@ -20,7 +20,7 @@ use Rattle.dbp_plan.specs.Clocks.{time_at}
 use Rattle.dbp_plan.specs.Places.{front_place, last_place}
 use Rattle.dbp_plan.proofs.BatchTasks.{some_item}
 use Rattle.dbp_plan.proofs.TaskTimes.{times-named, times-other}
-use Rattle.trace_io.specs.Batches.{AreBatches, IsClockOf, IsTimetable, count_of}
+use Rattle.trace_io.specs.Batches.{AreBatches, HasNumbersInRange, IsClockOf, IsTimetable, count_of}
 use Rattle.trace_io.specs.Merging.{IsLeastNext, TakesDue, is_at, next_of}
 use Rattle.trace_io.proofs.Due.{rising-push}
 
@@ -38,8 +38,12 @@ pub clock-stops : (until : ℕ) (events : List (List ℕ)) (clock : Clock) (k m 
 clock-stops until events (Every period offset) k m is here less = grind (arith, common_steps)
 clock-stops until events (On event) k m is here less = grind (arith, common_steps, gets)
 
+pub in-range : (events : ℕ) (clock : Clock) → IsClockOf events clock → HasNumbersInRange clock
+in-range events (Every period offset) is = is
+in-range events (On event) is = tt
+
 -- it has as many times as it is counted
-pub clock-count : (until : ℕ) (events : List (List ℕ)) (clock : Clock) (k t : ℕ) → IsClockOf (length events) clock
+pub clock-count : (until : ℕ) (events : List (List ℕ)) (clock : Clock) (k t : ℕ) → HasNumbersInRange clock
     → time_at until events clock k ≡ Some t → k < count_of until events clock
 clock-count until events (Every period offset) k t is here =
     let below = (cond_some (nat_lt (offset + k * period) until) (offset + k * period) t here).0 in
@@ -113,7 +117,7 @@ taken-fits until events clocks taken made closed m i d fits =
           let many = m.so_many i fits in
           let here = slice_get-get_or (times_of made i) count 0 (omega arith) in
           let told = sym (m.each i count d fits over) ∙ here in
-          let less = clock-count until events clock count (get_or (times_of made i) count 0) (closed i d fits) told in
+          let less = clock-count until events clock count (get_or (times_of made i) count 0) (in-range (length events) clock (closed i d fits)) told in
           absurd (omega arith)
       | inr within ↦ within
     ]

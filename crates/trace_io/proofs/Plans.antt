@@ -15,7 +15,7 @@ use Rattle.dbp_plan.specs.Closed.{IsClosed}
 use Rattle.dbp_plan.specs.Ranked.{IsRanked}
 use Rattle.dbp_plan.specs.Plan.{IsPlan}
 use Rattle.dbp_plan.specs.Samples.{is_before}
-use Rattle.trace_io.specs.Batches.{AreBatches, IsClockOf}
+use Rattle.trace_io.specs.Batches.{AreBatches, HasNumbersInRange, IsClockOf}
 use Rattle.trace_io.specs.Traces.{clocks_of}
 
 clock_fits : (events : ℕ) (c : Clock) → ((period offset : ℕ) → c ≡ Every period offset → (1 ≤ period) × (period ≤ 1000000000) × (offset ≤ 1000000000)) → ((event : ℕ) → c ≡ On event → event < events) → IsClockOf events c
@@ -26,6 +26,13 @@ pub clocks_fit : (d : Diagram) → IsClosed d → All (IsClockOf (length d.event
 clocks_fit d closed =
     All-map (IsClockOf (length d.events)) (λ (t : Task). t.clock) d.tasks
     (λ k t below. let fits = closed.each k t below in clock_fits (length d.events) (get_or d.tasks k t).clock fits.periodic fits.on_event)
+
+numbers_in_range : (c : Clock) → ((period offset : ℕ) → c ≡ Every period offset → (1 ≤ period) × (period ≤ 1000000000) × (offset ≤ 1000000000)) → HasNumbersInRange c
+numbers_in_range (Every period offset) periodic = periodic period offset refl
+numbers_in_range (On event) periodic = tt
+
+pub numbers_fit : (d : Diagram) → IsClosed d → All (λ t. HasNumbersInRange t.clock) d.tasks
+numbers_fit d closed = λ k t below. numbers_in_range (get_or d.tasks k t).clock (closed.each k t below).periodic
 
 pub plan_from : (d : Diagram) (events : List (List ℕ)) (samples : List Sample) (batches : List Batch) → IsRanked d → AreBatches d.until events (clocks_of d) batches
     → AllPairs (λ a b. IsTrue (is_before a b)) samples → All (λ s. s.input < length d.inputs) samples → IsPlan d samples batches

@@ -1,23 +1,27 @@
 -- The first fault of a trace, by what its section has.
 use Rattle.std.proofs.Common.{◌≡◌, ℕ, suc, ◌<◌, ◌≤◌, true, false, All, List, [], ◌∷◌, length, map, drop, Some, None, refl, sym, ap, ◌∙◌, arith}
-use Rattle.std.specs.Prelude.{nat_lt, slice_index_or, replicate}
+use Rattle.std.specs.Prelude.{nat_lt, ◌==◌, slice_index_or, replicate}
+use Rattle.std.proofs.lemmas.Bool.{both_ways}
 use Rattle.std.proofs.lemmas.Bool.Decides.{nat_tests}
 use Rattle.dbp_plan.specs.declared.diagram.Diagram.{Diagram}
 use Rattle.dbp_plan.specs.declared.limits.TheConstants.{MAX_OCCURRENCES}
 use Rattle.dbp_plan.specs.declared.schedule.Sample.{Sample}
 use Rattle.dbp_plan.specs.FirstFault.{first_fault}
 use Rattle.dbp_plan.proofs.FirstFaults.{first-append, first-front}
+use Rattle.dia_lines.specs.Text.{lines_of}
+use Rattle.dia_lines.proofs.TextLaws.{lines_of-nil}
 use Rattle.dia_read.specs.declared.document.Doc.{Doc}
 use Rattle.trace_rows.specs.declared.fail.TraceCode.{TraceCode}
 use Rattle.trace_rows.specs.declared.fail.TraceFail.{TraceFail}
 use Rattle.trace_rows.specs.declared.fail.TraceFail.TheVariants.{Refused, NoMemory}
 use Rattle.trace_rows.specs.declared.fail.TraceCode.TheVariants.{BadHeader, TooManyOccurrences}
 use Rattle.trace_rows.specs.Headers.{is_header, kind_of_column}
-use Rattle.trace_rows.specs.Records.{records_of}
+use Rattle.trace_rows.specs.Records.{cells_of, records_of}
 use Rattle.trace_rows.specs.Rows.{row_faults}
 use Rattle.trace_rows.specs.Values.{event_times, samples_of}
 use Rattle.trace_io.specs.Batches.{total_of}
 use Rattle.trace_io.specs.Traces.{columns_of, rows_of, events_of, clocks_of, section_faults, trace_faults, occurrence_fault, IsTraceOf, IsTraceFault, IsTraceRefusal}
+use Rattle.trace_io.proofs.Counting.{no-occurrences}
 
 -- a fault of the section is one of the trace
 pub trace-fault : (doc : Doc) (d : Diagram) (line : ℕ) (code : TraceCode) → first_fault (section_faults doc d) ≡ Some (line, code) → IsTraceFault doc d line code
@@ -73,6 +77,13 @@ no-section doc d events samples none events_are samples_are = record {
   samples_are = samples_are ∙ rw none refl;
 }
 
+-- the events of no section
+no-events : (doc : Doc) (d : Diagram) → doc.body.trace ≡ None → events_of doc d ≡ replicate (length d.events) []
+no-events doc d none = rw none (no-marks d.events)
+
+pub empty-total : (doc : Doc) (d : Diagram) → doc.body.trace ≡ None → total_of d.until (events_of doc d) (clocks_of d) ≡ total_of d.until [] (clocks_of d)
+empty-total doc d none = ap (λ ts. total_of d.until ts (clocks_of d)) (no-events doc d none) ∙ no-occurrences d.until (length d.events) (clocks_of d)
+
 -- no line of the section has a fault, and the tasks occur too often
 pub too-many : (doc : Doc) (d : Diagram) → first_fault (section_faults doc d) ≡ None → MAX_OCCURRENCES < total_of d.until (events_of doc d) (clocks_of d) → IsTraceFault doc d doc.lines.until_at TooManyOccurrences
 too-many doc d faultless many = first-append (section_faults doc d) ((doc.lines.until_at, occurrence_fault doc d) ∷ []) faultless ∙ go
@@ -86,3 +97,28 @@ no-fault doc d faultless few = first-append (section_faults doc d) ((doc.lines.u
   where
     go : first_fault ((doc.lines.until_at, occurrence_fault doc d) ∷ []) ≡ None
     go = let test : nat_lt MAX_OCCURRENCES (total_of d.until (events_of doc d) (clocks_of d)) ≡ false = grind (arith, nat_tests) in rw test refl
+
+pub too-many-at : (doc : Doc) (d : Diagram) (line : ℕ) (code : TraceCode) → line ≡ doc.lines.until_at → code ≡ TooManyOccurrences → first_fault (section_faults doc d) ≡ None
+    → MAX_OCCURRENCES < total_of d.until (events_of doc d) (clocks_of d) → IsTraceFault doc d line code
+too-many-at doc d line code line_is code_is faultless many =
+    let fault : IsTraceFault doc d doc.lines.until_at TooManyOccurrences = too-many doc d faultless many in
+    rw (line_is, code_is) fault
+
+-- there is no section, and the tasks occur too often
+pub empty-refused : (doc : Doc) (d : Diagram) (line : ℕ) (code : TraceCode) → line ≡ doc.lines.until_at → code ≡ TooManyOccurrences → doc.body.trace ≡ None
+    → MAX_OCCURRENCES < total_of d.until [] (clocks_of d) → IsTraceFault doc d line code
+empty-refused doc d line code line_is code_is none many =
+    let faultless : first_fault (section_faults doc d) ≡ None = rw none refl in
+    too-many-at doc d line code line_is code_is faultless (omega (arith, empty-total doc d none, many))
+
+pub no-bytes : (text : List ℕ) → (length text == 0) ≡ true → text ≡ []
+no-bytes [] none = refl
+no-bytes (b ∷ text) none = absurd (let some : (length (b ∷ text) == 0) ≡ false = grind (arith, nat_tests) in both_ways _ some none)
+
+pub some-bytes : (text : List ℕ) → (length text == 0) ≡ false → text ≡ [] → ⊥
+some-bytes text some empty = both_ways (length text == 0) some (rw empty refl)
+
+-- the section keeps no line
+pub no-line : (doc : Doc) (d : Diagram) (text : List ℕ) → doc.body.trace ≡ Some text → text ≡ [] → IsTraceFault doc d doc.lines.trace_at BadHeader
+no-line doc d text is empty =
+    trace-fault doc d doc.lines.trace_at BadHeader (no-record doc d text is (ap (λ t. map cells_of (lines_of t)) empty ∙ ap (map cells_of) lines_of-nil))

@@ -8,6 +8,11 @@ use Rattle.dbp_plan.specs.declared.schedule.Batch.{Batch}
 use Rattle.dbp_plan.specs.Clocks.{time_at}
 use Rattle.dbp_plan.specs.Occurrences.{occurrence_count, times_of}
 
+-- a clock whose period and offset are in range
+abbrev pub HasNumbersInRange : Clock → Type 0
+HasNumbersInRange (Every period offset) = (1 ≤ period) × (period ≤ MAX_TIME) × (offset ≤ MAX_TIME)
+HasNumbersInRange (On event) = Unit {0}
+
 -- a clock whose numbers are in range and whose event is one of so many
 abbrev pub IsClockOf : ℕ → Clock → Type 0
 IsClockOf events (Every period offset) = (1 ≤ period) × (period ≤ MAX_TIME) × (offset ≤ MAX_TIME)

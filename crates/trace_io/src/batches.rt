@@ -1,70 +1,30 @@
 // The batches of many clocks.
 
-ghost use Rattle.std.specs.Prelude.{◌≡◌, ◌<◌, ◌≤◌, All, IfOk, length};
-ghost use Rattle.trace_io.specs.Batches.{AreBatches, IsClockOf, IsTimetable, total_of};
+ghost use Rattle.std.specs.Prelude.{◌≡◌, ◌<◌, ◌≤◌, All, IfOk, length, map};
+ghost use Rattle.trace_io.specs.Batches.{AreBatches, HasNumbersInRange, IsClockOf, IsTimetable, total_of};
 ghost use Rattle.trace_io.specs.Merging.{IsLeastNext, TakesDue};
 
 use crate::clocks::{nth_time, occurrences};
-use dbp_plan::{Batch, Clock, List, MAX_OCCURRENCES, MAX_TASKS, MAX_TIME, NoMemory};
+use dbp_plan::{Batch, Clock, List, MAX_OCCURRENCES, MAX_TASKS, MAX_TIME, NoMemory, Task};
 use std::alloc::Global;
 
-/// Why there are no batches.
-#[derive(Clone, Copy, Debug, PartialEq, Eq)]
-pub(crate) enum BatchFail {
-    /// All clocks together occur more often than `MAX_OCCURRENCES`.
-    TooManyOccurrences,
-    /// Memory ran out.
-    NoMemory,
-}
-
-impl From<NoMemory> for BatchFail {
-    ghost use Rattle.std.specs.Prelude.{◌≡◌};
-    ghost use Rattle.trace_io.specs.declared.batches.BatchFail.TheVariants.{NoMemory as OutOfMemory};
-
-    ghost from_gives = { λ _ e. e ≡ OutOfMemory };
-
-    fn from(_: NoMemory) -> Self {
-        BatchFail::NoMemory
-    }
-}
-
-/// The batches of tasks with these clocks, below tick `until`: each task occurs at exactly the times of its clock.
-/// The times of event `e` are those of `events[e]`. They are refused exactly where all clocks together occur more
-/// often than `MAX_OCCURRENCES`, which is found before any batch is made.
-pub(crate) fn checked_batches(
-    alloc: Global,
-    until: u64,
-    events: &[List<u64>],
-    clocks: &[Clock],
-) -> Result<List<Batch>, BatchFail>
-    requires clocks { All (IsClockOf (length events.now)) clocks.now }
-    requires tasks { length clocks.now ≤ MAX_TASKS }
-    requires table { IsTimetable until events.now }
-    ensures made { IfOk result (λ batches. AreBatches until events.now clocks.now batches × (total_of until events.now clocks.now ≤ MAX_OCCURRENCES)) }
-    ensures refused { result ≡ Err BatchFail.TooManyOccurrences → MAX_OCCURRENCES < total_of until events.now clocks.now }
-{
-    if total(until, events, clocks) > u64::from(MAX_OCCURRENCES) {
-        return Err(BatchFail::TooManyOccurrences);
-    }
-    Ok(merged(alloc, until, events, clocks)?)
-}
-
-// How often all clocks together occur.
-fn total(until: u64, events: &[List<u64>], clocks: &[Clock]) -> u64
-    requires clocks { All (IsClockOf (length events.now)) clocks.now }
-    requires tasks { length clocks.now ≤ MAX_TASKS }
+/// How often all tasks together occur. No tick is walked.
+pub(crate) fn total(until: u64, events: &[List<u64>], tasks: &[Task]) -> u64
+    requires numbers { All (λ t. HasNumbersInRange t.clock) tasks.now }
+    requires tasks { length tasks.now ≤ MAX_TASKS }
     requires until { until ≤ MAX_TIME }
-    ensures { result ≡ total_of until events.now clocks.now }
+    ensures { result ≡ total_of until events.now (map (λ t. t.clock) tasks.now) }
 {
     let mut sum = 0;
-    for i in 0..clocks.len() {
-        sum += occurrences(until, events, clocks[i]);
+    for task in tasks {
+        sum += occurrences(until, events, task.clock);
     }
     sum
 }
 
-// The batches of few enough occurrences. Each turn makes one, from each clock's next occurrence.
-fn merged(
+/// The batches of tasks with these clocks, below tick `until`: each task occurs at exactly the times of its clock.
+/// The times of event `e` are those of `events[e]`. Each turn makes one batch, from each clock's next occurrence.
+pub(crate) fn merged(
     alloc: Global,
     until: u64,
     events: &[List<u64>],

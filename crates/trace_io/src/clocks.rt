@@ -3,7 +3,7 @@
 ghost use Rattle.std.specs.Prelude.{◌≡◌, ℕ, ◌<◌, ◌↔◌, ◌≤◌, IsSome, length};
 ghost use Rattle.dbp_plan.specs.declared.limits.TheConstants.{MAX_TIME};
 ghost use Rattle.dbp_plan.specs.Clocks.{time_at};
-ghost use Rattle.trace_io.specs.Batches.{IsClockOf, count_of};
+ghost use Rattle.trace_io.specs.Batches.{HasNumbersInRange, IsClockOf, count_of};
 
 use dbp_plan::{Clock, List};
 
@@ -23,9 +23,9 @@ pub(crate) fn nth_time(until: u64, events: &[List<u64>], clock: Clock, number: u
     }
 }
 
-// How often the clock occurs. No tick is walked.
+// How often the clock occurs. No tick is walked. An event that isn't there has no times.
 pub(crate) fn occurrences(until: u64, events: &[List<u64>], clock: Clock) -> u64
-    requires clock { IsClockOf (length events.now) clock }
+    requires clock { HasNumbersInRange clock }
     requires until { until ≤ MAX_TIME }
     ensures is { result ≡ count_of until events.now clock }
     // So those of all tasks add up in 64 bits.
@@ -40,6 +40,9 @@ pub(crate) fn occurrences(until: u64, events: &[List<u64>], clock: Clock) -> u64
                 (until - offset - 1) / period + 1
             }
         }
-        Clock::On { event } => u64::from(events[event as usize].len()),
+        Clock::On { event } => match events.get(event as usize) {
+            Some(times) => u64::from(times.len()),
+            None => 0,
+        },
     }
 }

@@ -1,18 +1,19 @@
 // The plan of a document.
 
-ghost use Rattle.std.specs.Prelude.{◌≡◌, IfErr, IfOk, [], map, replicate};
+ghost use Rattle.std.specs.Prelude.{◌≡◌, ◌<◌, ◌≤◌, [], IfErr, IfOk, OnOk, None, Some, map, replicate};
 ghost use Rattle.dbp_plan.specs.Ranked.{IsRanked};
 ghost use Rattle.dia_check.specs.Checks.{IsCheckedOf};
 ghost use Rattle.dia_read.specs.Printable.{HasItemLines, IsPrintable};
-ghost use Rattle.trace_io.specs.Traces.{IsPlanOf, IsTraceRefusal, IsTraceOf};
-ghost use Rattle.trace_rows.specs.declared.fail.TraceCode.TheVariants.{BadHeader};
+ghost use Rattle.trace_io.specs.Batches.{AreBatches, total_of};
+ghost use Rattle.trace_io.specs.Traces.{IsPlanOf, IsTraceOf, IsTraceRefusal, clocks_of, events_of};
+ghost use Rattle.trace_rows.specs.declared.fail.TraceCode.TheVariants.{BadHeader, TooManyOccurrences};
 ghost use Rattle.trace_rows.specs.declared.fail.TraceFail.TheVariants.{Refused};
 
-use crate::batches::{BatchFail, checked_batches};
-use dbp_plan::{Clock, Diagram, List, NoMemory, Plan, Sample, Task};
+use crate::batches::{merged, total};
+use dbp_plan::{Clock, Diagram, List, MAX_OCCURRENCES, NoMemory, Plan, Sample, Task};
 use dia_read::Doc;
 use std::alloc::Global;
-use trace_rows::{TraceCode, TraceFail, event_times, is_header, kinds, records, samples, times};
+use trace_rows::{TraceCode, TraceFail, TraceFault, event_times, is_header, records, row_values};
 
 /// What a document's trace gives.
 #[derive(Drop)]
@@ -22,8 +23,48 @@ struct Trace {
     samples: List<Sample>,
 }
 
-/// What the document's trace gives to the inputs and events of its diagram, or the first fault of its lines.
-fn trace_of(alloc: Global, diagram: &Diagram, doc: &Doc) -> Result<Trace, TraceFail>
+/// The fault of the `until` line: all tasks together occur more often than `MAX_OCCURRENCES`, if these are the times of
+/// the events.
+fn few_occurrences(diagram: &Diagram, doc: &Doc, events: &[List<u64>]) -> Result<(), TraceFault>
+    requires ranked { IsRanked diagram.now }
+    ensures few { OnOk result (total_of diagram.now.until events.now (clocks_of diagram.now) ≤ MAX_OCCURRENCES) }
+    ensures many { IfErr result (λ fault. MAX_OCCURRENCES < total_of diagram.now.until events.now (clocks_of diagram.now)) }
+    ensures line { IfErr result (λ fault. fault.line ≡ doc.now.lines.until_at) }
+    ensures code { IfErr result (λ fault. fault.code ≡ TooManyOccurrences) }
+{
+    if total(diagram.until, events, diagram.tasks.items()) > u64::from(MAX_OCCURRENCES) {
+        return Err(TraceFault {
+            line: doc.lines.until_at,
+            code: TraceCode::TooManyOccurrences,
+        });
+    }
+    Ok(())
+}
+
+/// The empty trace of a document without a trace section. The occurrences are counted before memory is taken.
+fn empty_trace(alloc: Global, diagram: &Diagram, doc: &Doc) -> Result<Trace, TraceFail>
+    requires section { doc.now.body.trace ≡ None }
+    requires ranked { IsRanked diagram.now }
+    ensures trace { IfOk result (λ trace. IsTraceOf doc.now diagram.now trace.events.items trace.samples) }
+    ensures few { OnOk result (total_of diagram.now.until (events_of doc.now diagram.now) (clocks_of diagram.now) ≤ MAX_OCCURRENCES) }
+    ensures fault { IfErr result (λ fail. IsTraceRefusal doc.now diagram.now fail) }
+    ensures many { MAX_OCCURRENCES < total_of diagram.now.until [] (clocks_of diagram.now) → result ≡ Err (Refused doc.now.lines.until_at TooManyOccurrences) }
+{
+    few_occurrences(diagram, doc, &[])?;
+    Ok(Trace {
+        events: no_times(alloc, diagram.events.len())?,
+        samples: List::new(alloc),
+    })
+}
+
+/// What the lines of the document's trace section give to the inputs and events of its diagram, or their first fault.
+fn lines_of_section(
+    alloc: Global,
+    diagram: &Diagram,
+    doc: &Doc,
+    text: &[u8],
+) -> Result<Trace, TraceFail>
+    requires section { doc.now.body.trace ≡ Some text.now }
     requires printable { IsPrintable doc.now.body }
     requires lines { HasItemLines doc.now }
     requires ranked { IsRanked diagram.now }
@@ -32,13 +73,7 @@ fn trace_of(alloc: Global, diagram: &Diagram, doc: &Doc) -> Result<Trace, TraceF
 {
     let inputs = diagram.inputs.items();
     let events = diagram.events.items();
-    let Some(text) = &doc.body.trace else {
-        return Ok(Trace {
-            events: no_times(alloc, diagram.events.len())?,
-            samples: List::new(alloc),
-        });
-    };
-    let records = records(alloc, text.items())?;
+    let records = records(alloc, text)?;
     let lines = doc.lines.trace.items();
     let Some((header, rows)) = records.split_first() else {
         return Err(bad_header(doc.lines.trace_at));
@@ -46,20 +81,62 @@ fn trace_of(alloc: Global, diagram: &Diagram, doc: &Doc) -> Result<Trace, TraceF
     if !is_header(inputs, events, header) {
         return Err(bad_header(lines[0]));
     }
-    let kinds = kinds(alloc, inputs, header)?;
-    let times = times(alloc, diagram.until, &kinds, rows, &lines[1..])?;
+    let said = row_values(alloc, diagram.until, inputs, header, rows, &lines[1..])?;
     Ok(Trace {
-        events: event_times(alloc, events, header, times.items(), rows)?,
-        samples: samples(alloc, inputs, header, times.items(), rows)?,
+        events: event_times(alloc, events, header, said.times.items(), rows)?,
+        samples: said.samples,
     })
 }
 
 fn bad_header(line: u32) -> TraceFail
     ensures { result ≡ Refused line BadHeader }
 {
-    TraceFail::Refused {
+    TraceFail::from(TraceFault {
         line,
         code: TraceCode::BadHeader,
+    })
+}
+
+/// What the document's trace section gives to the inputs and events of its diagram, if the tasks then occur seldom
+/// enough; else the first fault. A section that keeps no line is refused before memory is taken.
+fn section_trace(
+    alloc: Global,
+    diagram: &Diagram,
+    doc: &Doc,
+    text: &[u8],
+) -> Result<Trace, TraceFail>
+    requires section { doc.now.body.trace ≡ Some text.now }
+    requires printable { IsPrintable doc.now.body }
+    requires lines { HasItemLines doc.now }
+    requires ranked { IsRanked diagram.now }
+    ensures trace { IfOk result (λ trace. IsTraceOf doc.now diagram.now trace.events.items trace.samples) }
+    ensures few { OnOk result (total_of diagram.now.until (events_of doc.now diagram.now) (clocks_of diagram.now) ≤ MAX_OCCURRENCES) }
+    ensures fault { IfErr result (λ fail. IsTraceRefusal doc.now diagram.now fail) }
+    ensures no_line { text.now ≡ [] → result ≡ Err (Refused doc.now.lines.trace_at BadHeader) }
+{
+    if text.is_empty() {
+        return Err(bad_header(doc.lines.trace_at));
+    }
+    let trace = lines_of_section(alloc, diagram, doc, text)?;
+    few_occurrences(diagram, doc, &trace.events)?;
+    Ok(trace)
+}
+
+/// What the document's trace gives to the inputs and events of its diagram, or its first fault.
+fn trace_of(alloc: Global, diagram: &Diagram, doc: &Doc) -> Result<Trace, TraceFail>
+    requires printable { IsPrintable doc.now.body }
+    requires lines { HasItemLines doc.now }
+    requires ranked { IsRanked diagram.now }
+    ensures trace { IfOk result (λ trace. IsTraceOf doc.now diagram.now trace.events.items trace.samples) }
+    ensures few { OnOk result (total_of diagram.now.until (events_of doc.now diagram.now) (clocks_of diagram.now) ≤ MAX_OCCURRENCES) }
+    ensures fault { IfErr result (λ fail. IsTraceRefusal doc.now diagram.now fail) }
+    ensures no_section { doc.now.body.trace ≡ None → MAX_OCCURRENCES < total_of diagram.now.until [] (clocks_of diagram.now)
+        → result ≡ Err (Refused doc.now.lines.until_at TooManyOccurrences) }
+    ensures no_line { doc.now.body.trace ≡ Some [] → result ≡ Err (Refused doc.now.lines.trace_at BadHeader) }
+{
+    match &doc.body.trace {
+        None => empty_trace(alloc, diagram, doc),
+        Some(text) => section_trace(alloc, diagram, doc, text.items()),
     }
 }
 
@@ -101,19 +178,18 @@ pub fn read_trace(alloc: Global, diagram: Diagram, doc: &Doc) -> Result<Plan, Tr
     ensures plan { IfOk result (λ plan. IsPlanOf doc.now diagram plan) }
     // It has this first fault, unless memory ran out.
     ensures fault { IfErr result (λ fail. IsTraceRefusal doc.now diagram fail) }
+    // Without a trace section occurrences are counted before memory is taken, so too many are never out of memory.
+    ensures no_section { doc.now.body.trace ≡ None → MAX_OCCURRENCES < total_of diagram.until [] (clocks_of diagram)
+        → result ≡ Err (Refused doc.now.lines.until_at TooManyOccurrences) }
+    // Neither is a section that keeps no line.
+    ensures no_line { doc.now.body.trace ≡ Some [] → result ≡ Err (Refused doc.now.lines.trace_at BadHeader) }
 {
     let trace = trace_of(alloc, &diagram, doc)?;
     let clocks = clocks_of(alloc, diagram.tasks.items())?;
-    match checked_batches(alloc, diagram.until, &trace.events, &clocks) {
-        Ok(batches) => Ok(Plan {
-            diagram,
-            samples: trace.samples,
-            batches,
-        }),
-        Err(BatchFail::TooManyOccurrences) => Err(TraceFail::Refused {
-            line: doc.lines.until_at,
-            code: TraceCode::TooManyOccurrences,
-        }),
-        Err(BatchFail::NoMemory) => Err(TraceFail::NoMemory),
-    }
+    let batches = merged(alloc, diagram.until, &trace.events, &clocks)?;
+    Ok(Plan {
+        diagram,
+        samples: trace.samples,
+        batches,
+    })
 }

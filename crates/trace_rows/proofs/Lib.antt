@@ -1,3 +1,4 @@
+pub mod BareCells
 pub mod CellNumbers
 pub mod ColumnCells
 pub mod HeaderColumns

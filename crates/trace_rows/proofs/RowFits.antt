@@ -1,5 +1,5 @@
 -- Whether the cells of a row are of their columns' forms, cell by cell.
-use Rattle.std.proofs.Common.{◌≡◌, ◌≢◌, ℕ, zero, suc, ◌+◌, ◌<◌, ◌≤◌, List, [], ◌∷◌, true, false, length, drop, get_or, Option, Some, None, refl, ap, ◌∙◌, arith}
+use Rattle.std.proofs.Common.{◌≡◌, ℕ, zero, suc, ◌+◌, ◌<◌, ◌≤◌, List, [], ◌∷◌, true, false, length, drop, get_or, Option, Some, None, refl, ap, ◌∙◌, arith}
 use Rattle.std.specs.Prelude.{MatchOption, ◌&&◌, if◌then◌else◌}
 use Rattle.std.proofs.lemmas.List.{drop_more, drop_all}
 use Rattle.std.proofs.lemmas.Option.{same_Some}
@@ -14,7 +14,7 @@ abbrev pub FitsFrom : List Kind → List (List ℕ) → ℕ → Type 0
 FitsFrom kinds row k = cells_fit kinds (drop 1 row) ≡ cells_fit (drop k kinds) (drop (k + 1) row)
 
 -- the cell at a place that is there
-pub cell-there : (row : List (List ℕ)) (k : ℕ) (cell : List ℕ) → field_at row k ≡ Some cell → (k < length row) × (drop k row ≡ cell ∷ drop (k + 1) row)
+cell-there : (row : List (List ℕ)) (k : ℕ) (cell : List ℕ) → field_at row k ≡ Some cell → (k < length row) × (drop k row ≡ cell ∷ drop (k + 1) row)
 unfolding field_at
 cell-there [] k cell is = cc
 cell-there (c ∷ row) zero cell is = (omega arith, ap (λ (d : List ℕ). d ∷ row) (same_Some c cell is))
@@ -42,17 +42,6 @@ bad-cells kinds (time ∷ cells) bad = elim (is_time time) as (λ b. (if b then 
 pub fits-not : (kinds : List Kind) (row : List (List ℕ)) (k : ℕ) (d : Kind) (cell : List ℕ) → FitsFrom kinds row k → k < length kinds → field_at row (k + 1) ≡ Some cell
     → cell_fits (get_or kinds k d) cell ≡ false → row_fits kinds row ≡ false
 fits-not kinds row k d cell so_far below is not_fits = bad-cells kinds row (here-and-rest kinds row k d cell so_far below is ∙ rw not_fits refl)
-
-other-lengths : (kinds : List Kind) (cells : List (List ℕ)) → length cells ≢ length kinds → cells_fit kinds cells ≡ false
-other-lengths [] [] other = absurd (other refl)
-other-lengths [] (cell ∷ cells) other = refl
-other-lengths (kind ∷ kinds) [] other = refl
-other-lengths (kind ∷ kinds) (cell ∷ cells) other =
-    elim (cell_fits kind cell) as (λ b. (b && cells_fit kinds cells) ≡ false) [ true ↦ other-lengths kinds cells (λ same. other (omega (arith, same))) | false ↦ refl ]
-
-pub fits-no-row : (kinds : List Kind) (row : List (List ℕ)) → length row ≢ length kinds + 1 → row_fits kinds row ≡ false
-fits-no-row kinds [] other = refl
-fits-no-row kinds (time ∷ cells) other = bad-cells kinds (time ∷ cells) (other-lengths kinds cells (λ same. other (omega (arith, same))))
 
 pub all-fit : (kinds : List Kind) (row : List (List ℕ)) (k : ℕ) (cell : List ℕ) (r : Option ℕ) → FitsFrom kinds row k → length kinds ≤ k → length row ≡ length kinds + 1 → field_at row 0 ≡ Some cell
     → MatchOption r (is_time cell ≡ false) (λ time. (is_time cell ≡ true) × (time ≡ digits_value cell))

@@ -3,6 +3,7 @@ pub mod Cells
 pub mod Headers
 pub mod Records
 pub mod Rows
+pub mod TraceCodes
 pub mod Values
 -- What private functions, the inside of types and proofs cite.
 pub mod Columns

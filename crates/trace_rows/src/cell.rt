@@ -1,12 +1,11 @@
 // The forms of cells.
 
-ghost use Rattle.std.specs.Prelude.{◌≡◌, MatchOption, true, false};
-ghost use Rattle.std.specs.List.{list_all};
+ghost use Rattle.std.specs.Prelude.{◌≡◌, ◌≤◌, ◌^◌, ◌&&◌, nat_le, MatchOption, true, false};
 ghost use Rattle.dia_tokens.specs.Kinds.{is_digit};
 ghost use Rattle.dia_tokens.specs.Values.{digits_value};
 ghost use Rattle.trace_rows.specs.Cells.{are_digits, cell_fits, is_time, value_in};
-
-use std::str::from_utf8;
+ghost use Rattle.trace_rows.specs.declared.cell.Kind.TheVariants.{Mark, Value};
+ghost use Rattle.trace_rows.specs.Columns.{negative_in, positive_in, value_under};
 
 /// What a column holds.
 #[derive(Clone, Copy, Debug, PartialEq, Eq)]
@@ -24,50 +23,88 @@ fn is_digit(byte: u8) -> bool
     byte.is_ascii_digit()
 }
 
-/// Whether each of the bytes is a digit.
-fn each_is_digit(bytes: &[u8]) -> bool
-    ensures { result ≡ list_all is_digit bytes.now }
-{
-    bytes.iter().all(|byte| is_digit(*byte))
-}
+/// A tenth of 2 ^ 63: with one more digit a greater number is past 2 ^ 63.
+const MAX_TENTH: u64 = 922_337_203_685_477_580;
 
-/// Whether the cell is digits alone.
-pub(crate) fn are_digits(cell: &[u8]) -> bool
-    ensures { result ≡ are_digits cell.now }
+/// The number of the digits, if they are digits alone. It is none if the number is past 2 ^ 63, and may be none from
+/// there on.
+fn digits_number(digits: &[u8]) -> Option<u64>
+    ensures { MatchOption result
+        ((are_digits digits.now && nat_le (digits_value digits.now) (2 ^ 63)) ≡ false)
+        (λ number. (are_digits digits.now ≡ true) × (number ≡ digits_value digits.now)) }
 {
-    !cell.is_empty() && each_is_digit(cell)
-}
-
-/// The number in the cell, where one stands there.
-pub(crate) fn value_in(cell: &[u8]) -> Option<i64>
-    ensures { result ≡ value_in cell.now }
-{
-    let digits = cell.strip_prefix(b"-").unwrap_or(cell);
-    if !are_digits(digits) {
+    if digits.is_empty() {
         return None;
     }
-    match from_utf8(cell) {
-        Ok(text) => text.parse().ok(),
-        Err(_) => None,
+    let mut number = 0;
+    for byte in digits {
+        if !is_digit(*byte) {
+            return None;
+        }
+        if number > MAX_TENTH {
+            return None;
+        }
+        number = number * 10 + u64::from(*byte - b'0');
+    }
+    Some(number)
+}
+
+/// The number of the digits.
+fn positive(digits: &[u8]) -> Option<i64>
+    ensures { result ≡ positive_in digits.now }
+{
+    0i64.checked_add_unsigned(digits_number(digits)?)
+}
+
+/// The number of the digits behind a `-`.
+fn negative(digits: &[u8]) -> Option<i64>
+    ensures { result ≡ negative_in digits.now }
+{
+    0i64.checked_sub_unsigned(digits_number(digits)?)
+}
+
+/// The number in the cell, if one stands there.
+fn value_in(cell: &[u8]) -> Option<i64>
+    ensures { result ≡ value_in cell.now }
+{
+    match cell.strip_prefix(b"-") {
+        Some(digits) => negative(digits),
+        None => positive(cell),
     }
 }
 
-/// The time in the cell, where one stands there.
+/// The time in the cell, if one stands there.
 pub(crate) fn time_in(cell: &[u8]) -> Option<u64>
     ensures { MatchOption result (is_time cell.now ≡ false) (λ time. (is_time cell.now ≡ true) × (time ≡ digits_value cell.now)) }
 {
-    if !are_digits(cell) {
-        return None;
-    }
-    u64::try_from(value_in(cell)?).ok()
+    let time = digits_number(cell)?;
+    if time < 1 << 63 { Some(time) } else { None }
 }
 
-/// Whether the cell is of the form of such a column.
-pub(crate) fn fits(kind: Kind, cell: &[u8]) -> bool
-    ensures { result ≡ cell_fits kind cell.now }
+/// Whether an event's cell is of its form.
+fn is_mark(cell: &[u8]) -> bool
+    ensures { result ≡ cell_fits Mark cell.now }
+{
+    cell.is_empty() || cell == b"0".as_slice() || cell == b"1".as_slice()
+}
+
+/// The value in an input's cell, if the cell is of its form: none in an empty one.
+fn input_value(cell: &[u8]) -> Option<Option<i64>>
+    ensures { MatchOption result (cell_fits Value cell.now ≡ false) (λ value. (cell_fits Value cell.now ≡ true) × (value ≡ value_in cell.now)) }
+{
+    if cell.is_empty() {
+        return Some(None);
+    }
+    let value = value_in(cell);
+    if value.is_some() { Some(value) } else { None }
+}
+
+/// The value that the cell says in a column of this kind, if it is of the column's form. A mark says none.
+pub(crate) fn value_under(kind: Kind, cell: &[u8]) -> Option<Option<i64>>
+    ensures { MatchOption result (cell_fits kind cell.now ≡ false) (λ value. (cell_fits kind cell.now ≡ true) × (value ≡ value_under kind cell.now)) }
 {
     match kind {
-        Kind::Value => cell.is_empty() || value_in(cell).is_some(),
-        Kind::Mark => cell.is_empty() || cell == b"0".as_slice() || cell == b"1".as_slice(),
+        Kind::Value => input_value(cell),
+        Kind::Mark => { if is_mark(cell) { Some(None) } else { None } }
     }
 }

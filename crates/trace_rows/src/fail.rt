@@ -1,7 +1,7 @@
 // What is wrong with a document's trace.
 
 ghost use Rattle.std.specs.Prelude.{◌≡◌};
-ghost use Rattle.trace_rows.specs.declared.fail.TraceFail.TheVariants.{NoMemory as OutOfMemory};
+ghost use Rattle.trace_rows.specs.TraceCodes.{trace_code_name, trace_code_number};
 
 use dbp_plan::NoMemory;
 
@@ -24,6 +24,45 @@ pub enum TraceCode {
     TooManyRows,
 }
 
+impl TraceCode {
+    /// The number of the code, as a refusal has it.
+    pub fn number(self) -> u32
+        ensures { result ≡ trace_code_number self }
+    {
+        match self {
+            TraceCode::BadHeader => 20,
+            TraceCode::BadRow => 21,
+            TraceCode::BadCell => 22,
+            TraceCode::TimeNotRising => 23,
+            TraceCode::TimePastEnd => 24,
+            TraceCode::TooManyOccurrences => 25,
+            TraceCode::TooManyRows => 26,
+        }
+    }
+
+    /// The name of the code, as a refusal has it.
+    pub fn name(self) -> &'static str
+        ensures { result.now ≡ trace_code_name self }
+    {
+        match self {
+            TraceCode::BadHeader => "BadHeader",
+            TraceCode::BadRow => "BadRow",
+            TraceCode::BadCell => "BadCell",
+            TraceCode::TimeNotRising => "TimeNotRising",
+            TraceCode::TimePastEnd => "TimePastEnd",
+            TraceCode::TooManyOccurrences => "TooManyOccurrences",
+            TraceCode::TooManyRows => "TooManyRows",
+        }
+    }
+}
+
+/// A fault of a trace: the line that has it, counted from 1, and what is wrong there. Finding one takes no memory.
+#[derive(Clone, Copy, Debug, PartialEq, Eq)]
+pub struct TraceFault {
+    pub line: u32,
+    pub code: TraceCode,
+}
+
 /// Why a document has no plan.
 #[derive(Clone, Copy, Debug, PartialEq, Eq)]
 pub enum TraceFail {
@@ -33,7 +72,22 @@ pub enum TraceFail {
     NoMemory,
 }
 
+impl From<TraceFault> for TraceFail {
+    ghost use Rattle.trace_rows.specs.declared.fail.TraceFail.TheVariants.{Refused};
+
+    ghost from_gives = { λ fault e. e ≡ Refused fault.line fault.code };
+
+    fn from(fault: TraceFault) -> TraceFail {
+        TraceFail::Refused {
+            line: fault.line,
+            code: fault.code,
+        }
+    }
+}
+
 impl From<NoMemory> for TraceFail {
+    ghost use Rattle.trace_rows.specs.declared.fail.TraceFail.TheVariants.{NoMemory as OutOfMemory};
+
     ghost from_gives = { λ _ e. e ≡ OutOfMemory };
 
     fn from(_: NoMemory) -> TraceFail {

@@ -9,8 +9,8 @@ mod section;
 mod values;
 
 pub use cell::Kind;
-pub use fail::{TraceCode, TraceFail};
+pub use fail::{TraceCode, TraceFail, TraceFault};
 pub use header::{is_header, kinds};
-pub use rows::{MAX_ROWS, times};
+pub use rows::{MAX_ROWS, RowValues, row_values};
 pub use section::records;
-pub use values::{event_times, samples};
+pub use values::event_times;

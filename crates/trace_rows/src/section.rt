@@ -1,8 +1,10 @@
 // The records of a trace section.
 
-ghost use Rattle.std.specs.Prelude.{◌≡◌, IfOk, map};
+ghost use Rattle.std.specs.Prelude.{◌≡◌, IfOk, OnOk, map};
+ghost use Rattle.std.specs.Char.{is_ascii_whitespace};
+ghost use Rattle.std.specs.List.{list_any};
 ghost use Rattle.csv.specs.Reading.{error_kind};
-ghost use Rattle.csv.specs.Records.{fields_of};
+ghost use Rattle.csv.specs.Records.{fields_of, trimmed};
 ghost use Rattle.dia_lines.specs.Lines.{SaysInTrace, row};
 ghost use Rattle.dia_lines.specs.Text.{lines_of};
 ghost use Rattle.dia_read.specs.Printable.{KeepsItself};
@@ -24,6 +26,24 @@ fn want_of_memory(error: &Error) -> NoMemory
     }
 }
 
+/// Whether white space is among the bytes.
+fn has_space(bytes: &[u8]) -> bool
+    ensures { result ≡ list_any is_ascii_whitespace bytes.now }
+{
+    bytes.iter().any(|byte| byte.is_ascii_whitespace())
+}
+
+/// Takes the white space around the cells away. A record without any is left as it is.
+fn trim_cells(cells: &mut ByteRecord) -> Result<(), NoMemory>
+    ensures { OnOk result (fields_of cells.new ≡ map trimmed (fields_of cells.old)) }
+{
+    if !has_space(cells.as_slice()) {
+        return Ok(());
+    }
+    cells.trim()?;
+    Ok(())
+}
+
 /// The records of a trace section's kept lines: record k is line k, cut at its commas, without spaces and tabs around
 /// its cells.
 pub fn records(alloc: Global, text: &[u8]) -> Result<Vec<ByteRecord>, NoMemory>
@@ -40,7 +60,7 @@ pub fn records(alloc: Global, text: &[u8]) -> Result<Vec<ByteRecord>, NoMemory>
             Ok(record) => record,
             Err(error) => return Err(want_of_memory(&error)),
         };
-        record.trim()?;
+        trim_cells(&mut record)?;
         records.push(record)?;
     }
     Ok(records)

@@ -1,15 +1,13 @@
 // What the rows of a trace section give to inputs and events.
 
-ghost use Rattle.std.specs.Prelude.{◌≡◌, ◌+◌, ◌<◌, ◌≤◌, ◌^◌, ◌++◌, IfOk, OnOk, drop, length, map};
+ghost use Rattle.std.specs.Prelude.{◌≡◌, ◌+◌, ◌<◌, ◌≤◌, ◌^◌, ◌++◌, IfOk, OnOk, None, drop, length, map, slice_index_or};
 ghost use Rattle.csv.specs.Records.{fields_of};
 ghost use Rattle.trace_rows.specs.Cells.{time_of};
-ghost use Rattle.trace_rows.specs.Columns.{cell_at, column_samples, marked_times};
-ghost use Rattle.trace_rows.specs.Values.{event_times, samples_of};
+ghost use Rattle.trace_rows.specs.Columns.{cell_at, marked_times, value_samples};
+ghost use Rattle.trace_rows.specs.Values.{event_times};
 ghost use Rattle.trace_rows.specs.declared.rows.TheConstants.{MAX_ROWS};
-ghost use Rattle.dbp_plan.specs.declared.limits.TheConstants.{MAX_INPUTS};
 ghost use Rattle.dbp_plan.specs.NameLists.{index_of};
 
-use crate::cell::value_in;
 use crate::header::index_of;
 use csv::ByteRecord;
 use dbp_plan::{Input, List, Name, NoMemory, Sample};
@@ -64,7 +62,7 @@ pub fn event_times(
 }
 
 /// The columns of the inputs.
-fn input_columns(
+pub(crate) fn input_columns(
     alloc: Global,
     inputs: &[Input],
     header: &ByteRecord,
@@ -78,20 +76,30 @@ fn input_columns(
     Ok(columns)
 }
 
-/// Adds the samples of a row at this time, where these are the columns of the inputs.
-fn push_samples(
+/// The value at the column; none if there is no such column.
+fn value_at(values: &[Option<i64>], column: usize) -> Option<i64>
+    ensures { result ≡ slice_index_or values.now column None }
+{
+    if column < values.len() {
+        values[column]
+    } else {
+        None
+    }
+}
+
+/// Adds the samples of a row at this time, whose cells say these values, if these are the columns of the inputs.
+pub(crate) fn push_samples(
     found: &mut List<Sample>,
     time: u64,
     columns: &[usize],
-    row: &ByteRecord,
+    values: &[Option<i64>],
 ) -> Result<(), NoMemory>
     requires few { length found.old + length columns.now < 2 ^ 32 }
-    requires time { time ≡ time_of (fields_of row.now) }
-    ensures samples { OnOk result (found.new ≡ found.old ++ column_samples 0 columns.now (fields_of row.now)) }
+    ensures samples { OnOk result (found.new ≡ found.old ++ value_samples time 0 columns.now values.now) }
     ensures few { OnOk result (length found.new ≤ length found.old + length columns.now) }
 {
     for (input, column) in columns.iter().enumerate() {
-        if let Some(value) = value_in(cell_in(*column, row)) {
+        if let Some(value) = value_at(values, *column) {
             found.push(Sample {
                 time,
                 input: input as u32,
@@ -100,26 +108,4 @@ fn push_samples(
         }
     }
     Ok(())
-}
-
-/// The samples of the inputs: the numbers in their columns, by row and then by input. Row k is at `times[k]`, and has a
-/// cell for each column of the header. An input without a column has none.
-pub fn samples(
-    alloc: Global,
-    inputs: &[Input],
-    header: &ByteRecord,
-    times: &[u64],
-    rows: &[ByteRecord],
-) -> Result<List<Sample>, NoMemory>
-    requires times { times.now ≡ map time_of (map fields_of rows.now) }
-    requires few { length rows.now ≤ MAX_ROWS }
-    requires inputs { length inputs.now ≤ MAX_INPUTS }
-    ensures { IfOk result (λ found. found ≡ samples_of (drop 1 (fields_of header.now)) (map fields_of rows.now) inputs.now) }
-{
-    let columns = input_columns(alloc, inputs, header)?;
-    let mut found = List::new(alloc);
-    for (place, row) in rows.iter().enumerate() {
-        push_samples(&mut found, times[place], &columns, row)?;
-    }
-    Ok(found)
 }

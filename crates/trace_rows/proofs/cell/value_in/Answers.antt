@@ -1,22 +1,15 @@
-use Rattle.std.proofs.Common.{◌≡◌, true, ◌∙◌, rules, drop}
-use Rattle.std.specs.Prelude.{if◌then◌else◌}
-use Rattle.std.specs.Result.{result_ok}
-use Rattle.std.proofs.lemmas.Str.{IsUtf8-from_ascii}
+use Rattle.std.proofs.Common.{◌≡◌, true, false, drop, ◌∙◌, rules}
 use Rattle.dia_tokens.specs.Values.{is_negative}
-use Rattle.dia_tokens.proofs.ValueLaws.{number-ascii, number-read}
-use Rattle.trace_rows.specs.Cells.{are_digits}
-use Rattle.trace_rows.proofs.CellNumbers.{number-text, read-value}
+use Rattle.trace_rows.proofs.CellNumbers.{value-negative, value-positive}
 use Rattle.trace_rows.proofs.cell.value_in.Goals as goal
 
-pub returns-in-Ok : goal.returns-in-Ok
-returns-in-Ok c =
-    let cell = c.args.cell.now in
-    let digits : are_digits (if is_negative cell then drop 1 cell else cell) ≡ true = search rules in
-    let text = number-text cell digits in
-    c.ok.ensures.value ∙ read-value cell (result_ok c.parse.result) digits (number-read cell c.in-Ok.text.now c.parse.result c.in-Ok.ensures.cases.0 text c.parse.ensures.value.0)
+pub returns-in-Some : goal.returns-in-Some
+returns-in-Some c =
+    let minus : is_negative c.args.cell.now ≡ true = search rules in
+    let rest : c.in-Some.digits.now ≡ drop 1 c.args.cell.now = search rules in
+    c.negative.ensures ∙ value-negative c.args.cell.now c.in-Some.digits.now minus rest
 
-pub returns-in-Err : goal.returns-in-Err
-returns-in-Err c =
-    let cell = c.args.cell.now in
-    let digits : are_digits (if is_negative cell then drop 1 cell else cell) ≡ true = search rules in
-    absurd (c.in-Err.ensures.cases.0 (IsUtf8-from_ascii cell (number-ascii cell (number-text cell digits))))
+pub returns-in-None : goal.returns-in-None
+returns-in-None c =
+    let plain : is_negative c.args.cell.now ≡ false = search rules in
+    c.positive.ensures ∙ value-positive c.args.cell.now plain

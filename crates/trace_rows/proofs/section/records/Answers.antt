@@ -39,9 +39,9 @@ loop-record-preserved c =
     let good : is_ok c.push.result ≡ true = search rules in
     let items = rw good at c.push.ensures.items in
     let m = rows-more (λ (s : Bor (List ℕ)). Some s.now) c.loop-record.record-iterator.rdr c.next.new.self.rdr (fields_of c.in-Ok.record) default_config st.StartRecord (strip_bom c.args.text.now) inv.4 inv.6 inv.3 inv.5 inv.8 s.0 in
-    let cut : fields_of c.trim.new.self ≡ map trimmed (fields_of c.in-Ok.record) = search rules in
+    let cut : fields_of c.trim_cells.new.cells ≡ map trimmed (fields_of c.in-Ok.record) = search rules in
     let same : map fields_of c.push.new.self.items ≡ map (map trimmed) (inv.6 ++ fields_of c.in-Ok.record ∷ []) =
-    rw (items, map-append fields_of c.loop-record.records.items (c.trim.new.self ∷ []), map-append (map trimmed) inv.6 (fields_of c.in-Ok.record ∷ []), inv.7, cut) refl in
+    rw (items, map-append fields_of c.loop-record.records.items (c.trim_cells.new.cells ∷ []), map-append (map trimmed) inv.6 (fields_of c.in-Ok.record ∷ []), inv.7, cut) refl in
     (s.0.3 ∙ inv.0, inl s.1, s.2, s.0.2 ∙ inv.3, m.0, m.1, inv.6 ++ fields_of c.in-Ok.record ∷ [], same, m.2, flexible)
 
 pub returns : goal.returns

@@ -1,11 +1,9 @@
-use Rattle.std.proofs.Common.{◌≡◌, ◌+◌, List, [], ◌∷◌, ◌++◌, length, take, get_or, sym, ap, ◌∙◌, append_assoc, arith, rules, w64}
+use Rattle.std.proofs.Common.{◌≡◌, ◌+◌, List, [], ◌∷◌, ◌++◌, length, take, sym, ap, ◌∙◌, append_assoc, arith, rules, w64}
 use mir.Val.{to_z, of_z}
 use Rattle.std.proofs.lemmas.Int.{to_z-of_z}
 use Rattle.std.proofs.lemmas.List.{append-nil, length_push}
-use Rattle.csv.specs.Records.{fields_of}
 use Rattle.dbp_plan.specs.declared.schedule.Sample.{Sample}
-use Rattle.trace_rows.specs.Cells.{value_in, time_of}
-use Rattle.trace_rows.specs.Columns.{cell_at, column_samples}
+use Rattle.trace_rows.specs.Columns.{value_samples}
 use Rattle.trace_rows.specs.Values.{sample_of}
 use Rattle.trace_rows.proofs.ColumnCells.{sample-next}
 use Rattle.trace_rows.proofs.values.push_samples.Goals as goal
@@ -13,27 +11,27 @@ use Rattle.trace_rows.proofs.values.push_samples.Goals.{in-Some+in_ok-push, in_d
 
 pub loop-input-preserved : goal.loop-input-preserved
 loop-input-preserved c =
-    let row = fields_of c.args.row.now in
+    let time = c.args.time in
+    let values = c.args.values.now in
     let columns = c.args.columns.now in
     let k = c.loop-input.input in
     let old = c.args.found.now in
-    let before = column_samples 0 (take k columns) row in
-    let value : c.value_in.result ≡ value_in (cell_at (get_or columns k 0) row) = c.value_in.ensures ∙ ap value_in c.cell_in.ensures in
-    let next : old ++ (before ++ sample_of (time_of row) k c.value_in.result) ≡ old ++ column_samples 0 (take (k + 1) columns) row =
-    ap (λ one. old ++ (before ++ sample_of (time_of row) k one)) value ∙ ap (λ all. old ++ all) (sym (sample-next columns k 0 row (omega arith))) in
-    elim c.match-value_in.branch [
+    let before = value_samples time 0 (take k columns) values in
+    let next : old ++ (before ++ sample_of time k c.value_at.result) ≡ old ++ value_samples time 0 (take (k + 1) columns) values =
+    ap (λ one. old ++ (before ++ sample_of time k one)) c.value_at.ensures ∙ ap (λ all. old ++ all) (sym (sample-next time columns k 0 values (omega arith))) in
+    elim c.match-value_at.branch [
       | in-Some+in_ok-push w ↦
           let shown : to_z w64 (of_z w64 w.in-Some.value) ≡ w.in-Some.value = search (rules, to_z-of_z) in
-          let sample : Sample = record { time = c.args.time; input = k; value = to_z w64 (of_z w64 w.in-Some.value) } in
-          let one : Sample = record { time = time_of row; input = k; value = w.in-Some.value } in
-          let same : sample ≡ one = λ j. record { time = c.requires.time j; input = k; value = shown j } in
-          let pushed : c.match-value_in.found ≡ c.loop-input.found ++ sample ∷ [] = w.found-is ∙ w.in_ok-push.ensures.ok in
+          let sample : Sample = record { time = time; input = k; value = to_z w64 (of_z w64 w.in-Some.value) } in
+          let one : Sample = record { time = time; input = k; value = w.in-Some.value } in
+          let same : sample ≡ one = λ j. record { time = time; input = k; value = shown j } in
+          let pushed : c.match-value_at.found ≡ c.loop-input.found ++ sample ∷ [] = w.found-is ∙ w.in_ok-push.ensures.ok in
           record {
-            found = pushed ∙ (λ j. c.loop-input.invariant.found j ++ same j ∷ []) ∙ append_assoc old before (one ∷ []) ∙ ap (λ o. old ++ (before ++ sample_of (time_of row) k o)) (sym w.in-Some.is) ∙ next;
+            found = pushed ∙ (λ j. c.loop-input.invariant.found j ++ same j ∷ []) ∙ append_assoc old before (one ∷ []) ∙ ap (λ o. old ++ (before ++ sample_of time k o)) (sym w.in-Some.is) ∙ next;
             few = omega (arith, ap (λ (ss : List Sample). length ss) pushed, length_push c.loop-input.found sample, c.loop-input.invariant.few);
           }
       | in_default w ↦ record {
-        found = w.found-is ∙ c.loop-input.invariant.found ∙ ap (λ all. old ++ all) (sym (append-nil before)) ∙ ap (λ o. old ++ (before ++ sample_of (time_of row) k o)) (sym w.in_default.is) ∙ next;
+        found = w.found-is ∙ c.loop-input.invariant.found ∙ ap (λ all. old ++ all) (sym (append-nil before)) ∙ ap (λ o. old ++ (before ++ sample_of time k o)) (sym w.in_default.is) ∙ next;
         few = omega (arith, ap (λ (ss : List Sample). length ss) w.found-is, c.loop-input.invariant.few);
       }
     ]

@@ -1,0 +1,32 @@
+use Rattle.std.proofs.Common.{◌≡◌, ◌∙◌, Err, [], length, ap, arith, rules}
+use Rattle.std.specs.Prelude.{replicate}
+use Rattle.std.proofs.lemmas.Result.{err_from_is_err_and}
+use Rattle.trace_rows.specs.declared.fail.TraceFail.TheVariants.{Refused}
+use Rattle.trace_io.proofs.TraceFaults.{empty-refused, empty-total, no-section}
+use Rattle.trace_io.proofs.trace.empty_trace.Goals as goal
+
+pub returns-in_err-few_occurrences-clause-fault : goal.returns-in_err-few_occurrences-clause-fault
+returns-in_err-few_occurrences-clause-fault c =
+    let told = c.in_err-few_occurrences.ensures in
+    let p = err_from_is_err_and c.from_residual.result c.from_residual.ensures.1 in
+    rw (p.1, p.2) (empty-refused c.args.doc.now c.args.diagram.now _ _ told.line told.code c.requires.section told.many)
+
+pub returns-in_err-few_occurrences-clause-many : goal.returns-in_err-few_occurrences-clause-many
+returns-in_err-few_occurrences-clause-many c many =
+    let told = c.in_err-few_occurrences.ensures in
+    let p = err_from_is_err_and c.from_residual.result c.from_residual.ensures.1 in
+    p.1 ∙ ap Err (p.2 ∙ λ j. Refused (told.line j) (told.code j))
+
+pub returns-in_err-no_times-clause-many : goal.returns-in_err-no_times-clause-many
+returns-in_err-no_times-clause-many c many = absurd (omega (arith, many, c.in_ok-few_occurrences.ensures.few))
+
+pub returns-clause-trace : goal.returns-clause-trace
+returns-clause-trace c =
+    let count : c.len.result ≡ length c.args.diagram.now.events = search rules in
+    no-section c.args.doc.now c.args.diagram.now c.in_ok-no_times.field-0.items c.new.result c.requires.section (c.in_ok-no_times.ensures ∙ ap (λ n. replicate n []) count) c.new.ensures
+
+pub returns-clause-few : goal.returns-clause-few
+returns-clause-few c = omega (arith, empty-total c.args.doc.now c.args.diagram.now c.requires.section, c.in_ok-few_occurrences.ensures.few)
+
+pub returns-clause-many : goal.returns-clause-many
+returns-clause-many c many = absurd (omega (arith, many, c.in_ok-few_occurrences.ensures.few))
