@@ -94,29 +94,18 @@ pub(crate) enum LineFault {
     ReadPastCost,
 }
 
-impl LineFault {
-    ghost use Rattle.dia_check.specs.Faults.{code_of};
-
-    fn code(self) -> CheckCode
-        ensures { result ≡ code_of self }
-    {
-        match self {
-            LineFault::Duplicate => CheckCode::Duplicate,
-            LineFault::Unknown => CheckCode::Unknown,
-            LineFault::SelfLink => CheckCode::SelfLink,
-            LineFault::ReadPastCost => CheckCode::ReadPastCost,
-        }
-    }
-}
-
 /// The refusal for a fault of the line with the number.
 pub(crate) fn line_refusal(fault: (u32, LineFault)) -> CheckFail
     ensures { result ≡ line_refusal fault }
 {
-    CheckFail::Refused {
-        line: fault.0,
-        code: fault.1.code(),
-    }
+    let (line, fault) = fault;
+    let code = match fault {
+        LineFault::Duplicate => CheckCode::Duplicate,
+        LineFault::Unknown => CheckCode::Unknown,
+        LineFault::SelfLink => CheckCode::SelfLink,
+        LineFault::ReadPastCost => CheckCode::ReadPastCost,
+    };
+    CheckFail::Refused { line, code }
 }
 
 /// Why a task or a read of a diagram doesn't go with its ranks.
@@ -127,28 +116,17 @@ pub(crate) enum RankFault {
     UndelayedUpward { writer: u32, reader: u32 },
 }
 
-impl RankFault {
-    ghost use Rattle.dia_check.specs.RankFaults.{code_of_rank};
-
-    fn code(self) -> CheckCode
-        ensures { result ≡ code_of_rank self }
-    {
-        match self {
-            RankFault::MissingPrio => CheckCode::MissingPrio,
-            RankFault::MissingDeadline => CheckCode::MissingDeadline,
-            RankFault::UndelayedUpward { writer, reader } => {
-                CheckCode::UndelayedUpward { writer, reader }
-            }
-        }
-    }
-}
-
 /// The refusal for a fault of ranks at the line with the number.
 pub(crate) fn rank_refusal(fault: (u32, RankFault)) -> CheckFail
     ensures { result ≡ rank_refusal fault }
 {
-    CheckFail::Refused {
-        line: fault.0,
-        code: fault.1.code(),
-    }
+    let (line, fault) = fault;
+    let code = match fault {
+        RankFault::MissingPrio => CheckCode::MissingPrio,
+        RankFault::MissingDeadline => CheckCode::MissingDeadline,
+        RankFault::UndelayedUpward { writer, reader } => {
+            CheckCode::UndelayedUpward { writer, reader }
+        }
+    };
+    CheckFail::Refused { line, code }
 }

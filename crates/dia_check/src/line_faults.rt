@@ -13,34 +13,10 @@ use dbp_plan::{Expr, Name, Node};
 use dia_lines::{Decl, Part, RawClock};
 use dia_read::{Body, RawTask};
 
-fn is_input(name: &Name, decl: &Decl) -> bool
-    ensures { result ≡ is_input name.now decl.now }
-{
-    matches!(decl, Decl::Input(other, _) if other.bytes() == name.bytes())
-}
-
-fn is_event(name: &Name, decl: &Decl) -> bool
-    ensures { result ≡ is_event name.now decl.now }
-{
-    matches!(decl, Decl::Event(other) if other.bytes() == name.bytes())
-}
-
-fn is_state(name: &Name, part: &Part) -> bool
-    ensures { result ≡ is_state name.now part.now }
-{
-    matches!(part, Part::State(other, _) if other.bytes() == name.bytes())
-}
-
 fn is_out(name: &Name, part: &Part) -> bool
     ensures { result ≡ is_out name.now part.now }
 {
     matches!(part, Part::Out(other, _, _) if other.bytes() == name.bytes())
-}
-
-fn is_next(name: &Name, part: &Part) -> bool
-    ensures { result ≡ is_next name.now part.now }
-{
-    matches!(part, Part::Next(other, _) if other.bytes() == name.bytes())
 }
 
 /// Whether the part is a state, a sense, a read or a let of the name.
@@ -67,19 +43,19 @@ fn is_declared(name: &Name, part: &Part) -> bool
 fn has_input(decls: &[Decl], name: &Name) -> bool
     ensures { result ≡ list_any (is_input name.now) decls.now }
 {
-    decls.iter().any(|decl| is_input(name, decl))
+    decls.iter().any(|decl| matches!(decl, Decl::Input(other, _) if other.bytes() == name.bytes()))
 }
 
 fn has_event(decls: &[Decl], name: &Name) -> bool
     ensures { result ≡ list_any (is_event name.now) decls.now }
 {
-    decls.iter().any(|decl| is_event(name, decl))
+    decls.iter().any(|decl| matches!(decl, Decl::Event(other) if other.bytes() == name.bytes()))
 }
 
 fn has_state(parts: &[Part], name: &Name) -> bool
     ensures { result ≡ list_any (is_state name.now) parts.now }
 {
-    parts.iter().any(|part| is_state(name, part))
+    parts.iter().any(|part| matches!(part, Part::State(other, _) if other.bytes() == name.bytes()))
 }
 
 fn has_out(parts: &[Part], name: &Name) -> bool
@@ -91,7 +67,7 @@ fn has_out(parts: &[Part], name: &Name) -> bool
 fn has_next(parts: &[Part], name: &Name) -> bool
     ensures { result ≡ list_any (is_next name.now) parts.now }
 {
-    parts.iter().any(|part| is_next(name, part))
+    parts.iter().any(|part| matches!(part, Part::Next(other, _) if other.bytes() == name.bytes()))
 }
 
 fn has_place(parts: &[Part], name: &Name) -> bool
@@ -141,17 +117,11 @@ fn has_strange(parts: &[Part], expr: &Expr<Name>) -> bool
         .any(|node| is_strange(parts, node))
 }
 
-fn is_task(name: &Name, task: &RawTask) -> bool
-    ensures { result ≡ is_task name.now task.now }
-{
-    task.name.bytes() == name.bytes()
-}
-
 /// The first task with the name.
 pub(crate) fn find_task<'a>(tasks: &'a [RawTask], name: &Name) -> Option<&'a RawTask>
     ensures { option_copied result ≡ find (is_task name.now) tasks.now }
 {
-    tasks.iter().find(|task| is_task(name, task))
+    tasks.iter().find(|task| task.name.bytes() == name.bytes())
 }
 
 /// Whether the first task with the name has an out with this one.
@@ -226,23 +196,19 @@ fn decl_name(decl: &Decl) -> &Name
     }
 }
 
-fn is_decl(name: &Name, decl: &Decl) -> bool
-    ensures { result ≡ is_decl name.now decl.now }
-{
-    decl_name(decl).bytes() == name.bytes()
-}
-
 /// Whether an input or an event has the name.
 fn has_decl(decls: &[Decl], name: &Name) -> bool
     ensures { result ≡ list_any (is_decl name.now) decls.now }
 {
-    decls.iter().any(|decl| is_decl(name, decl))
+    decls
+        .iter()
+        .any(|decl| decl_name(decl).bytes() == name.bytes())
 }
 
 fn has_task(tasks: &[RawTask], name: &Name) -> bool
     ensures { result ≡ list_any (is_task name.now) tasks.now }
 {
-    tasks.iter().any(|task| is_task(name, task))
+    tasks.iter().any(|task| task.name.bytes() == name.bytes())
 }
 
 /// The fault of a declaration behind those before it.

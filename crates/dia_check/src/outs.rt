@@ -8,23 +8,14 @@ ghost use Rattle.dia_read.specs.Printable.{HasItemLines, is_out_part};
 use dia_lines::Part;
 use dia_read::{Doc, RawTask};
 
-fn is_out_part(part: &Part) -> bool
-    ensures { result ≡ is_out_part part.now }
-{
-    matches!(part, Part::Out(_, _, _))
-}
-
-fn is_let_part(part: &Part) -> bool
-    ensures { result ≡ is_let_part part.now }
-{
-    matches!(part, Part::Let(_, _))
-}
-
 /// Whether a line of the task's body is an `out`.
 fn has_outs(task: &RawTask) -> bool
     ensures { result ≡ list_any is_out_part task.now.parts }
 {
-    task.parts.items().iter().any(|part| is_out_part(part))
+    task.parts
+        .items()
+        .iter()
+        .any(|part| matches!(part, Part::Out(_, _, _)))
 }
 
 pub(crate) fn lacks_outs(task: &RawTask) -> bool
@@ -37,7 +28,10 @@ pub(crate) fn lacks_outs(task: &RawTask) -> bool
 fn has_lets(task: &RawTask) -> bool
     ensures { result ≡ has_lets task.now }
 {
-    task.parts.items().iter().any(|part| is_let_part(part))
+    task.parts
+        .items()
+        .iter()
+        .any(|part| matches!(part, Part::Let(_, _)))
 }
 
 /// The line of the first task without outs, if no task before it has lets, which may have a cycle.
