@@ -130,7 +130,7 @@ still-none : (begins : Statement → Bool) (kind : Said → Bool) (said : List S
     → list_any (is_statement_of begins) (said ++ x ∷ []) ≡ false → kept kind (said ++ x ∷ []) ≡ []
 still-none begins kind said x before one h =
     let unbegun : list_any (is_statement_of begins) said ≡ false =
-        or-false _ (list_any (is_statement_of begins) (x ∷ [])) (sym (list_any-append (is_statement_of begins) said (x ∷ [])) ∙ h) in
+    or-false _ (list_any (is_statement_of begins) (x ∷ [])) (sym (list_any-append (is_statement_of begins) said (x ∷ [])) ∙ h) in
     kept-more kind said x ∙ rw (before unbegun, one unbegun) refl
 
 one-feed : (text : List ℕ) → feeds text ≡ 0 → 1 ≡ feeds (text ++ 10 ∷ [])
@@ -227,7 +227,7 @@ item-lines bytes doc s =
     let of_task = filter is_of_task (statements said) in
     let tasks : length (filter is_task (statements said)) ≡ length doc.body.tasks = sym (ap length (filter-narrow is_task is_of_task task-within (statements said))) ∙ task-count of_task doc.body.tasks s.body.tasks in
     let parts : length (filter is_body (statements said)) ≡ sum_by (λ t. length t.parts) doc.body.tasks =
-        sym (ap length (filter-narrow is_body is_of_task body-within (statements said))) ∙ part-count of_task doc.body.tasks s.body.tasks in
+    sym (ap length (filter-narrow is_body is_of_task body-within (statements said))) ∙ part-count of_task doc.body.tasks s.body.tasks in
     record {
       decls = sym (ap length s.lines.decl_lines) ∙ length-lines 1 is_declaration said ∙ fit-length IsDecl (filter is_declaration (statements said)) doc.body.decls s.body.decls;
       tasks = sym (ap length s.lines.task_lines) ∙ length-lines 1 is_task said ∙ tasks;

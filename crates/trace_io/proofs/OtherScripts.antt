@@ -73,11 +73,13 @@ pub accepted-again : ((bytes : List ℕ) (d : Doc) → Spells bytes d → HasIte
     → (again : Accepts other plan) × (again.doc ≡ doc)
 accepted-again item_lines not_checked text other plan accepted doc spells same =
     let items = item_lines text accepted.doc accepted.spelled in
-    let few = row-lines accepted.doc (trace-lines text accepted.doc accepted.spelled) items in
-    (record {
-      doc = doc;
-      diagram = accepted.diagram;
-      spelled = spells;
-      checked = not_checked accepted.doc doc accepted.diagram same items (item_lines other doc spells) accepted.checked;
-      planned = planned-again accepted.doc doc accepted.diagram plan same few accepted.planned;
-    }, refl)
+    let few = row-lines accepted.doc (trace-lines text accepted.doc accepted.spelled) items in (
+      record {
+        doc = doc;
+        diagram = accepted.diagram;
+        spelled = spells;
+        checked = not_checked accepted.doc doc accepted.diagram same items (item_lines other doc spells) accepted.checked;
+        planned = planned-again accepted.doc doc accepted.diagram plan same few accepted.planned;
+      },
+      refl,
+    )
