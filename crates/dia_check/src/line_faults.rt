@@ -14,12 +14,6 @@ use dbp_plan::{Expr, Name, Node};
 use dia_lines::{Decl, Part, RawClock};
 use dia_read::{Body, RawTask};
 
-fn is_out(name: &Name, part: &Part) -> bool
-    ensures { result ≡ is_out name.now part.now }
-{
-    matches!(part, Part::Out(other, _, _) if is_same_name(other, name))
-}
-
 /// Whether the part is a state, a sense, a read or a let of the name.
 fn is_place(name: &Name, part: &Part) -> bool
     ensures { result ≡ is_place name.now part.now }
@@ -37,7 +31,7 @@ fn is_place(name: &Name, part: &Part) -> bool
 fn is_declared(name: &Name, part: &Part) -> bool
     ensures { result ≡ is_declared name.now part.now }
 {
-    is_place(name, part) || is_out(name, part)
+    is_place(name, part) || matches!(part, Part::Out(other, _, _) if is_same_name(other, name))
 }
 
 /// Whether an input has the name.
@@ -62,7 +56,7 @@ fn has_state(parts: &[Part], name: &Name) -> bool
 fn has_out(parts: &[Part], name: &Name) -> bool
     ensures { result ≡ list_any (is_out name.now) parts.now }
 {
-    parts.iter().any(|part| is_out(name, part))
+    parts.iter().any(|part| matches!(part, Part::Out(other, _, _) if is_same_name(other, name)))
 }
 
 fn has_next(parts: &[Part], name: &Name) -> bool
