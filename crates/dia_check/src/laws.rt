@@ -31,8 +31,8 @@ pub fn one_shape_fault()
 /// their items stand on the same lines, their lines have the same faults, and one has a fault of names and shape exactly if
 /// the other has one.
 pub fn bare_bodies_decide_shapes()
-    ensures diagram { (a b : Doc) (s t : Shaped) → HaveSameBareBody a b → IsShapeOf a s → IsShapeOf b t
-        → bare_diagram s.diagram ≡ bare_diagram t.diagram }
+    ensures diagram { (a b : Doc) (s t : Shaped) → HaveSameBareBody a b
+        → IsShapeOf a s → IsShapeOf b t → bare_diagram s.diagram ≡ bare_diagram t.diagram }
     ensures faults { (a b : Doc) → HaveSameBareBody a b → StandOnSameLines a b
         → line_faults a ≡ line_faults b }
     ensures none { (a b : Doc) → HaveSameBareBody a b → StandOnSameLines a b
