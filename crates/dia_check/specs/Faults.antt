@@ -156,7 +156,7 @@ lacks_outs t = not (list_any is_out_part t.parts)
 abbrev pub has_lets : RawTask → Bool
 has_lets t = list_any is_let_part t.parts
 
--- the line of the first of these tasks without outs, if no task before it has lets, which may have a cycle
+-- the line of the first of these tasks without outs, if no task before it has lets
 abbrev pub outless_line : List RawTask → List ℕ → Option ℕ
 outless_line (t ∷ ts) (n ∷ ns) =
     if lacks_outs t then Some n else

@@ -52,7 +52,7 @@ pub record IsGivenTo (body : Body) (number : ℕ) (parts : List Part) (g : Given
   pub senses : g.senses ≡ flat_map (sense_of (flat_map input_name body.decls)) parts
   pub reads : g.reads ≡ flat_map (read_of body.tasks number) parts
 
--- the refusal for a failure of the task's lets; the lines of its body have the first of these numbers
+-- the refusal for a failure of the task's lets; its body's lines have the first of these numbers
 abbrev pub let_refusal : RawTask → List ℕ → LetFail → CheckFail
 let_refusal t parts (let_fail.Cycle first names) =
     check_fail.Refused (slice_index (let_lines t.parts parts) first) (LetCycle names)

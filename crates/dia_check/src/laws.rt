@@ -30,12 +30,15 @@ pub fn one_shape_fault()
 
 /// A shape depends on the declarations and on the names, clocks, costs and parts of tasks alone. So documents that differ
 /// in policy, end, prios, deadlines, trace, script and lines have the same diagram except for the first four of these. If
-/// their items stand on the same lines, their lines have the same faults, and either both have a shape or neither.
+/// their items stand on the same lines, their lines have the same faults, and one has a fault of names and shape exactly if
+/// the other has one.
 pub fn bare_bodies_decide_shapes()
-    ensures diagram { (a b : Doc) (s t : Shaped) → HaveSameBareBody a b → IsShapeOf a s → IsShapeOf b t
-        → bare_diagram s.diagram ≡ bare_diagram t.diagram }
-    ensures faults { (a b : Doc) → HaveSameBareBody a b → StandOnSameLines a b → line_faults a ≡ line_faults b }
-    ensures none { (a b : Doc) → HaveSameBareBody a b → StandOnSameLines a b → HasNoShapeFault a → HasNoShapeFault b }
+    ensures diagram { (a b : Doc) (s t : Shaped) → HaveSameBareBody a b
+        → IsShapeOf a s → IsShapeOf b t → bare_diagram s.diagram ≡ bare_diagram t.diagram }
+    ensures faults { (a b : Doc) → HaveSameBareBody a b → StandOnSameLines a b
+        → line_faults a ≡ line_faults b }
+    ensures none { (a b : Doc) → HaveSameBareBody a b → StandOnSameLines a b
+        → HasNoShapeFault a → HasNoShapeFault b }
 {
     one_front_order();
 }

@@ -9,15 +9,10 @@ ghost use Rattle.dbp_plan.specs.NameLists.{is_among};
 ghost use Rattle.dia_check.specs.Tests.{is_input, is_event, is_decl, is_task, is_state, is_out, is_next, is_place, is_declared};
 
 use crate::fail::LineFault;
+use crate::names::is_same_name;
 use dbp_plan::{Expr, Name, Node};
 use dia_lines::{Decl, Part, RawClock};
 use dia_read::{Body, RawTask};
-
-fn is_out(name: &Name, part: &Part) -> bool
-    ensures { result ≡ is_out name.now part.now }
-{
-    matches!(part, Part::Out(other, _, _) if other.bytes() == name.bytes())
-}
 
 /// Whether the part is a state, a sense, a read or a let of the name.
 fn is_place(name: &Name, part: &Part) -> bool
@@ -25,9 +20,9 @@ fn is_place(name: &Name, part: &Part) -> bool
 {
     match part {
         Part::State(other, _) | Part::Sense(other, _) | Part::Let(other, _) => {
-            other.bytes() == name.bytes()
+            is_same_name(other, name)
         }
-        Part::Read { name: other, .. } => other.bytes() == name.bytes(),
+        Part::Read { name: other, .. } => is_same_name(other, name),
         Part::Next(_, _) | Part::Out(_, _, _) => false,
     }
 }
@@ -36,38 +31,38 @@ fn is_place(name: &Name, part: &Part) -> bool
 fn is_declared(name: &Name, part: &Part) -> bool
     ensures { result ≡ is_declared name.now part.now }
 {
-    is_place(name, part) || is_out(name, part)
+    is_place(name, part) || matches!(part, Part::Out(other, _, _) if is_same_name(other, name))
 }
 
 /// Whether an input has the name.
 fn has_input(decls: &[Decl], name: &Name) -> bool
     ensures { result ≡ list_any (is_input name.now) decls.now }
 {
-    decls.iter().any(|decl| matches!(decl, Decl::Input(other, _) if other.bytes() == name.bytes()))
+    decls.iter().any(|decl| matches!(decl, Decl::Input(other, _) if is_same_name(other, name)))
 }
 
 fn has_event(decls: &[Decl], name: &Name) -> bool
     ensures { result ≡ list_any (is_event name.now) decls.now }
 {
-    decls.iter().any(|decl| matches!(decl, Decl::Event(other) if other.bytes() == name.bytes()))
+    decls.iter().any(|decl| matches!(decl, Decl::Event(other) if is_same_name(other, name)))
 }
 
 fn has_state(parts: &[Part], name: &Name) -> bool
     ensures { result ≡ list_any (is_state name.now) parts.now }
 {
-    parts.iter().any(|part| matches!(part, Part::State(other, _) if other.bytes() == name.bytes()))
+    parts.iter().any(|part| matches!(part, Part::State(other, _) if is_same_name(other, name)))
 }
 
 fn has_out(parts: &[Part], name: &Name) -> bool
     ensures { result ≡ list_any (is_out name.now) parts.now }
 {
-    parts.iter().any(|part| is_out(name, part))
+    parts.iter().any(|part| matches!(part, Part::Out(other, _, _) if is_same_name(other, name)))
 }
 
 fn has_next(parts: &[Part], name: &Name) -> bool
     ensures { result ≡ list_any (is_next name.now) parts.now }
 {
-    parts.iter().any(|part| matches!(part, Part::Next(other, _) if other.bytes() == name.bytes()))
+    parts.iter().any(|part| matches!(part, Part::Next(other, _) if is_same_name(other, name)))
 }
 
 fn has_place(parts: &[Part], name: &Name) -> bool
@@ -121,7 +116,7 @@ fn has_strange(parts: &[Part], expr: &Expr<Name>) -> bool
 pub(crate) fn find_task<'a>(tasks: &'a [RawTask], name: &Name) -> Option<&'a RawTask>
     ensures { option_copied result ≡ find (is_task name.now) tasks.now }
 {
-    tasks.iter().find(|task| task.name.bytes() == name.bytes())
+    tasks.iter().find(|task| is_same_name(&task.name, name))
 }
 
 /// Whether the first task with the name has an out with this one.
@@ -154,7 +149,7 @@ fn is_unknown(body: &Body, task: &RawTask, part: &Part) -> bool
 fn is_self_link(task: &RawTask, part: &Part) -> bool
     ensures { result ≡ is_self_link task.now part.now }
 {
-    matches!(part, Part::Read { task: writer, .. } if task.name.bytes() == writer.bytes())
+    matches!(part, Part::Read { task: writer, .. } if is_same_name(&task.name, writer))
 }
 
 fn is_past_cost(task: &RawTask, part: &Part) -> bool
@@ -200,15 +195,13 @@ fn decl_name(decl: &Decl) -> &Name
 fn has_decl(decls: &[Decl], name: &Name) -> bool
     ensures { result ≡ list_any (is_decl name.now) decls.now }
 {
-    decls
-        .iter()
-        .any(|decl| decl_name(decl).bytes() == name.bytes())
+    decls.iter().any(|decl| is_same_name(decl_name(decl), name))
 }
 
 fn has_task(tasks: &[RawTask], name: &Name) -> bool
     ensures { result ≡ list_any (is_task name.now) tasks.now }
 {
-    tasks.iter().any(|task| task.name.bytes() == name.bytes())
+    tasks.iter().any(|task| is_same_name(&task.name, name))
 }
 
 /// The fault of a declaration behind those before it.

@@ -61,7 +61,8 @@ fn reads_rank_fault(
     links: &[Link],
     reads: &[ReadLine],
 ) -> Option<(u32, RankFault)>
-    requires ends { All (λ l. (l.writer < length tasks.now) × (l.reader < length tasks.now)) links.now }
+    requires ends { All
+        (λ l. (l.writer < length tasks.now) × (l.reader < length tasks.now)) links.now }
     requires linked { All (λ r. r.link < length links.now) reads.now }
     ensures { result ≡ first_fault
         (map (λ r. (r.line, read_rank_fault (ranks_of policy tasks.now) links.now r)) reads.now) }
@@ -103,7 +104,8 @@ pub fn ranked(alloc: Global, shaped: Shaped) -> Result<Diagram, CheckFail>
     // It has this first fault, unless memory ran out.
     ensures fault { IfErr result (λ e. IsRankRefusal shaped e) }
     // The first fault is found before memory is taken, so it is never out of memory.
-    ensures refused { IfSome (first_fault (rank_faults shaped)) (λ f. IsErrOf result (rank_refusal f)) }
+    ensures refused { IfSome (first_fault (rank_faults shaped))
+        (λ f. IsErrOf result (rank_refusal f)) }
 {
     if let Some(fault) = first_rank_fault(&shaped) {
         return Err(rank_refusal(fault));

@@ -14,7 +14,7 @@ ghost use Rattle.dia_read.specs.Printable.{HasItemLines};
 
 use crate::line_faults::find_task;
 use crate::links::{link_number, link_of};
-use crate::names::index_of;
+use crate::names::{index_of, is_same_name};
 use crate::scope::Scope;
 use crate::shaped::ReadLine;
 use dbp_plan::{Link, List, Name, NoMemory, Read};
@@ -30,7 +30,7 @@ fn out_place(parts: &[Part], name: &Name) -> u32
     let mut place = 0;
     for part in parts {
         if let Part::Out(out, _, _) = part {
-            if out.bytes() == name.bytes() {
+            if is_same_name(out, name) {
                 return place;
             }
             place += 1;

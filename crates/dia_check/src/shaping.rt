@@ -125,7 +125,8 @@ pub fn shape(alloc: Global, doc: &Doc) -> Result<Shaped, CheckFail>
     // It has this first fault, unless memory ran out.
     ensures fault { IfErr result (λ fail. IsShapeRefusal doc.now fail) }
     // The first line with a fault is found before memory is taken, so it is never out of memory.
-    ensures line_refused { IfSome (first_fault (line_faults doc.now)) (λ f. IsErrOf result (line_refusal f)) }
+    ensures line_refused { IfSome (first_fault (line_faults doc.now))
+        (λ f. IsErrOf result (line_refusal f)) }
     // So is the first task without outs, if no line has a fault and no task before it has lets.
     ensures task_refused { first_fault (line_faults doc.now) ≡ None
         → IfSome (line_without_out doc.now) (λ line. IsErrOf result (Refused line NoOut)) }
