@@ -141,7 +141,8 @@ impl Draft {
         requires kept { length (text_of_line bytes.now line) ≤ 2 * length bytes.now }
         requires few { number < 2 ^ 31 }
         requires room { HasRoom self.old number (length bytes.now) }
-        ensures { OnOk result (self.new ≡ drafted self.old number (text_of_line bytes.now line) line) }
+        ensures { OnOk result
+            (self.new ≡ drafted self.old number (text_of_line bytes.now line) line) }
     {
         match line {
             Line::Nothing | Line::Header => {}

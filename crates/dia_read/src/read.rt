@@ -87,7 +87,7 @@ pub fn read_doc(alloc: Global, bytes: &[u8]) -> Result<Doc, ReadFail>
     ensures again { (body : BodyRead) → IsPrintable body → bytes.now ≡ canonical_text body → HasBody body result }
     // A refusal says the text's first fault, unless memory ran out.
     ensures fault { IfErr result (λ e. Refuses bytes.now e) }
-    // A text without any line with tokens is refused with its first fault, whatever memory there is.
+    // A text without any line with tokens is refused with its fault, whatever memory there is.
     ensures blank { (line : ℕ) (code : Code) → is_blank_text bytes.now ≡ true
         → IsFirstFault bytes.now line code → result ≡ Err (Refused line code) }
     // A text with a first fault is refused with it, unless memory runs out.

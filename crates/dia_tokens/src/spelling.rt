@@ -66,7 +66,8 @@ fn push_piece(first: bool, out: &mut Vec<u8>, piece: Piece) -> Result<(), NoMemo
 /// The line's tokens as they are spelled, or the line's first fault. The line is gone through once.
 pub fn line_spelling(alloc: Global, line: &[u8]) -> Result<Spelling, LineFail>
     // The line spells tokens, and the text is their spelling.
-    ensures found { IfOk result (λ text. (ts : List Spelled) × Spells line.now ts × IsSpelling line.now text) }
+    ensures found { IfOk result (λ text. (ts : List Spelled)
+        × Spells line.now ts × IsSpelling line.now text) }
     // A refusal says the line's first fault, unless memory ran out.
     ensures fault { IfErr result (λ e. Refuses line.now e) }
     // A line with a byte that isn't allowed is refused before any memory is taken.
