@@ -1,5 +1,5 @@
 -- The counts behind one more line are those of the statements.
-use Rattle.std.proofs.Common.{◌≡◌, ℕ, ℤ, Bool, true, false, List, ◌∷◌, length, filter, Option, Ok, refl, arith, ◌⊎◌, inl, inr}
+use Rattle.std.proofs.Common.{◌≡◌, ℕ, ℤ, Bool, true, false, List, ◌∷◌, length, filter, Ok, refl, arith, ◌⊎◌, inl, inr}
 use Rattle.std.specs.Prelude.{nat_lt, nat_le}
 use Rattle.std.proofs.lemmas.Bool.Decides.{nat_tests}
 use Rattle.dbp_plan.specs.declared.limits.TheConstants.{MAX_TASKS, MAX_INPUTS, MAX_EVENTS, MAX_READS, MAX_READ_LINES, MAX_OUTS, MAX_BODY}
@@ -13,7 +13,7 @@ use Rattle.dia_lines.specs.declared.item.Part.TheVariants as part
 use Rattle.dia_lines.specs.declared.position.Counts.{Counts}
 use Rattle.dbp_plan.specs.declared.expr.Expr.{Expr}
 use Rattle.dbp_plan.specs.Tree.{Tree}
-use Rattle.dia_lines.specs.Statements.{Statement, Clock, nothing, header, policy, until, input, event, task, state, sense, read, a_let, a_next, out, trace, script, done}
+use Rattle.dia_lines.specs.Statements.{Statement, TaskHeader, nothing, header, policy, until, input, event, task, state, sense, read, a_let, a_next, out, trace, script, done}
 use Rattle.dia_lines.specs.Places.{is_body}
 use Rattle.dia_lines.specs.Limits.{is_input, is_event, is_task, is_read, is_out, of_this_task}
 use Rattle.dia_lines.specs.Positions.{AreCounts}
@@ -158,12 +158,12 @@ counted-event before n m c a (full fits below) =
     let there : nat_le MAX_EVENTS (length (filter is_event before)) ≡ true = rw (← a.events) below in
     rw fits (rw there refl)
 
-counted-task : (before : List Statement) (n : List ℕ) (k : Clock) (p d : Option ℤ) (w : ℤ) (t : TaskLine) (c : Counts) → AreCounts before c → Room c.tasks MAX_TASKS
-    → Counted before (task n k p d w) (with_line c (line.Task t))
-counted-task before n k p d w t c a (room fits below) =
+counted-task : (before : List Statement) (h : TaskHeader) (t : TaskLine) (c : Counts) → AreCounts before c → Room c.tasks MAX_TASKS
+    → Counted before (task h) (with_line c (line.Task t))
+counted-task before h t c a (room fits below) =
     let there : nat_le MAX_TASKS (length (filter is_task before)) ≡ false = rw (← a.tasks) below in
     rw fits (rw there refl, record { inputs = a.inputs; events = a.events; tasks = omega (arith, a.tasks); links = a.links; body = refl; reads = refl; outs = refl })
-counted-task before n k p d w t c a (full fits below) =
+counted-task before h t c a (full fits below) =
     let there : nat_le MAX_TASKS (length (filter is_task before)) ≡ true = rw (← a.tasks) below in
     rw fits (rw there refl)
 
@@ -177,6 +177,6 @@ counted-line before script line.Script c a k = (refl, same-counts before (script
 counted-line before done line.Done c a k = (refl, same-counts before (done ∷ before) c refl refl refl refl refl refl refl a)
 counted-line before (input n v) (line.Decl (Input m w)) c a k = counted-input before n v m w c a (room_at c.inputs MAX_INPUTS)
 counted-line before (event n) (line.Decl (Event m)) c a k = counted-event before n m c a (room_at c.events MAX_EVENTS)
-counted-line before (task n k p d w) (line.Task t) c a h = counted-task before n k p d w t c a (room_at c.tasks MAX_TASKS)
+counted-line before (task h) (line.Task t) c a k = counted-task before h t c a (room_at c.tasks MAX_TASKS)
 counted-line before s (line.Part p) c a k = counted-part before s p c a k
 counted-line before s l c a k = absurd k

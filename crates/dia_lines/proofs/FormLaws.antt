@@ -37,7 +37,7 @@ Inverts-shape ts s (st.an_event name) = refl
 Inverts-shape ts s (st.a_task name cs ps ds clock prio deadline cost c p d) = at_task c p d
   where
     at_task : {cs ps ds : List Token} {clock : Clock} {prio deadline : Option ℤ} → SpellsClock cs clock → SpellsOption word.Prio ps prio → SpellsOption word.Deadline ds deadline
-        → Inverts (st.task name clock prio deadline cost) (task_at (Name name ∷ (cs ++ ps ++ ds ++ Word word.Cost ∷ Number cost ∷ [])))
+        → Inverts (st.task (record { name = name; clock = clock; prio = prio; deadline = deadline; cost = cost })) (task_at (Name name ∷ (cs ++ ps ++ ds ++ Word word.Cost ∷ Number cost ∷ [])))
     at_task (st.from_zero period) st.left_out st.left_out = refl
     at_task (st.from_zero period) st.left_out (st.given deadline) = refl
     at_task (st.from_zero period) (st.given prio) st.left_out = refl
@@ -168,7 +168,7 @@ unfolding options_at
 Builds-options name cs clock c ts = by_cost (cost_alone (deadline_at (prio_at ts).1).1) refl
   where
     by_cost : (o : Option ℤ) → cost_alone (deadline_at (prio_at ts).1).1 ≡ o
-        → Builds (Word word.Task ∷ Name name ∷ (cs ++ ts)) (option_map (λ cost. plain (st.task name clock (prio_at ts).0 (deadline_at (prio_at ts).1).0 cost)) o)
+        → Builds (Word word.Task ∷ Name name ∷ (cs ++ ts)) (option_map (λ cost. plain (st.task (record { name = name; clock = clock; prio = (prio_at ts).0; deadline = (deadline_at (prio_at ts).1).0; cost = cost }))) o)
     by_cost None e = tt
     by_cost (Some cost) e =
         let ps = prio-split ts in
@@ -177,7 +177,7 @@ Builds-options name cs clock c ts = by_cost (cost_alone (deadline_at (prio_at ts
         let all : ts ≡ ps.0 ++ (ds.0 ++ last) =
         ps.1 ∙ ap (λ (us : List Token). ps.0 ++ us) (ds.1 ∙ ap (λ (us : List Token). ds.0 ++ us) (cost-is (deadline_at (prio_at ts).1).1 cost e)) in
         let whole : cs ++ ps.0 ++ ds.0 ++ last ≡ cs ++ ts = sym (ap (λ (us : List Token). cs ++ us) all ∙ in_four cs ps.0 ds.0 last) in
-        subst (λ (us : List Token). IsStatement (Word word.Task ∷ Name name ∷ us) (st.task name clock (prio_at ts).0 (deadline_at (prio_at ts).1).0 cost)) whole
+        subst (λ (us : List Token). IsStatement (Word word.Task ∷ Name name ∷ us) (st.task (record { name = name; clock = clock; prio = (prio_at ts).0; deadline = (deadline_at (prio_at ts).1).0; cost = cost }))) whole
         (st.a_task name cs ps.0 ds.0 clock (prio_at ts).0 (deadline_at (prio_at ts).1).0 cost c ps.2 ds.2)
 
 Builds-task : (ts : List Token) → Builds (Word word.Task ∷ ts) (task_at ts)

@@ -35,10 +35,10 @@ leads-declaration (input n v) h p q e = absurd cc
 leads-declaration (event n) h p q e = absurd cc
 leads-declaration s h p q e = absurd cc
 
-leads-task : (n c p d w : _) → LeadsTo (task n c p d w) Body
-leads-task n c p d w Declarations q e = same_Some q Body (sym e)
-leads-task n c p d w Body q e = same_Some q Body (sym e)
-leads-task n c p d w at q e = absurd cc
+leads-task : (t : _) → LeadsTo (task t) Body
+leads-task t Declarations q e = same_Some q Body (sym e)
+leads-task t Body q e = same_Some q Body (sym e)
+leads-task t p q e = absurd cc
 
 leads-part : (s : Statement) → is_body s ≡ true → LeadsTo s Body
 leads-part (state n v) h Body q e = same_Some q Body (sym e)
@@ -90,7 +90,7 @@ leads-line p q (policy x) (line.Policy y) e k = leads-policy x p q e
 leads-line p q (until x) (line.Until y) e k = leads-until x p q e
 leads-line p q (input n v) (line.Decl d) e k = leads-declaration (input n v) refl p q e
 leads-line p q (event n) (line.Decl d) e k = leads-declaration (event n) refl p q e
-leads-line p q (task n c x d w) (line.Task t) e k = leads-task n c x d w p q e
+leads-line p q (task h) (line.Task t) e k = leads-task h p q e
 leads-line p q (state n v) (line.Part x) e k = leads-part (state n v) refl p q e
 leads-line p q (sense n v) (line.Part x) e k = leads-part (sense n v) refl p q e
 leads-line p q (read n d w x a) (line.Part y) e k = leads-part (read n d w x a) refl p q e

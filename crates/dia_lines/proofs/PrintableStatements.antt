@@ -21,7 +21,7 @@ IsPrintableClock (st.on n) = IsPrintableName n
 abbrev pub IsPrintableStatement : Statement → Type 0
 IsPrintableStatement (st.input n first) = IsPrintableName n × IsPrintableNumber first
 IsPrintableStatement (st.event n) = IsPrintableName n
-IsPrintableStatement (st.task n clock prio deadline cost) = IsPrintableName n × IsPrintableClock clock
+IsPrintableStatement (st.task t) = IsPrintableName t.name × IsPrintableClock t.clock
 IsPrintableStatement (st.state n first) = IsPrintableName n × IsPrintableNumber first
 IsPrintableStatement (st.sense n from) = IsPrintableName n × IsPrintableName from
 IsPrintableStatement (st.read n delay writer port at) = IsPrintableName n × IsPrintableName writer × IsPrintableName port

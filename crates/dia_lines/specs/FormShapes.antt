@@ -14,7 +14,7 @@ clock_of (Every period offset) = every period offset
 clock_of (On name) = on name
 
 abbrev pub task_of : TaskForm → Statement
-task_of t = task t.name (clock_of t.clock) t.prio t.deadline t.cost
+task_of t = task (record { name = t.name; clock = clock_of t.clock; prio = t.prio; deadline = t.deadline; cost = t.cost })
 
 abbrev pub read_of : ReadForm → Statement
 read_of r = read r.name (pos r.delay) r.task r.port r.at

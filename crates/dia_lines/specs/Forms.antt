@@ -127,7 +127,7 @@ event_at ts = option_map (λ name. plain (event name)) (name_alone ts)
 -- behind a task's name and its clock
 unfoldable pub options_at : List ℕ → Clock → List Token → Option Shape
 options_at name clock ts =
-    option_map (λ cost. plain (task name clock (prio_at ts).0 (deadline_at (prio_at ts).1).0 cost)) (cost_alone (deadline_at (prio_at ts).1).1)
+    option_map (λ cost. plain (task (record { name = name; clock = clock; prio = (prio_at ts).0; deadline = (deadline_at (prio_at ts).1).0; cost = cost }))) (cost_alone (deadline_at (prio_at ts).1).1)
 
 unfoldable pub task_at : List Token → Option Shape
 task_at (Name name ∷ ts) = option_and_then (λ c. options_at name c.0 c.1) (clock_at ts)

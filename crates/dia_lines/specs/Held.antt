@@ -28,8 +28,8 @@ IsClock _ _ = ⊥
 
 -- the task that a line begins
 abbrev pub IsTaskLine : Statement → TaskLine → Type 0
-IsTaskLine (task name clock prio deadline cost) t =
-    (name ≡ t.name) × IsClock clock t.clock × (prio ≡ option_map pos t.prio) × (deadline ≡ option_map pos t.deadline) × (cost ≡ pos t.cost)
+IsTaskLine (task h) t =
+    (h.name ≡ t.name) × IsClock h.clock t.clock × (h.prio ≡ option_map pos t.prio) × (h.deadline ≡ option_map pos t.deadline) × (h.cost ≡ pos t.cost)
 IsTaskLine _ t = ⊥
 
 -- the line of a body that a line is

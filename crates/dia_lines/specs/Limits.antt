@@ -20,8 +20,8 @@ clock_fits (on name) = true
 -- each number of the statement is within its limits; the values of an input, a state and an out have none of their own
 abbrev pub numbers_fit : Statement → Bool
 numbers_fit (until end) = lies_within end 0 MAX_TIME
-numbers_fit (task name clock prio deadline cost) =
-    clock_fits clock && option_lies_within prio 0 MAX_PRIO && option_lies_within deadline 1 MAX_TIME && lies_within cost 1 MAX_TIME
+numbers_fit (task t) =
+    clock_fits t.clock && option_lies_within t.prio 0 MAX_PRIO && option_lies_within t.deadline 1 MAX_TIME && lies_within t.cost 1 MAX_TIME
 numbers_fit (read name delay writer port at) = lies_within at 0 MAX_TIME
 numbers_fit _ = true
 
@@ -34,7 +34,7 @@ is_event (event n) = true
 is_event _ = false
 
 abbrev pub is_task : Statement → Bool
-is_task (task n c p d w) = true
+is_task (task t) = true
 is_task _ = false
 
 abbrev pub is_read : Statement → Bool

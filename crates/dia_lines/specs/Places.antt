@@ -22,7 +22,7 @@ is_declaration _ = false
 
 -- where a line leads that may follow the declarations and likewise a task: a task, a section, the end
 abbrev pub behind_declarations : Statement → Option Place
-behind_declarations (task n c p d w) = Some Body
+behind_declarations (task t) = Some Body
 behind_declarations trace = Some Trace
 behind_declarations script = Some Script
 behind_declarations done = Some Ended

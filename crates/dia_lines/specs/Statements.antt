@@ -16,6 +16,14 @@ pub data Clock : Type 0 where
   every : ℤ → ℤ → Clock
   on : List ℕ → Clock
 
+-- what a line says that begins a task
+pub record TaskHeader : Type 0 where
+  pub name : List ℕ
+  pub clock : Clock
+  pub prio : Option ℤ
+  pub deadline : Option ℤ
+  pub cost : ℤ
+
 -- what a line says
 pub data Statement : Type 0 where
   nothing : Statement
@@ -24,8 +32,7 @@ pub data Statement : Type 0 where
   until : ℤ → Statement
   input : List ℕ → ℤ → Statement
   event : List ℕ → Statement
-  -- its name, clock, priority, deadline and cost
-  task : List ℕ → Clock → Option ℤ → Option ℤ → ℤ → Statement
+  task : TaskHeader → Statement
   state : List ℕ → ℤ → Statement
   sense : List ℕ → List ℕ → Statement
   -- its name, delay, writer, port and time
@@ -69,7 +76,7 @@ pub data IsStatement : List Token → Statement → Type 0 where
   an_event : (name : List ℕ) → IsStatement (Word Event ∷ Name name ∷ []) (event name)
   a_task : (name : List ℕ) (cs ps ds : List Token) (clock : Clock) (prio deadline : Option ℤ) (cost : ℤ)
       → SpellsClock cs clock → SpellsOption Prio ps prio → SpellsOption Deadline ds deadline
-      → IsStatement (Word Task ∷ Name name ∷ (cs ++ ps ++ ds ++ Word Cost ∷ Number cost ∷ [])) (task name clock prio deadline cost)
+      → IsStatement (Word Task ∷ Name name ∷ (cs ++ ps ++ ds ++ Word Cost ∷ Number cost ∷ [])) (task (record { name = name; clock = clock; prio = prio; deadline = deadline; cost = cost }))
   a_state : (name : List ℕ) (first : ℤ) → IsStatement (Word State ∷ Name name ∷ Symbol Assign ∷ Number first ∷ []) (state name first)
   a_sense : (name from : List ℕ) → IsStatement (Word Sense ∷ Name name ∷ Symbol Assign ∷ Name from ∷ []) (sense name from)
   a_read : (name writer port : List ℕ) (pre ats : List Token) (delay at : ℤ) → SpellsDelay pre delay → SpellsAt ats at

@@ -20,7 +20,7 @@ clock_of (Every period offset) = every (pos period) (pos offset)
 clock_of (On n) = on n
 
 abbrev pub task_statement : TaskLine → Statement
-task_statement t = task t.name (clock_of t.clock) (option_map pos t.prio) (option_map pos t.deadline) (pos t.cost)
+task_statement t = task (record { name = t.name; clock = clock_of t.clock; prio = option_map pos t.prio; deadline = option_map pos t.deadline; cost = pos t.cost })
 
 abbrev pub part_statement : Part → Statement
 part_statement (part.State n first) = state n first

@@ -91,18 +91,18 @@ clock-one (on m) (On n) (Every q a) x y = absurd y
 clock-one (on m) (Every q a) d x y = absurd x
 
 task-line-one : (s : Statement) (t u : TaskLine) → IsTaskLine s t → IsTaskLine s u → t ≡ u
-task-line-one (task m k p d w) t u (a, b, c, e, f) (a', b', c', e', f') =
+task-line-one (task h) t u (a, b, c, e, f) (a', b', c', e', f') =
     let the_name : t.name ≡ u.name = sym a ∙ a' in
-    let the_clock : t.clock ≡ u.clock = clock-one k t.clock u.clock b b' in
-    let the_prio : t.prio ≡ u.prio = option-one t.prio u.prio p c c' in
-    let the_deadline : t.deadline ≡ u.deadline = option-one t.deadline u.deadline d e e' in
-    let the_cost : t.cost ≡ u.cost = same-pos t.cost u.cost w f f' in
+    let the_clock : t.clock ≡ u.clock = clock-one h.clock t.clock u.clock b b' in
+    let the_prio : t.prio ≡ u.prio = option-one t.prio u.prio h.prio c c' in
+    let the_deadline : t.deadline ≡ u.deadline = option-one t.deadline u.deadline h.deadline e e' in
+    let the_cost : t.cost ≡ u.cost = same-pos t.cost u.cost h.cost f f' in
     λ i. record { name = the_name i; clock = the_clock i; prio = the_prio i; deadline = the_deadline i; cost = the_cost i }
 task-line-one s t u a b = absurd a
 
 -- no line begins a task and is one of a body
 apart : (s : Statement) (t : TaskLine) (p : Part) → IsTaskLine s t → IsPart s p → ⊥
-apart (task m k x d w) t p a b = b
+apart (task h) t p a b = b
 apart s t p a b = a
 
 -- the lines of a body end where the next task begins

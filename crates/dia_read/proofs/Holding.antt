@@ -222,15 +222,15 @@ module _ (said : List Said) (d : Draft) (h : Holds said d) where
   decl-more x s e is i = absurd i
 
   task-line-more : (s : Statement) (t : TaskLine) → IsTaskLine s t → Holds (said ++ says s ∷ []) (drafted d n [] (line.Task t))
-  task-line-more (task m k p x w) t i =
+  task-line-more (task x) t i =
       let e = drafted d n [] (line.Task t) in
       let behind : all_tasks d.tasks ++ task_of t ∷ [] ≡ all_tasks e.tasks = refl in
       record {
-        ends = ends-with said (says (task m k p x w)) d e h.ends refl refl refl refl refl;
-        sections = sections-same said (says (task m k p x w)) d e h.sections refl refl refl refl refl refl refl refl;
-        items = items-with said (says (task m k p x w)) d e h.items
+        ends = ends-with said (says (task x)) d e h.ends refl refl refl refl refl;
+        sections = sections-same said (says (task x)) d e h.sections refl refl refl refl refl refl refl refl;
+        items = items-with said (says (task x)) d e h.items
             (rw append-nil h.items.decls)
-            (task-more (filter is_of_task (statements said)) (all_tasks d.tasks) (task m k p x w) (task_of t) h.items.tasks i refl)
+            (task-more (filter is_of_task (statements said)) (all_tasks d.tasks) (task x) (task_of t) h.items.tasks i refl)
             (λ some. (task_of t, refl))
             (append-nil d.lines.decls) refl (append-nil d.lines.parts);
       }

@@ -113,17 +113,17 @@ clock-prints (every p o) (On m) a f h = absurd a
 clock-prints (on e) (Every r s) a f h = absurd a
 
 task-prints : (s : Statement) (t : TaskLine) → IsTaskLine s t → IsPrintableStatement s → numbers_fit s ≡ true → IsPrintableTask (task_of t)
-task-prints (task n k q d w) t (a, b, c, e, g) f h =
-    let one = and_parts (clock_fits k && option_lies_within q 0 MAX_PRIO && option_lies_within d 1 MAX_TIME) (lies_within w 1 MAX_TIME) h in
-    let two = and_parts (clock_fits k && option_lies_within q 0 MAX_PRIO) (option_lies_within d 1 MAX_TIME) one.0 in
-    let three = and_parts (clock_fits k) (option_lies_within q 0 MAX_PRIO) two.0 in
+task-prints (task s) t (a, b, c, e, g) f h =
+    let one = and_parts (clock_fits s.clock && option_lies_within s.prio 0 MAX_PRIO && option_lies_within s.deadline 1 MAX_TIME) (lies_within s.cost 1 MAX_TIME) h in
+    let two = and_parts (clock_fits s.clock && option_lies_within s.prio 0 MAX_PRIO) (option_lies_within s.deadline 1 MAX_TIME) one.0 in
+    let three = and_parts (clock_fits s.clock) (option_lies_within s.prio 0 MAX_PRIO) two.0 in
     record {
       line = record {
         named = rw (← a) f.0;
-        clock = clock-prints k t.clock b f.1 three.0;
-        prio = upper t.prio MAX_PRIO (option-within t.prio q 0 MAX_PRIO c three.1);
-        deadline = option-within t.deadline d 1 MAX_TIME e two.1;
-        cost = within t.cost 1 MAX_TIME w g one.1;
+        clock = clock-prints s.clock t.clock b f.1 three.0;
+        prio = upper t.prio MAX_PRIO (option-within t.prio s.prio 0 MAX_PRIO c three.1);
+        deadline = option-within t.deadline s.deadline 1 MAX_TIME e two.1;
+        cost = within t.cost 1 MAX_TIME s.cost g one.1;
       };
       parts = λ j x l. absurd (omega arith);
       body = omega arith;
@@ -267,7 +267,7 @@ all-latest None ss h = λ k x l. absurd (omega arith)
 all-latest (Some t) ss h = All-push IsPrintableTask [] t (λ k x l. absurd (omega arith)) h.prints
 
 task-line-more : (ss : List Statement) (s : Statement) (t : TaskLine) (d : Draft) (n : ℕ) → Prints ss d → IsTaskLine s t → IsPrintableStatement s → numbers_fit s ≡ true → HasCounts ss s → Prints (s ∷ ss) (drafted d n [] (line.Task t))
-task-line-more ss (task m k q x w) t d n p i f h c = record {
+task-line-more ss (task x) t d n p i f h c = record {
   until = p.until;
   decls = p.decls;
   inputs = p.inputs;
@@ -275,7 +275,7 @@ task-line-more ss (task m k q x w) t d n p i f h c = record {
   few_inputs = p.few_inputs;
   few_events = p.few_events;
   earlier = All-append IsPrintableTask d.tasks.earlier (option_to_list d.tasks.latest) p.earlier (all-latest d.tasks.latest ss p.latest);
-  latest = record { prints = task-prints (task m k q x w) t i f h; body = refl; reads = refl; outs = refl };
+  latest = record { prints = task-prints (task x) t i f h; body = refl; reads = refl; outs = refl };
   tasks = omega (arith, length-append (all_tasks d.tasks) (task_of t ∷ []), p.tasks);
   few_tasks = omega (arith, c.tasks refl);
   links = sum_by-append reads_of (all_tasks d.tasks) (task_of t ∷ []) ∙ omega (arith, p.links);

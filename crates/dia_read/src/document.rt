@@ -1,7 +1,8 @@
 // What a document says, and the lines where it does.
 
 use dbp_plan::{List, Name, Policy};
-use dia_lines::{Decl, Part, RawClock};
+use dia_lines::{Decl, Part, RawClock, TaskLine};
+use std::alloc::Global;
 
 /// A task, with names as they were read.
 #[derive(Drop)]
@@ -14,6 +15,39 @@ pub struct RawTask {
     /// In ticks.
     pub cost: u64,
     pub parts: List<Part>,
+}
+
+impl RawTask {
+    ghost use Rattle.std.specs.Prelude.{◌≡◌};
+    ghost use Rattle.dia_read.specs.Documents.{first_line};
+    ghost use Rattle.dia_read.specs.Drafts.{task_of};
+
+    /// The task that a line begins, without a body yet.
+    pub(crate) fn begun(alloc: Global, line: TaskLine) -> RawTask
+        ensures { result ≡ task_of line }
+    {
+        RawTask {
+            name: line.name,
+            clock: line.clock,
+            prio: line.prio,
+            deadline: line.deadline,
+            cost: line.cost,
+            parts: List::new(alloc),
+        }
+    }
+
+    /// The line that begins the task.
+    pub(crate) fn first_line(&self) -> TaskLine
+        ensures { result ≡ first_line self.now }
+    {
+        TaskLine {
+            name: self.name,
+            clock: self.clock,
+            prio: self.prio,
+            deadline: self.deadline,
+            cost: self.cost,
+        }
+    }
 }
 
 /// All that a document says.

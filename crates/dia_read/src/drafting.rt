@@ -19,14 +19,7 @@ impl Tasks {
         if let Some(task) = self.latest.take() {
             self.earlier.push(task)?;
         }
-        self.latest = Some(RawTask {
-            name: line.name,
-            clock: line.clock,
-            prio: line.prio,
-            deadline: line.deadline,
-            cost: line.cost,
-            parts: List::new(alloc),
-        });
+        self.latest = Some(RawTask::begun(alloc, line));
         Ok(())
     }
 

@@ -13,7 +13,7 @@ ghost use Rattle.dia_read.specs.Printable.{IsPrintable};
 
 use crate::{Body, RawTask};
 use dbp_plan::{List, NoMemory, Policy};
-use dia_lines::{Decl, Part, TaskLine};
+use dia_lines::{Decl, Part};
 use dia_print::Printer;
 use dia_tokens::{Token, Word};
 use std::alloc::Global;
@@ -93,13 +93,7 @@ fn push_task_line(printer: &mut Printer, task: &RawTask) -> Result<(), NoMemory>
     requires { printer.old.edge ≡ Tight }
     ensures { OnOk result (printer.new ≡ with_bytes printer.old (line_of (task_tokens (first_line task.now)))) }
 {
-    printer.push_task(TaskLine {
-        name: task.name,
-        clock: task.clock,
-        prio: task.prio,
-        deadline: task.deadline,
-        cost: task.cost,
-    })?;
+    printer.push_task(task.first_line())?;
     printer.end_line()
 }
 
