@@ -1,9 +1,8 @@
 -- The rows of a written section have no fault, and say what was written.
-use Rattle.std.proofs.Common.{◌≡◌, ℕ, ℤ, zero, suc, ◌+◌, ◌<◌, ◌≤◌, ◌^◌, All, Bool, true, false, List, [], ◌∷◌, ◌++◌, length, map, get_or, Option, Some, None, refl, sym, ap, ◌∙◌, arith, inl, inr}
+use Rattle.std.proofs.Common.{◌≡◌, ℕ, zero, suc, ◌+◌, ◌<◌, ◌≤◌, All, true, false, List, [], ◌∷◌, ◌++◌, length, map, get_or, Option, Some, None, refl, ap, ◌∙◌, arith, inl, inr}
 use native.Mathlib.Numerals.{unary_clauses}
-use Rattle.std.specs.Prelude.{◌==◌, ◌||◌, ◌&&◌, not, nat_le, nat_lt, filter, codes}
-use Rattle.std.specs.Fmt.{decimal, signed_decimal}
-use Rattle.std.specs.List.{flat_map, list_all}
+use Rattle.std.specs.Prelude.{◌==◌, nat_le, nat_lt, codes}
+use Rattle.std.specs.Fmt.{signed_decimal}
 use Rattle.std.specs.List.Sorted.{IsStrictlyIncreasing}
 use Rattle.std.proofs.Math.Bool.{or-true}
 use Rattle.std.proofs.lemmas.Bool.{cases_Bool, cases_lt}
@@ -11,14 +10,12 @@ use Rattle.std.proofs.lemmas.Bool.Decides.{nat_tests}
 use Rattle.std.proofs.lemmas.List.{get_or-map, get_or_past, length-map, length_push}
 use Rattle.std.proofs.lemmas.List.Elements.{All-head, All-tail}
 use Rattle.dbp_plan.specs.declared.diagram.Input.{Input}
-use Rattle.dbp_plan.specs.declared.schedule.Sample.{Sample}
 use Rattle.dbp_plan.specs.FirstFault.{faults_behind, first_fault}
 use Rattle.dbp_plan.specs.NameLists.{index_of, is_among}
-use Rattle.dia_tokens.specs.Values.{digits_value}
 use Rattle.trace_rows.specs.declared.cell.Kind.{Kind}
 use Rattle.trace_rows.specs.declared.cell.Kind.TheVariants.{Value, Mark}
 use Rattle.trace_rows.specs.declared.rows.TheConstants.{MAX_ROWS}
-use Rattle.trace_rows.specs.Cells.{cell_fits, cell_under, cells_fit, is_empty, is_number, is_one, time_of, value_in}
+use Rattle.trace_rows.specs.Cells.{cell_fits, cell_under, cells_fit, is_empty, is_one, time_of, value_in}
 use Rattle.trace_rows.specs.Headers.{input_names, is_header, kind_of_column}
 use Rattle.trace_rows.specs.Rows.{fault_behind, is_not_after, last_time, row_fault, row_faults, row_fits}
 use Rattle.trace_rows.specs.Values.{event_times, is_marked, row_samples, sample_of, samples_of, times_under}

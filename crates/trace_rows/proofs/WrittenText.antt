@@ -1,5 +1,5 @@
 -- The text of a written section has its lines, and its lines their cells.
-use Rattle.std.proofs.Common.{◌≡◌, ℕ, ℤ, pos, negsuc, zero, suc, ◌+◌, ◌<◌, ◌≤◌, ◌^◌, All, Bool, true, false, List, [], ◌∷◌, ◌++◌, length, map, get_or, Some, refl, sym, ap, ◌∙◌, arith, rules, inl, inr, w64}
+use Rattle.std.proofs.Common.{◌≡◌, ℕ, ℤ, pos, negsuc, suc, ◌<◌, ◌≤◌, ◌^◌, All, Bool, true, false, List, [], ◌∷◌, ◌++◌, length, map, get_or, Some, refl, sym, ap, ◌∙◌, arith, rules, inl, inr, w64}
 use mir.Val.{SFits}
 use Rattle.std.specs.Prelude.{◌==◌, ◌||◌, nat_lt, nat_le, IsTrue, codes}
 use Rattle.std.specs.Char.{is_ascii_alphanumeric, is_ascii_whitespace}
@@ -15,8 +15,7 @@ use Rattle.csv.specs.Records.{trimmed}
 use Rattle.dbp_plan.specs.Name.{IsName, is_name_byte}
 use Rattle.dia_lines.specs.Lines.{SaysInTrace, a_row, row}
 use Rattle.dia_lines.specs.Sections.{IsAlone, is_space, is_trace_byte}
-use Rattle.dia_lines.specs.Text.{lines_of}
-use Rattle.dia_read.specs.Printable.{KeepsItself, ended_lines}
+use Rattle.dia_read.specs.Printable.{KeepsItself}
 use Rattle.dia_tokens.specs.Kinds.{is_digit}
 use Rattle.dia_tokens.specs.Lexes.{Passes}
 use Rattle.dia_tokens.specs.Values.{digits_value, number_of}
