@@ -7,7 +7,7 @@ ghost use Rattle.csv.specs.Records.{fields_of};
 ghost use Rattle.trace_rows.specs.declared.rows.TheConstants.{MAX_ROWS};
 
 use csv::ByteRecord;
-use dbp_plan::{Input, List, Name, Sample};
+use dbp_plan::{Input, Name, Sample};
 use dia_read::Doc;
 use std::alloc::Global;
 use std::process::Abort;

@@ -37,7 +37,7 @@ bare-end (b ∷ bytes) bare =
     let last : ((trim_end bytes == 0) && is_ascii_whitespace b) ≡ false = ap (λ x. (trim_end bytes == 0) && x) both.0 ∙ and-false (trim_end bytes == 0) in
     rw last (omega (arith, bare-end bytes both.1))
 
-bare-field : (bytes : List ℕ) → IsBare bytes → trimmed bytes ≡ bytes
+pub bare-field : (bytes : List ℕ) → IsBare bytes → trimmed bytes ≡ bytes
 bare-field bytes bare =
     let start = bare-start bytes bare in
     rw start (ap (λ n. take n bytes) (bare-end bytes bare) ∙ take_all (length bytes) bytes (omega arith))

@@ -9,3 +9,5 @@ pub mod RowFits
 pub mod RowTimes
 pub mod SampleOrder
 pub mod Timetable
+pub mod WrittenRows
+pub mod WrittenText

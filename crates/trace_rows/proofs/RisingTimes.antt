@@ -43,7 +43,7 @@ rises-ends until low (row ∷ rows) r (suc k) d fits = rises-ends until (time_of
 
 -- ---- rows without a fault
 
-last-push : (rows : List (List (List ℕ))) (row : List (List ℕ)) → last_time (rows ++ row ∷ []) ≡ Some (time_of row)
+pub last-push : (rows : List (List (List ℕ))) (row : List (List ℕ)) → last_time (rows ++ row ∷ []) ≡ Some (time_of row)
 last-push [] row = refl
 last-push (first ∷ []) row = refl
 last-push (first ∷ next ∷ rows) row = last-push (next ∷ rows) row

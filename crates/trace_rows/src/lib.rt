@@ -4,6 +4,7 @@
 mod cell;
 mod fail;
 mod header;
+mod laws;
 mod rows;
 mod section;
 mod values;
@@ -11,6 +12,7 @@ mod values;
 pub use cell::Kind;
 pub use fail::{TraceCode, TraceFail, TraceFault};
 pub use header::{is_header, kinds};
+pub use laws::written_section_is_read_back;
 pub use rows::{MAX_ROWS, RowValues, row_values};
 pub use section::records;
 pub use values::event_times;
