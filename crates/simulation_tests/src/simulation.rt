@@ -6,7 +6,7 @@ use std::fmt::Write;
 use std::test::Fail;
 use sync_meaning::mean;
 use test_inputs::{THREE_RATES, TWO_RATES, plan_in};
-use virtual_sim::simulate;
+use virtual_sim::{simulate, simulate_table};
 
 // Two tasks on one processor. The slower one just ends in time.
 const TWO_TASKS: &str = "dbp 1
@@ -124,6 +124,38 @@ fn a_simulation_has_the_table_of_the_meaning(rt: HostRuntime) -> Result<(), Fail
         for (rows, meant) in run.table.tasks.items().iter().zip(table.tasks.items()) {
             assert_eq!(rt; rows.words.items(), meant.words.items(), "{text}");
         }
+    }
+    Ok(())
+}
+
+// The words of each task's rows, a task a group; or why there are none.
+fn words_of(alloc: Global, text: &str) -> Result<String, Fail> {
+    let plan = plan_in(alloc, text)?;
+    let mut shown = String::new(alloc);
+    match simulate_table(alloc, &plan) {
+        Ok(table) => {
+            for rows in table.tasks.items() {
+                for word in rows.words.items() {
+                    write!(shown, "{word} ")?;
+                }
+                shown.push('/')?;
+            }
+        }
+        Err(why) => write!(shown, "{why:?}")?,
+    }
+    Ok(shown)
+}
+
+static WORDS: &[(&str, &str)] = &[
+    (TWO_TASKS, "0 1 2 3 /0 10 20 /"),
+    (BY_DEADLINE, "0 5 /0 6 /"),
+    (TWO_RATES, "Overrun { task: 1, instance: 2, time: 3 }"),
+];
+
+#[test]
+fn a_table_is_simulated_alone(rt: HostRuntime) -> Result<(), Fail> {
+    for (text, want) in WORDS {
+        assert_eq!(rt; words_of(rt.alloc(), text)?.as_str(), *want, "{text}");
     }
     Ok(())
 }
