@@ -56,7 +56,7 @@ filter-narrow narrow wide within (s ∷ ss) =
     if_kept b xs = cond b (s ∷ xs) xs
 
 task-within : (s : Statement) → is_of_task s ≡ false → is_task s ≡ false
-task-within (task n c p d w) h = absurd cc
+task-within (task x) h = absurd cc
 task-within s h = refl
 
 body-within : (s : Statement) → is_of_task s ≡ false → is_body s ≡ false
@@ -71,7 +71,7 @@ body-within s h = refl
 -- ---- tasks
 
 first-is-task : (s : Statement) (t : TaskLine) → IsTaskLine s t → (is_task s ≡ true) × (is_body s ≡ false)
-first-is-task (task n c p d w) t h = (refl, refl)
+first-is-task (task x) t h = (refl, refl)
 first-is-task s t h = absurd h
 
 part-is-body : (s : Statement) (p : Part) → IsPart s p → (is_task s ≡ false) × (is_body s ≡ true)
