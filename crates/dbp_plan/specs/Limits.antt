@@ -3,7 +3,7 @@ use Rattle.std.specs.Prelude.{◌≡◌, ℕ, ◌≤◌, refl}
 use Rattle.std.proofs.Common.{arith}
 use Rattle.dbp_plan.specs.declared.limits.TheConstants.{MAX_DELAY}
 
--- in occurrences of the writer; only the grammar of delays uses its value, all else that it is at most 8
+-- in occurrences of the writer; nothing but the grammar of delays uses more of its value than that it is at most 8
 unfoldable pub max_delay : ℕ
 max_delay = MAX_DELAY
 

@@ -27,7 +27,7 @@ pub const MAX_PRIO: u32 = 1_000_000;
 /// Occurrences of all tasks together, at most.
 pub const MAX_OCCURRENCES: u32 = 100_000;
 /// The longest delay of a link, in occurrences of its writer.
-pub const MAX_DELAY: u32 = 1;
+pub const MAX_DELAY: u32 = 8;
 
 // Contracts name the limits; here are their values.
 const _: () = prove!(MAX_TEXT == 2_000_000_000);
@@ -56,4 +56,4 @@ const _: () = prove!(MAX_PRIO == 1_000_000);
 
 const _: () = prove!(MAX_OCCURRENCES == 100_000);
 
-const _: () = prove!(MAX_DELAY == 1);
+const _: () = prove!(MAX_DELAY == 8);

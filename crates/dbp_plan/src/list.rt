@@ -89,6 +89,14 @@ impl<T: Drop> List<T> {
         &mut self.items
     }
 
+    /// All items, in order, given up by the list. It takes no memory.
+    pub fn into_items(self) -> Vec<T>
+        ensures value { result.items ≡ self }
+        ensures fits { length self < 2 ^ 32 }
+    {
+        self.items
+    }
+
     /// The number of items.
     pub fn len(&self) -> u32
         ensures { result ≡ length self.now }
