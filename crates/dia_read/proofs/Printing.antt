@@ -1,10 +1,9 @@
 -- A draft holds what can be printed.
 use Rattle.std.proofs.Common.{◌≡◌, ℕ, ℤ, pos, ◌+◌, ◌≤◌, Bool, true, false, cond, All, List, [], ◌∷◌, ◌++◌, length, filter, Option, Some, None, refl, sym, ap, ◌∙◌, subst, append_assoc, arith, length-append}
-use Rattle.std.specs.Prelude.{nat_le, int_le, ◌&&◌, count_by, sum_by}
+use Rattle.std.specs.Prelude.{nat_le, ◌&&◌, count_by, sum_by}
 use Rattle.std.specs.Option.{IfSome, option_to_list, option_map}
 use Rattle.std.proofs.lemmas.Bool.{and_parts}
 use Rattle.std.proofs.lemmas.Bool.Decides.{nat_tests}
-use Rattle.std.proofs.lemmas.Int.{ints}
 use Rattle.std.proofs.lemmas.List.Elements.{All-push, All-append}
 use Rattle.std.proofs.lemmas.List.Sums.{sum_by-append}
 use Rattle.dbp_plan.proofs.FirstFaults.{test-none}
@@ -12,7 +11,6 @@ use Rattle.dbp_plan.specs.declared.limits.TheConstants.{MAX_TASKS, MAX_INPUTS, M
 use Rattle.dbp_plan.specs.declared.expr.Expr.{Expr}
 use Rattle.dbp_plan.specs.Expr.{IsExprOf}
 use Rattle.dbp_plan.specs.Tree.{Tree}
-use Rattle.dia_tokens.specs.declared.token.Token.{Token}
 use Rattle.dia_tokens.proofs.SpellingLaws.{printable-tokens, spells-again, spelled-again}
 use Rattle.dia_lines.specs.declared.fault.ReadCode.TheVariants.{LimitHit}
 use Rattle.dia_lines.specs.declared.fault.Limit.{Limit}
