@@ -75,6 +75,7 @@ COUNTS_PAST_THE_LIMIT = [
     ("read_of_the_document_and_body_line_too_many", EIGHT_TASKS + TASK + 64 * SENSE + READ, 205, "body"),
     # A number past its limits comes before a count.
     ("task_too_many_of_cost_zero", HEAD + 32 * TASK + "task a on e cost 0", 36, "number"),
+    ("read_too_many_with_too_long_a_delay", BODY + 16 * READ + "read x = pre 9 b.y", 21, "number"),
     ("read_too_many_at_a_negative_time", BODY + 16 * READ + "read x = b.y at -1", 21, "number"),
     ("read_of_the_document_too_many_at_a_negative_time", EIGHT_TASKS + TASK + "read x = b.y at -1", 141, "number"),
 ]
