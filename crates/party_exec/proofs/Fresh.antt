@@ -20,7 +20,7 @@ use Rattle.dbp_rules.specs.declared.step.Count.TheVariants.{All}
 use Rattle.dbp_rules.specs.declared.wiring.TaskWiring.{TaskWiring}
 use Rattle.dbp_rules.specs.declared.wiring.Wiring.{Wiring}
 use Rattle.dbp_rules.proofs.SoundStart.{first_sound}
-use Rattle.word_rule.specs.FirstSeats.{IsFirstReleaser, IsFirstTask}
+use Rattle.word_rule.specs.FirstSeats.{AreFirstTasks, IsFirstReleaser, IsFirstTask}
 use Rattle.word_rule.specs.Roles.{meaning_row, run_wiring}
 use Rattle.word_rule.specs.Seats.{TaskSits}
 use Rattle.word_rule.specs.Showing.{first_part}
@@ -29,12 +29,11 @@ use Rattle.word_rule.specs.declared.seats.TaskSeat.{TaskSeat}
 use Rattle.word_rule.proofs.Begins.{get_push}
 use Rattle.word_rule.proofs.TaskCalls.{in_wiring, task_wired, wired_is}
 use Rattle.party_exec.specs.Computed.{HasComputed, HasMeantRows, HasMeantWords, plan_of_task}
-use Rattle.party_exec.specs.Parties.{AreFreshTasks, IsFresh, IsFreshTask}
+use Rattle.party_exec.specs.Parties.{IsFresh}
 use Rattle.party_exec.specs.Rows.{first_and_zeros}
 use Rattle.party_exec.specs.declared.party.Party.{Party}
 use Rattle.party_exec.specs.declared.party.Party.TheVariants.{Releaser}
 use Rattle.party_exec.specs.declared.releaser_party.ReleaserParty.{ReleaserParty}
-use Rattle.party_exec.specs.declared.task_party.TaskParty.{TaskParty}
 
 -- what a task has computed before its first step: its states have their first values, and its row the first values
 module _ (p : Plan) (i : ℕ) (below : i < length (run_wiring p).tasks) where
@@ -103,26 +102,19 @@ fresh_push w ps p each last k q at = ⊎_elim
     (λ (here : (k ≡ length ps) × (p ≡ q)). subst (λ (y : ℕ × Party). IsFresh w y.0 y.1) (λ j. (sym here.0 j, here.1 j)) last)
     (get_push ps p q k at)
 
-pub fresh_task_push : (w : SlotWords) (ps : List TaskParty) (p : TaskParty) → ((k : ℕ) (q : TaskParty) → slice_get ps k ≡ Some q → IsFreshTask w k q) → IsFreshTask w (length ps) p
-    → (k : ℕ) (q : TaskParty) → slice_get (ps ++ p ∷ []) k ≡ Some q → IsFreshTask w k q
-fresh_task_push w ps p each last k q at = ⊎_elim
-    (λ (was : slice_get ps k ≡ Some q). each k q was)
-    (λ (here : (k ≡ length ps) × (p ≡ q)). subst (λ (y : ℕ × TaskParty). IsFreshTask w y.0 y.1) (λ j. (sym here.0 j, here.1 j)) last)
-    (get_push ps p q k at)
+-- the seats of tasks that have no party yet, from task n's on
+pub record AreLeft (w : SlotWords) (n : ℕ) (xs : List TaskSeat) : Type 0 where
+  pub each : (k : ℕ) (s : TaskSeat) → slice_get xs k ≡ Some s → IsFirstTask w (n + k) s
 
--- the parties that are left to push, from task n's on
-pub record AreLeft (w : SlotWords) (n : ℕ) (xs : List TaskParty) : Type 0 where
-  pub each : (k : ℕ) (s : TaskParty) → slice_get xs k ≡ Some s → IsFreshTask w (n + k) s
-
-pub left_next : (w : SlotWords) (n m : ℕ) (xs ys : List TaskParty) (x : TaskParty) → xs ≡ x ∷ ys → m ≡ n + 1 → AreLeft w n xs → IsFreshTask w n x × AreLeft w m ys
+pub left_next : (w : SlotWords) (n m : ℕ) (xs ys : List TaskSeat) (x : TaskSeat) → xs ≡ x ∷ ys → m ≡ n + 1 → AreLeft w n xs → IsFirstTask w n x × AreLeft w m ys
 left_next w n m xs ys x e more h =
     let all : AreLeft w n (x ∷ ys) = subst (AreLeft w n) e h in
     let none : n + 0 ≡ n = omega arith in (
-      subst (λ (k : ℕ). IsFreshTask w k x) none (all.each 0 x refl),
-      record { each = λ k s at. let there : n + suc k ≡ m + k = omega arith in subst (λ (j : ℕ). IsFreshTask w j s) there (all.each (suc k) s at) },
+      subst (λ (k : ℕ). IsFirstTask w k x) none (all.each 0 x refl),
+      record { each = λ k s at. let there : n + suc k ≡ m + k = omega arith in subst (λ (j : ℕ). IsFirstTask w j s) there (all.each (suc k) s at) },
     )
 
-pub all_left : (w : SlotWords) (xs ys : List TaskParty) → AreFreshTasks w xs → ys ≡ xs → AreLeft w 0 ys
+pub all_left : (w : SlotWords) (xs ys : List TaskSeat) → AreFirstTasks w xs → ys ≡ xs → AreLeft w 0 ys
 all_left w xs ys h same = record {
-  each = λ k s at. let here : k ≡ 0 + k = omega arith in subst (λ (n : ℕ). IsFreshTask w n s) here (h.each k s (ap (λ (l : List TaskParty). slice_get l k) (sym same) ∙ at));
+  each = λ k s at. let here : k ≡ 0 + k = omega arith in subst (λ (n : ℕ). IsFirstTask w n s) here (h.each k s (ap (λ (l : List TaskSeat). slice_get l k) (sym same) ∙ at));
 }

@@ -14,13 +14,11 @@ use Rattle.dbp_rules.specs.declared.parts.TaskPart.{TaskPart}
 use Rattle.dbp_rules.specs.declared.step.Step.{Step}
 use Rattle.dbp_rules.specs.declared.step.Step.TheVariants.{Start, Hear, Look, Take, Shut, Put, Done, End}
 use Rattle.dbp_rules.specs.declared.wiring.TaskWiring.{TaskWiring}
-use Rattle.dbp_rules.specs.declared.wiring.Wiring.{Wiring}
 use Rattle.word_rule.specs.Roles.{run_wiring}
 use Rattle.word_rule.specs.Seats.{TaskSits, TaskSteps}
 use Rattle.word_rule.specs.declared.seats.SlotWords.{SlotWords}
 use Rattle.word_rule.specs.declared.seats.TaskSeat.{TaskSeat}
-use Rattle.word_rule.proofs.SeatSteps.{wiring_is}
-use Rattle.word_rule.proofs.TaskCalls.{inside, shape, task_named, wired_is}
+use Rattle.word_rule.proofs.TaskCalls.{shape, task_named, wired_is}
 use Rattle.party_exec.specs.Computed.{HasComputed, plan_of_task}
 
 -- ---- the step at a place is allowed
@@ -62,9 +60,6 @@ module _ (w : SlotWords) (s new : TaskSeat) (here : TaskSits w s) (steps : TaskS
 -- ---- the seat's task is one of those that the words know
 
 module _ (w : SlotWords) (s : TaskSeat) (here : TaskSits w s) where
-  pub wired_inside : s.task < length w.wiring.tasks
-  wired_inside = let a = inside w s here in let b = ap (λ (x : Wiring). length x.tasks) (wiring_is w s.seat.me here.1) in omega arith
-
   pub declared_inside : s.task < length w.plan.diagram.tasks
   declared_inside = task_named w s here
 

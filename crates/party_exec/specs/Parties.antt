@@ -43,10 +43,6 @@ pub record IsFreshTask (w : SlotWords) (i : ℕ) (s : TaskParty) : Type 0 where
   pub work : s.work ≡ (start.start_task no_task_wiring (declared w.plan i)).work
   pub rows : s.rows ≡ first_and_zeros (declared w.plan i) (length (times_of w.plan.batches i))
 
-pub record AreFreshTasks (w : SlotWords) (tasks : List TaskParty) : Type 0 where
-  pub size : length tasks ≡ length w.plan.diagram.tasks
-  pub each : (i : ℕ) (s : TaskParty) → slice_get tasks i ≡ Some s → IsFreshTask w i s
-
 -- the party at the place k before its first step: the releaser's, or that of task k - 1
 abbrev pub IsFresh : SlotWords → ℕ → Party → Type 0
 IsFresh w zero (Releaser s) = IsFirstReleaser w s.seat

@@ -1,8 +1,8 @@
 // The parties of a plan before the first step.
 
-ghost use Rattle.std.specs.Prelude.{◌≡◌, ◌<◌, IfOk, length};
-ghost use Rattle.word_rule.specs.FirstSeats.{IsFirstReleaser, IsFirstTask, split_off};
-ghost use Rattle.party_exec.specs.Parties.{AreFresh, AreFreshTasks, IsFreshTask};
+ghost use Rattle.std.specs.Prelude.{◌≡◌, IfOk};
+ghost use Rattle.word_rule.specs.FirstSeats.{IsFirstTask};
+ghost use Rattle.party_exec.specs.Parties.{AreFresh, IsFreshTask};
 
 use crate::look_up::{declared_of, wired_of};
 use crate::party::Party;
@@ -13,7 +13,7 @@ use dbp_plan::{List, NoMemory, Plan};
 use dbp_rules::Work;
 use release_book::Book;
 use std::alloc::Global;
-use word_rule::{ReleaserSeat, SlotWords, TaskSeat};
+use word_rule::{SlotWords, TaskSeat};
 
 /// The shared words of the plan and their parties, before the first step: the releaser's first, and then one of each
 /// task, in order.
@@ -21,39 +21,19 @@ pub fn parties(alloc: Global, plan: &Plan) -> Result<(SlotWords, List<Party>), N
     ensures plan { IfOk result (λ made. made.0.plan ≡ plan.now) }
     ensures fresh { IfOk result (λ made. AreFresh made.0 made.1) }
 {
-    let (words, mut seat) = SlotWords::begin(alloc, plan.copy()?)?;
-    let tasks = task_parties(alloc, &words, &mut seat)?;
+    let (words, releaser, tasks) = SlotWords::new(alloc, plan.copy()?)?;
     let book = Book::new(alloc, plan)?;
     let mut parties = List::new(alloc);
     parties.push(Party::Releaser(ReleaserParty {
-        seat,
+        seat: releaser,
         book,
         turns: 0,
     }))?;
-    for party in tasks {
+    for seat in tasks.into_items() {
+        let party = task_party(alloc, &words, seat)?;
         parties.push(Party::Task(party))?;
     }
     Ok((words, parties))
-}
-
-// The parties of all tasks, whose seats are split off the releaser's.
-fn task_parties(
-    alloc: Global,
-    words: &SlotWords,
-    seat: &mut ReleaserSeat,
-) -> Result<Vec<TaskParty>, NoMemory>
-    requires first { IsFirstReleaser words.now seat.old }
-    requires none { split_off seat.old ≡ 0 }
-    ensures releaser { IfOk result (λ _. IsFirstReleaser words.now seat.new) }
-    ensures tasks { IfOk result (λ made. AreFreshTasks words.now made.items) }
-{
-    let mut parties = Vec::new(alloc);
-    for task in 0..words.plan().diagram.tasks.len() {
-        let next = words.split_seat(seat, task);
-        let party = task_party(alloc, words, next)?;
-        parties.push(party)?;
-    }
-    Ok(parties)
 }
 
 // The party of the task whose seat it is.

@@ -26,7 +26,9 @@ pub record AreFirstTasks (w : SlotWords) (seats : List TaskSeat) : Type 0 where
   pub size : length seats ≡ length w.plan.diagram.tasks
   pub each : (i : ℕ) (s : TaskSeat) → slice_get seats i ≡ Some s → IsFirstTask w i s
 
--- how many seats were split off
+-- ---- while the seats are split off, which no caller sees
+
+-- how many have been so far
 abbrev pub split_off : ReleaserSeat → ℕ
 split_off s = seats_split s.seat.me.0.role
 

@@ -18,7 +18,7 @@ use std::alloc::Global;
 
 impl SlotWords {
     /// The words of the plan before the first step, the releaser's seat, and the tasks' seats: the one at index i is that
-    /// of task i. No seat has made a step. Where memory runs out the plan is given up.
+    /// of task i. No seat has made a step. If memory runs out the plan is given up.
     pub fn new(
         alloc: Global,
         plan: Plan,
@@ -32,9 +32,8 @@ impl SlotWords {
         Ok((words, seat, tasks))
     }
 
-    /// The words of the plan before the first step, and the releaser's seat. Each task's seat is then split off the
-    /// releaser's by `split_seat`; `new` does both. Where memory runs out the plan is given up.
-    pub fn begin(alloc: Global, plan: Plan) -> Result<(SlotWords, ReleaserSeat), NoMemory>
+    // The words of the plan before the first step, and the releaser's seat.
+    fn begin(alloc: Global, plan: Plan) -> Result<(SlotWords, ReleaserSeat), NoMemory>
         ensures plan { IfOk result (λ made. made.0.plan ≡ plan) }
         ensures releaser { IfOk result (λ made. IsFirstReleaser made.0 made.1) }
         ensures none { IfOk result (λ made. split_off made.1 ≡ 0) }
@@ -77,9 +76,8 @@ impl SlotWords {
         Ok(seats)
     }
 
-    /// Splits the seat of the next task off the releaser's. The tasks go in order, so each has one seat at most. It touches
-    /// no word and takes no memory.
-    pub fn split_seat(&self, seat: &mut ReleaserSeat, task: u32) -> TaskSeat
+    // Splits the seat of the next task off the releaser's. The tasks go in order, so each has one seat at most.
+    fn split_seat(&self, seat: &mut ReleaserSeat, task: u32) -> TaskSeat
         requires here { ReleaserSits self.now seat.old }
         requires next { task ≡ split_off seat.old }
         requires task { task < length self.now.plan.diagram.tasks }

@@ -5,10 +5,10 @@ use Rattle.party_exec.specs.declared.party.Party.{Party}
 use Rattle.party_exec.proofs.Fresh.{AreLeft}
 use Rattle.party_exec.proofs.begin.parties.Given as goal
 
-abbrev pub invariant-loop-party : goal.invariant-loop-party
-invariant-loop-party l = record {
+abbrev pub invariant-loop-seat : goal.invariant-loop-seat
+invariant-loop-seat l = record {
   size : length l.parties ≡ length l.yielded + 1;
   each : (k : ℕ) (p : Party) → slice_get l.parties k ≡ Some p → IsFresh l.words k p;
-  left : AreLeft l.words (length l.yielded) l.party-iterator.rest.items;
-  all : length l.party-iterator.rest.items + length l.yielded ≡ length l.words.plan.diagram.tasks;
+  left : AreLeft l.words (length l.yielded) l.seat-iterator.rest.items;
+  all : length l.seat-iterator.rest.items + length l.yielded ≡ length l.words.plan.diagram.tasks;
 }
