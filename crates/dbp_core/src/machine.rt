@@ -80,6 +80,7 @@ impl Core {
     }
 
     /// A step that is known to be allowed, which isn't tried again; otherwise as `step`. Returns what is heard.
+    #[inline(always)]
     pub fn make(&mut self, step: Step) -> Heard
         requires named { IsNamed (plan_in self.old).diagram step }
         requires allowed { refusal (wiring_in self.old) (state_in self.old) step ≡ None }

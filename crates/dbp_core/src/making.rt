@@ -144,6 +144,7 @@ fn make_end(plan: &Plan, wiring: &Wiring, state: &mut State, i: u32) -> Heard
 }
 
 /// A step that is allowed: what is heard, and the next state.
+#[inline(always)]
 pub(crate) fn make(plan: &Plan, wiring: &Wiring, state: &mut State, step: Step) -> Heard
     requires named { IsNamed plan.now.diagram step }
     requires shape { IsShape plan.now wiring.now state.old }

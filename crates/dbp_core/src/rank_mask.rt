@@ -49,6 +49,7 @@ impl RankMask {
     }
 
     /// After a step, however it was answered: counts the task anew that it aims or ends.
+    #[inline(always)]
     pub(crate) fn recount(&mut self, wiring: &Wiring, state: &State, step: Step)
         requires ranks { HasRanks wiring.now }
         requires tasks { length state.now.tasks ≡ length wiring.now.tasks }

@@ -18,7 +18,7 @@ neither : (x y : Option ℕ) → option_or x y ≡ None → (x ≡ None) × (y �
 neither None y none = (refl, none)
 neither (Some x) y none = absurd (cc)
 
-least_none : (f : ℕ → Bool) (n k : ℕ) → rule.least f n ≡ None → k < n → f k ≡ false
+pub least_none : (f : ℕ → Bool) (n k : ℕ) → rule.least f n ≡ None → k < n → f k ≡ false
 least_none f zero k none below = absurd (omega arith)
 least_none f (suc n) k none below =
     let both = neither (rule.least f n) (if f n then Some n else None) none in

@@ -126,7 +126,7 @@ has_free_slot p count r i named size =
 
 -- ---- members of lists
 
-any_contains : (xs : List ℕ) (n : ℕ) → list_any (λ k. k == n) xs ≡ true → Contains xs n
+pub any_contains : (xs : List ℕ) (n : ℕ) → list_any (λ k. k == n) xs ≡ true → Contains xs n
 any_contains [] n is = absurd (cc (is))
 any_contains (x ∷ xs) n is = elim (cases_Bool (x == n)) [
   | inl same ↦ (0, omega arith, eqb-true x n same)
@@ -136,7 +136,7 @@ any_contains (x ∷ xs) n is = elim (cases_Bool (x == n)) [
       (suc there.0, omega (arith, there.1), there.2)
 ]
 
-contains_any : (xs : List ℕ) (n : ℕ) → Contains xs n → list_any (λ k. k == n) xs ≡ true
+pub contains_any : (xs : List ℕ) (n : ℕ) → Contains xs n → list_any (λ k. k == n) xs ≡ true
 contains_any xs n there = list_any_at (λ k. k == n) xs there.0 n there.1 (eq-eqb (get_or xs there.0 n) n there.2)
 
 -- a number from a on that passes and has this value
@@ -222,6 +222,17 @@ keeps_claims w r i slot k is same =
     let counted = and_parts (is_counted w k) (nat_lt (entry_in r (link w k).reader).known (claim_in r k).instance) out.1 in
     rw (out.0, counted.0, counted.1, eq-eqb (claim_in r k).slot slot same) refl
 
+-- what a claim keeps, some link claims
+pub claimed_by : (w : Wiring) (r : ReleaserPart) (i slot k : ℕ) → k < length w.links → rule.claims_slot_in w r i slot k ≡ true → Contains (claimed_in w r i) slot
+claimed_by w r i slot k fits is =
+    let both = claims_keeps w r i slot k is in
+    any_contains (claimed_in w r i) slot (value_there (has_claim_in w r i) (λ j. (claim_in r j).slot) slot 0 (length w.links) k (omega arith) (omega arith) both.0 both.1)
+
+pub claiming : (w : Wiring) (r : ReleaserPart) (i slot : ℕ) → Contains (claimed_in w r i) slot → (k : ℕ) × (k < length w.links) × (rule.claims_slot_in w r i slot k ≡ true)
+claiming w r i slot claimed =
+    let v : IsValue (has_claim_in w r i) (λ j. (claim_in r j).slot) slot 0 (length w.links) = value_found (has_claim_in w r i) (λ j. (claim_in r j).slot) slot 0 (length w.links) (contains_any (claimed_in w r i) slot claimed) in
+    (v.number, omega (arith, v.below), keeps_claims w r i slot v.number v.passes v.value)
+
 pub exact_aim : (w : Wiring) (r : ReleaserPart) (i slot : ℕ) → slice_get w.releases r.place ≡ Some (release.Aim i) → (entry_in r i).aimed ≡ (entry_in r i).known
     → IsLeastFree (claimed_in w r i) (rule.kept_after_aim (entry_in r i)) (wired w i).slots slot → IsLeastAimIn w r i slot
 exact_aim w r i slot here known free = record {
@@ -236,8 +247,7 @@ exact_aim w r i slot here known free = record {
     ];
     unclaimed = λ k fits. elim (cases_Bool (rule.claims_slot_in w r i slot k)) [
       | inl claims_ ↦
-          let both = claims_keeps w r i slot k claims_ in
-          absurd (free.unclaimed (any_contains (claimed_in w r i) slot (value_there (has_claim_in w r i) (λ j. (claim_in r j).slot) slot 0 (length w.links) k (omega arith) (omega arith) both.0 both.1)))
+          absurd (free.unclaimed (claimed_by w r i slot k fits claims_))
       | inr none ↦ none
     ];
   });
@@ -246,9 +256,9 @@ exact_aim w r i slot here known free = record {
       elim (cases_lt n slot) [
         | inl less ↦ elim (free.least n less) [
           | inl claimed ↦
-              let v : IsValue (has_claim_in w r i) (λ j. (claim_in r j).slot) n 0 (length w.links) = value_found (has_claim_in w r i) (λ j. (claim_in r j).slot) n 0 (length w.links) (contains_any (claimed_in w r i) n claimed) in
-              let is : rule.claims_slot_in w r i n v.number ≡ true = keeps_claims w r i n v.number v.passes v.value in
-              absurd (cc (is, a.unclaimed v.number (omega (arith, v.below))))
+              let by = claiming w r i n claimed in
+              let is : rule.claims_slot_in w r i n by.0 ≡ true = by.2 in
+              absurd (cc (is, a.unclaimed by.0 by.1))
           | inr stays ↦ let is : rule.stays_kept (entry_in r i) n ≡ true = contains_any (rule.kept_after_aim (entry_in r i)) n stays in absurd (cc (is, a.fresh))
         ]
         | inr more ↦ more

@@ -42,6 +42,7 @@ pub mod StoredNumbers
 pub mod StartNumbers
 pub mod SparedClaims
 pub mod FreeAims
+pub mod TakenSlots
 pub mod ClaimedSlots
 pub mod AllowedNames
 pub mod TakenWords

@@ -1,6 +1,6 @@
 // The slot that the protocol aims a task at: the least one that no claim and no kept row needs.
 
-ghost use Rattle.std.specs.Prelude.{◌≡◌, ◌<◌, ◌≤◌, length, slice_get, Some};
+ghost use Rattle.std.specs.Prelude.{◌≡◌, ◌<◌, ◌≤◌, ◌↔◌, ◌⊎◌, Contains, IsTrue, length, slice_get, Some};
 ghost use Rattle.dbp_plan.specs.declared.limits.TheConstants.{MAX_READ_LINES};
 ghost use Rattle.dbp_rules.specs.PartyRules.{claimed_in, has_claim_in, kept_after_aim};
 ghost use Rattle.dbp_rules.specs.PartyShapes.{LinksFit};
@@ -10,6 +10,7 @@ ghost use Rattle.dbp_slots.specs.FreeSlot.{IsLeastFree};
 ghost use Rattle.release_list.specs.declared.release.Release.TheVariants.{Aim as AimOf};
 
 use crate::parts::ReleaserPart;
+use crate::releaser_steps::{claiming_link, stays_kept};
 use crate::wiring::Wiring;
 use arrayvec::ArrayVec;
 use dbp_plan::MAX_READ_LINES;
@@ -19,6 +20,9 @@ use dbp_slots::free_slot;
 const MAX_TAKEN: usize = MAX_READ_LINES as usize + 1;
 
 const _: () = prove!(MAX_TAKEN == 129);
+
+// If no more links than these leave a task, each slot is looked for among its claims, which is shorter than to list them.
+const FEW_LINKS: u32 = 4;
 
 // Whether the link is a counted one from the task, with a claim whose instance isn't known to have ended.
 fn has_claim(wiring: &Wiring, part: &ReleaserPart, i: u32, k: u32) -> bool
@@ -53,8 +57,8 @@ fn claimed_slots(wiring: &Wiring, part: &ReleaserPart, i: u32) -> ArrayVec<u32, 
     claimed
 }
 
-// The least slot of the task that is neither claimed nor stays kept.
-fn least_free(wiring: &Wiring, part: &ReleaserPart, i: u32) -> u32
+// The least slot of the task that is neither claimed nor stays kept: of all slots, from a list of those that are.
+fn least_of_many(wiring: &Wiring, part: &ReleaserPart, i: u32) -> u32
     requires task { i < length wiring.now.tasks }
     requires links { LinksFit wiring.now }
     requires few { length wiring.now.links ≤ MAX_READ_LINES }
@@ -72,6 +76,52 @@ fn least_free(wiring: &Wiring, part: &ReleaserPart, i: u32) -> u32
             taken.push(entry.current);
             free_slot(taken.as_slice(), staying, slots)
         }
+    }
+}
+
+// Whether the slot of the task is claimed or stays kept.
+fn is_taken(wiring: &Wiring, part: &ReleaserPart, i: u32, slot: u32) -> bool
+    requires task { i < length wiring.now.tasks }
+    requires links { LinksFit wiring.now }
+    requires claims { length part.now.links ≡ length wiring.now.links }
+    requires entries { length part.now.tasks ≡ length wiring.now.tasks }
+    ensures { IsTrue result ↔ (Contains (claimed_in wiring.now part.now i) slot
+        ⊎ Contains (kept_after_aim (entry_in part.now i)) slot) }
+{
+    stays_kept(part.entry(i), slot) || claiming_link(wiring, part, i, slot).is_some()
+}
+
+// The same slot: of each slot in turn it is found out whether it is taken.
+fn least_of_few(wiring: &Wiring, part: &ReleaserPart, i: u32) -> u32
+    requires task { i < length wiring.now.tasks }
+    requires links { LinksFit wiring.now }
+    requires claims { length part.now.links ≡ length wiring.now.links }
+    requires entries { length part.now.tasks ≡ length wiring.now.tasks }
+    requires room { HasFreeSlotIn wiring.now part.now i }
+    ensures { IsLeastFree (claimed_in wiring.now part.now i) (kept_after_aim (entry_in part.now i)) (wired wiring.now i).slots result }
+{
+    for slot in 0..wiring.task(i).slots {
+        if !is_taken(wiring, part, i, slot) {
+            return slot;
+        }
+    }
+    unreachable!()
+}
+
+// The least slot of the task that is neither claimed nor stays kept, in time of the number of its links and slots.
+fn least_free(wiring: &Wiring, part: &ReleaserPart, i: u32) -> u32
+    requires task { i < length wiring.now.tasks }
+    requires links { LinksFit wiring.now }
+    requires few { length wiring.now.links ≤ MAX_READ_LINES }
+    requires claims { length part.now.links ≡ length wiring.now.links }
+    requires entries { length part.now.tasks ≡ length wiring.now.tasks }
+    requires room { HasFreeSlotIn wiring.now part.now i }
+    ensures { IsLeastFree (claimed_in wiring.now part.now i) (kept_after_aim (entry_in part.now i)) (wired wiring.now i).slots result }
+{
+    if wiring.task(i).leaving.len() <= FEW_LINKS {
+        least_of_few(wiring, part, i)
+    } else {
+        least_of_many(wiring, part, i)
     }
 }
 

@@ -14,7 +14,7 @@ use crate::wiring::Wiring;
 use dbp_plan::{Link, List};
 
 // Whether the slot is one of those that are kept after an aim of the task.
-fn stays_kept(entry: &TaskEntry, slot: u32) -> bool
+pub(crate) fn stays_kept(entry: &TaskEntry, slot: u32) -> bool
     ensures { result ≡ rule.stays_kept entry.now slot }
 {
     match entry.kept.items() {
@@ -58,7 +58,7 @@ fn claims_slot(wiring: &Wiring, part: &ReleaserPart, i: u32, slot: u32, k: u32) 
 }
 
 // The least link from the task that claims the slot: one of those that leave the task.
-fn claiming_link(wiring: &Wiring, part: &ReleaserPart, i: u32, slot: u32) -> Option<u32>
+pub(crate) fn claiming_link(wiring: &Wiring, part: &ReleaserPart, i: u32, slot: u32) -> Option<u32>
     requires task { i < length wiring.now.tasks }
     requires links { LinksFit wiring.now }
     requires claims { length part.now.links ≡ length wiring.now.links }

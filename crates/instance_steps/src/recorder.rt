@@ -89,6 +89,7 @@ impl Recorder {
     }
 
     // Makes the step, and keeps it if steps are kept.
+    #[inline(always)]
     pub(crate) fn make(&mut self, step: Step) -> Result<(), NoMemory>
         requires moves { Moves (plan_in self.old) (wiring_in self.old) (state_in self.old) step }
         requires room { length (steps_in self.old) + 1 < 2 ^ 32 }

@@ -2,7 +2,7 @@ use Rattle.std.proofs.Common.{◌≡◌, [], ◌∷◌, ◌++◌, length, ap, �
 use Rattle.dbp_rules.specs.Places.{entry_in, wired}
 use Rattle.dbp_rules.specs.PartyRules.{claimed_in}
 use Rattle.dbp_rules.proofs.ClaimedSlots.{free_staying}
-use Rattle.dbp_rules.proofs.aiming.least_free.Goals as goal
+use Rattle.dbp_rules.proofs.aiming.least_of_many.Goals as goal
 
 pub returns-in-len1-up : goal.returns-in-len1-up
 returns-in-len1-up c =
