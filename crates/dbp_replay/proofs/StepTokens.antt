@@ -1,11 +1,14 @@
 -- A printed step spells tokens that name the step.
 use Rattle.std.proofs.Common.{◌≡◌, ℕ, pos, zero, suc, ◌<◌, ◌≤◌, ◌^◌, All, false, List, [], ◌∷◌, ◌++◌, Some, Ok, refl, sym, ap, ◌∙◌, subst, arith}
+use Rattle.std.specs.Prelude.{◌==◌, codes}
 use Rattle.std.specs.Fmt.{decimal}
-use Rattle.std.proofs.lemmas.Bool.{lt-ltb}
+use Rattle.std.proofs.lemmas.Bool.{le-leb, lt-ltb}
+use Rattle.std.proofs.lemmas.Bool.Decides.{nat_tests}
 use Rattle.std.proofs.lemmas.List.Elements.{All-cons, All-nil}
 use Rattle.dbp_rules.specs.declared.step.Step.{Step}
 use Rattle.dbp_rules.specs.declared.step.Step.TheVariants as step
 use Rattle.dbp_plan.specs.declared.diagram.Diagram.{Diagram}
+use Rattle.dbp_plan.specs.Limits.{max_delay, max_delay-le}
 use Rattle.dbp_plan.specs.Lookups.{no_link}
 use Rattle.dia_tokens.specs.declared.edge.Edge.TheVariants.{Loose}
 use Rattle.dia_tokens.specs.declared.token.Token.{Token}
@@ -23,7 +26,7 @@ use Rattle.dbp_replay.specs.declared.kind.Takes.TheVariants.{Nothing, Slot, Writ
 use Rattle.dbp_replay.specs.Names.{HasNames, HasSlotNumber}
 use Rattle.dbp_replay.specs.Places.{IsThere, link_in, port_name, read_name, task_in, task_of}
 use Rattle.dbp_replay.specs.Scripts.{Says}
-use Rattle.dbp_replay.specs.StepForms.{form_of, named_step, number_of, step_numbered, of_kind, of_task, operand_of, step_with, with_operand}
+use Rattle.dbp_replay.specs.StepForms.{delay_of, form_of, link_of, named_step, number_of, step_numbered, of_kind, of_task, operand_of, step_with, with_operand}
 use Rattle.dbp_replay.specs.Texts.{delay_words, operand_words, spaced_words, step_text}
 use Rattle.dbp_rules.specs.StepKinds.{kind_of}
 use Rattle.dbp_replay.proofs.FirstPlaces.{link-place, port-place, port-printable, read-place, read-printable, task-place, task-printable}
@@ -59,7 +62,18 @@ one-name takes n o printable read = record {
   read = read;
 }
 
-writer : (delay : ℕ) (n : List ℕ) → delay ≤ 1 → IsPrintableName n → IsOperand Writer (delay_words delay ++ n ∷ []) (operand.Link delay n)
+-- the words of a delay above 1; its comparisons don't compute
+longer-words : (d : ℕ) → delay_words (suc (suc d)) ≡ codes "pre" ∷ decimal (suc (suc d)) ∷ []
+longer-words d =
+    let some : (suc (suc d) == 0) ≡ false = grind (arith, nat_tests) in
+    let more : (suc (suc d) == 1) ≡ false = grind (arith, nat_tests) in
+    rw (some, more) refl
+
+-- a printed delay is one that may be written
+delay-read : (delay : ℕ) → delay ≤ max_delay → 0 < delay → delay_of (pos delay) ≡ Some delay
+delay-read delay short some = rw (lt-ltb 0 delay some, le-leb delay max_delay short) refl
+
+writer : (delay : ℕ) (n : List ℕ) → delay ≤ max_delay → IsPrintableName n → IsOperand Writer (delay_words delay ++ n ∷ []) (operand.Link delay n)
 writer zero n short printable = one-name Writer n (operand.Link 0 n) printable refl
 writer (suc zero) n short printable = record {
   tokens = token.Word Pre ∷ token.Name n ∷ [];
@@ -68,7 +82,17 @@ writer (suc zero) n short printable = record {
   unsigned = (λ _. tt, (λ _. tt, tt));
   read = refl;
 }
-writer (suc (suc delay)) n short printable = absurd (omega (arith, short))
+writer (suc (suc more)) n short printable =
+    let delay = suc (suc more) in
+    let number : IsPrintableToken (token.Number (pos delay)) = omega (arith, short, max_delay-le) in
+    record {
+      tokens = token.Word Pre ∷ token.Number (pos delay) ∷ token.Name n ∷ [];
+      text = ap (λ ws. spaced_words (ws ++ n ∷ [])) (longer-words more);
+      printable = All-cons IsPrintableToken (token.Word Pre) (token.Number (pos delay) ∷ token.Name n ∷ []) tt
+          (All-cons IsPrintableToken (token.Number (pos delay)) (token.Name n ∷ []) number (All-cons IsPrintableToken (token.Name n) [] printable (All-nil IsPrintableToken)));
+      unsigned = (λ _. tt, (λ _. tt, (λ _. tt, tt)));
+      read = ap (λ d. link_of d n) (delay-read delay short (omega arith));
+    }
 
 slot-number : (slot : ℕ) → slot < 2 ^ 32 → IsOperand Slot (decimal slot ∷ []) (operand.Slot slot)
 slot-number slot small = record {

@@ -22,7 +22,7 @@ use Rattle.dbp_rules.specs.declared.kind.StepKind.TheVariants.{Seen, Aim, Claim,
 use Rattle.dbp_replay.specs.declared.kind.Takes.{Takes}
 use Rattle.dbp_replay.specs.declared.kind.Takes.TheVariants.{Nothing, Slot, Writer, Read, Port}
 use Rattle.dbp_replay.specs.Places.{IsThere, link_in, task_in}
-use Rattle.dbp_replay.specs.StepForms.{form_of, is_link, kind_with, link_between, named_step, number_of, step_numbered, of_kind, of_task, operand_of, name_text, step_of, step_with, task_named, with_operand, within}
+use Rattle.dbp_replay.specs.StepForms.{delay_of, form_of, is_link, kind_with, link_between, link_of, named_step, number_of, step_numbered, of_kind, of_task, operand_of, name_text, step_of, step_with, task_named, with_operand, within}
 
 within-is : (len place n : ℕ) → within len place ≡ Some n → (place ≡ n) × (place < len)
 within-is len place n e =
@@ -49,11 +49,16 @@ Fits Read _ = ⊥
 Fits Port (operand.Port n) = Unit {0}
 Fits Port _ = ⊥
 
+link-fits : (delay : Option ℕ) (w : List ℕ) (o : Operand) → link_of delay w ≡ Some o → Fits Writer o
+link-fits None w o e = absurd (cc (e))
+link-fits (Some delay) w o e = subst (Fits Writer) (same_Some (operand.Link delay w) o e) tt
+
 operand-fits : (t : Takes) (ts : List Token) (o : Operand) → operand_of t ts ≡ Some o → Fits t o
 operand-fits Nothing ts o e = tt
 operand-fits Slot ts o e = tt
 operand-fits Writer (token.Name w ∷ []) o e = subst (Fits Writer) (same_Some (operand.Link 0 w) o e) tt
 operand-fits Writer (token.Word Pre ∷ token.Name w ∷ []) o e = subst (Fits Writer) (same_Some (operand.Link 1 w) o e) tt
+operand-fits Writer (token.Word Pre ∷ token.Number z ∷ token.Name w ∷ []) o e = link-fits (delay_of z) w o e
 operand-fits Read (token.Name r ∷ []) o e = subst (Fits Read) (same_Some (operand.Read r) o e) tt
 operand-fits Port (token.Name p ∷ []) o e = subst (Fits Port) (same_Some (operand.Port p) o e) tt
 operand-fits _ _ o e = absurd (cc (e))

@@ -1,14 +1,14 @@
 // The form of a line's tokens.
 
 ghost use Rattle.std.specs.Prelude.{◌≡◌};
-ghost use Rattle.dbp_replay.specs.StepForms.{form_in, operand_of, slot_of, name_text};
+ghost use Rattle.dbp_replay.specs.StepForms.{delay_of, form_in, link_of, name_text, operand_of, slot_of};
 
 use crate::kind::{Takes, kind_with, takes_of};
 use dbp_core::StepKind;
-use dbp_plan::Name;
+use dbp_plan::{MAX_DELAY, Name};
 use dia_tokens::{Token, Word};
 
-/// What a line says behind its task.
+/// What a line says after its task.
 #[derive(Clone, Copy)]
 pub(crate) enum Operand {
     Nothing,
@@ -46,6 +46,23 @@ fn slot_of(number: i64) -> Option<Operand>
     }
 }
 
+/// The delay that the number after `pre` is.
+fn delay_of(number: i64) -> Option<u32>
+    ensures { result ≡ delay_of number }
+{
+    match u32::try_from(number) {
+        Ok(delay) if 0 < delay && delay <= MAX_DELAY => Some(delay),
+        _ => None,
+    }
+}
+
+fn link_of(delay: Option<u32>, writer: Name) -> Option<Operand>
+    ensures { result ≡ link_of delay writer }
+{
+    let delay = delay?;
+    Some(Operand::Link { delay, writer })
+}
+
 /// The operand that the tokens are.
 fn operand_of(takes: Takes, tokens: &[Token]) -> Option<Operand>
     ensures { result ≡ operand_of takes tokens.now }
@@ -61,6 +78,14 @@ fn operand_of(takes: Takes, tokens: &[Token]) -> Option<Operand>
             delay: 1,
             writer: *writer,
         }),
+        (
+            Takes::Writer,
+            [
+                Token::Word(Word::Pre),
+                Token::Number(number),
+                Token::Name(writer),
+            ],
+        ) => { link_of(delay_of(*number), *writer) }
         (Takes::Read, [Token::Name(name)]) => Some(Operand::Read(*name)),
         (Takes::Port, [Token::Name(name)]) => Some(Operand::Port(*name)),
         _ => None,

@@ -1,0 +1,27 @@
+use Rattle.std.proofs.Common.{◌≡◌, ◌∷◌, ◌++◌, [], get_or, slice_get, Some, Ok, Err, refl}
+use Rattle.std.proofs.lemmas.Option.{slice_get-get_or}
+use Rattle.dbp_core.specs.Cores.{count_in, plan_in, state_in}
+use Rattle.dbp_rules.specs.declared.step.Step.TheVariants.{Seen}
+use Rattle.dbp_rules.specs.Rules.{IsNamed}
+use Rattle.dbp_plan.specs.Places.{all_place}
+use Rattle.dbp_replay.specs.Places.{IsThere}
+use Rattle.dbp_replay.proofs.Taken.{taken-none, taken-more, refused-at, same-step}
+use Rattle.dbp_replay.proofs.walk.walk.Goals as goal
+
+pub loop-place-init : goal.loop-place-init
+loop-place-init c = record {
+  plan = refl;
+  count = refl;
+  so_far = taken-none (plan_in c.args.core.now) (count_in c.args.core.now) c.args.steps.now (state_in c.args.core.now) c.args.room.items c.requires.start c.requires.empty;
+  filled = c.requires.none;
+  room = c.requires.room;
+}
+
+pub returns-in-Err-clause-illegal : goal.returns-in-Err-clause-illegal
+returns-in-Err-clause-illegal c =
+    let steps = c.args.steps.now in
+    let e = get_or steps c.loop-place.place (Seen 0) in
+    let i = c.loop-place.invariant in
+    let here : slice_get steps c.loop-place.place ≡ Some e = slice_get-get_or steps c.loop-place.place (Seen 0) c.loop-place-test.true in
+    refused-at (plan_in c.args.core.now) (count_in c.args.core.now) steps c.loop-place.place (state_in c.loop-place.core) (state_in c.step.new.self) c.loop-place.taken.items e c.in-Err.why i.so_far here
+    (same-step (plan_in c.loop-place.core) (plan_in c.args.core.now) (count_in c.loop-place.core) (count_in c.args.core.now) (state_in c.loop-place.core) (state_in c.step.new.self) e (Err c.in-Err.why) i.plan i.count c.in-Err.ensures.step)
