@@ -1,5 +1,5 @@
 -- The counts behind one more line are those of the statements.
-use Rattle.std.proofs.Common.{◌≡◌, ℕ, ℤ, Bool, true, false, List, ◌∷◌, length, filter, Ok, refl, arith, ◌⊎◌, inl, inr}
+use Rattle.std.proofs.Common.{◌≡◌, ℕ, ℤ, Bool, true, false, List, ◌∷◌, length, filter, Option, Ok, refl, arith, ◌⊎◌, inl, inr}
 use Rattle.std.specs.Prelude.{nat_lt, nat_le}
 use Rattle.std.proofs.lemmas.Bool.Decides.{nat_tests}
 use Rattle.dbp_plan.specs.declared.limits.TheConstants.{MAX_TASKS, MAX_INPUTS, MAX_EVENTS, MAX_READS, MAX_READ_LINES, MAX_OUTS, MAX_BODY}
@@ -91,7 +91,7 @@ counted-out before n v x m w e c a (full fits below) r =
     let there : nat_le MAX_BODY (length (filter is_body (of_this_task before))) ≡ true = rw (← a.body) below in
     rw fits (rw there refl)
 
-counted-read : (before : List Statement) (n w q : List ℕ) (d at : ℤ) (m t p : List ℕ) (k i : ℕ) (c : Counts) → AreCounts before c
+counted-read : (before : List Statement) (n w q : List ℕ) (d : Option ℤ) (at : ℤ) (m t p : List ℕ) (k i : ℕ) (c : Counts) → AreCounts before c
     → Room c.body MAX_BODY → Room c.reads MAX_READS → Room c.links MAX_READ_LINES → Counted before (read n d w q at) (with_part c (part.Read m k t p i))
 counted-read before n w q d at m t p k i c a (room fits below) (room fits' below') (room fits'' below'') =
     let there : nat_le MAX_BODY (length (filter is_body (of_this_task before))) ≡ false = rw (← a.body) below in

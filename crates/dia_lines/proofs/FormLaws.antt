@@ -13,11 +13,12 @@ use Rattle.dia_exprs.proofs.AllTokens.{one-spelled}
 use Rattle.dia_exprs.specs.Counts.{node_count, depth_of}
 use Rattle.dia_lines.specs.declared.place.Place.{Place}
 use Rattle.dia_lines.specs.declared.place.Place.TheVariants.{Header, Policy, Until, Declarations, Body, Trace, Script, Ended}
-use Rattle.dia_lines.specs.Statements.{Statement, Clock, IsStatement, SpellsClock, SpellsOption, SpellsAt, SpellsDelay}
+use Rattle.dia_lines.specs.Statements.{Statement, Clock, IsStatement, SpellsClock, SpellsOption, SpellsAt}
 use Rattle.dia_lines.specs.Statements as st
+use Rattle.dia_lines.specs.Delays.{SpellsDelay, direct, delayed, delayed_by, delay_at}
 use Rattle.dia_lines.specs.Places.{leads}
 use Rattle.dia_lines.specs.Lines.{expression_of}
-use Rattle.dia_lines.specs.Forms.{Shape, plain, of_let, of_next, of_out, Completes, tokens_of, example_of, offset_at, prio_at, deadline_at, delay_at, cost_alone, tick_alone, word_alone, ending_at, header_at, policy_at, until_at, input_at, event_at, options_at, task_at, state_at, sense_at, port_read_at, read_at, let_at, next_at, out_at, declared_at, line_at, shape_at}
+use Rattle.dia_lines.specs.Forms.{Shape, plain, of_let, of_next, of_out, Completes, tokens_of, example_of, offset_at, prio_at, deadline_at, cost_alone, tick_alone, word_alone, ending_at, header_at, policy_at, until_at, input_at, event_at, options_at, task_at, state_at, sense_at, port_read_at, read_at, let_at, next_at, out_at, declared_at, line_at, shape_at}
 
 -- the statement is of the form that was found
 abbrev pub Inverts : Statement → Option Shape → Type 0
@@ -54,12 +55,14 @@ Inverts-shape ts s (st.a_state name first) = refl
 Inverts-shape ts s (st.a_sense name from) = refl
 Inverts-shape ts s (st.a_read name writer port pre ats delay at d a) = at_read d a
   where
-    at_read : {pre ats : List Token} {delay at : ℤ} → SpellsDelay pre delay → SpellsAt ats at
+    at_read : {pre ats : List Token} {delay : Option ℤ} {at : ℤ} → SpellsDelay pre delay → SpellsAt ats at
         → Inverts (st.read name delay writer port at) (read_at (Name name ∷ Symbol Assign ∷ (pre ++ Name writer ∷ Symbol Point ∷ Name port ∷ ats)))
-    at_read st.direct st.at_once = refl
-    at_read st.direct (st.at_tick value) = refl
-    at_read st.delayed st.at_once = refl
-    at_read st.delayed (st.at_tick value) = refl
+    at_read direct st.at_once = refl
+    at_read direct (st.at_tick value) = refl
+    at_read delayed st.at_once = refl
+    at_read delayed (st.at_tick value) = refl
+    at_read (delayed_by given) st.at_once = refl
+    at_read (delayed_by given) (st.at_tick value) = refl
 Inverts-shape ts s (st.a_let_line name us x d) = (x, refl, d)
 Inverts-shape ts s (st.a_next_line name us x d) = (x, refl, d)
 Inverts-shape ts s (st.an_out name first us x d) = (x, refl, d)
@@ -192,15 +195,16 @@ Builds-task _ = tt
 -- ---- the line of a read value
 
 delay-split : (ts : List Token) → (pre : List Token) × (ts ≡ pre ++ (delay_at ts).1) × SpellsDelay pre (delay_at ts).0
-delay-split (Word word.Pre ∷ ts) = (Word word.Pre ∷ [], refl, st.delayed)
-delay-split ts = ([], refl, st.direct)
+delay-split (Word word.Pre ∷ Number value ∷ ts) = (Word word.Pre ∷ Number value ∷ [], refl, delayed_by value)
+delay-split (Word word.Pre ∷ ts) = (Word word.Pre ∷ [], refl, delayed)
+delay-split ts = ([], refl, direct)
 
 tick-spelled : (ts : List Token) (at : ℤ) → tick_alone ts ≡ Some at → SpellsAt ts at
 tick-spelled [] at e = let same : pos 0 ≡ at = cc in subst (SpellsAt []) same st.at_once
 tick-spelled (Word word.At ∷ Number value ∷ []) at e = let same : value ≡ at = cc in subst (SpellsAt (Word word.At ∷ Number value ∷ [])) same (st.at_tick value)
 tick-spelled _ at e = absurd cc
 
-Builds-port : (name : List ℕ) (pre : List Token) (delay : ℤ) → SpellsDelay pre delay → (ts : List Token)
+Builds-port : (name : List ℕ) (pre : List Token) (delay : Option ℤ) → SpellsDelay pre delay → (ts : List Token)
     → Builds (Word word.Read ∷ Name name ∷ Symbol Assign ∷ (pre ++ ts)) (port_read_at name delay ts)
 unfolding port_read_at
 Builds-port name pre delay d (Name writer ∷ Symbol Point ∷ Name port ∷ ts) = by_tick (tick_alone ts) refl

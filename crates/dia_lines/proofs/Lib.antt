@@ -6,5 +6,7 @@ pub mod StatementLaws
 pub mod CountLaws
 pub mod LineLaws
 pub mod PlaceLaws
+pub mod RangeLaws
+pub mod DelayLaws
 pub mod Reading
 pub mod PrintableStatements

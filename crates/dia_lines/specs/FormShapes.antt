@@ -1,5 +1,4 @@
 -- What the forms that the code finds are.
-use Rattle.std.specs.Prelude.{pos}
 use Rattle.dia_lines.specs.declared.form.ClockForm.{ClockForm}
 use Rattle.dia_lines.specs.declared.form.ClockForm.TheVariants.{Every, On}
 use Rattle.dia_lines.specs.declared.form.TaskForm.{TaskForm}
@@ -17,7 +16,7 @@ abbrev pub task_of : TaskForm → Statement
 task_of t = task (record { name = t.name; clock = clock_of t.clock; prio = t.prio; deadline = t.deadline; cost = t.cost })
 
 abbrev pub read_of : ReadForm → Statement
-read_of r = read r.name (pos r.delay) r.task r.port r.at
+read_of r = read r.name r.delay r.task r.port r.at
 
 abbrev pub shape_of : Form → Shape
 shape_of form.Nothing = plain nothing

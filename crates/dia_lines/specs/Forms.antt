@@ -11,6 +11,7 @@ use Rattle.dia_tokens.specs.declared.token.Word as words
 use Rattle.dia_tokens.specs.declared.token.Word.TheVariants as word
 use Rattle.dia_exprs.specs.declared.level.Level.TheVariants.{Whole}
 use Rattle.dia_exprs.specs.Grammar.{Spells}
+use Rattle.dia_lines.specs.Delays.{delay_at}
 use Rattle.dia_lines.specs.Statements.{Statement, Clock, every, on, nothing, header, policy, until, input, event, task, state, sense, read, a_let, a_next, out, trace, script, done}
 
 -- a statement, but for the tokens of its expression
@@ -74,11 +75,6 @@ abbrev pub deadline_at : List Token → Option ℤ × List Token
 deadline_at (Word word.Deadline ∷ Number value ∷ ts) = (Some value, ts)
 deadline_at ts = (None, ts)
 
--- `pre` for one, or nothing for none
-abbrev pub delay_at : List Token → ℤ × List Token
-delay_at (Word word.Pre ∷ ts) = (pos 1, ts)
-delay_at ts = (pos 0, ts)
-
 -- `TASK.PORT`
 abbrev pub port_at : List Token → Option (List ℕ × List ℕ × List Token)
 port_at (Name writer ∷ Symbol Point ∷ Name port ∷ ts) = Some (writer, port, ts)
@@ -140,7 +136,7 @@ unfoldable pub sense_at : List Token → Option Shape
 sense_at ts = option_and_then (λ p. option_map (λ from. plain (sense p.0 from)) (name_alone p.1)) (assigned_at ts)
 
 -- behind a read value's name and its delay
-unfoldable pub port_read_at : List ℕ → ℤ → List Token → Option Shape
+unfoldable pub port_read_at : List ℕ → Option ℤ → List Token → Option Shape
 port_read_at name delay ts = option_and_then (λ w. option_map (λ at. plain (read name delay w.0 w.1 at)) (tick_alone w.2)) (port_at ts)
 
 unfoldable pub read_at : List Token → Option Shape

@@ -11,6 +11,7 @@ use Rattle.dia_lines.specs.declared.item.Part.{Part}
 use Rattle.dia_lines.specs.declared.item.Part.TheVariants as part
 use Rattle.dia_lines.specs.declared.item.Line.{Line}
 use Rattle.dia_lines.specs.declared.item.Line.TheVariants as line
+use Rattle.dia_lines.specs.Delays.{delay_of}
 use Rattle.dia_lines.specs.Statements.{Statement, Clock, every, on, nothing, header, policy, until, input, event, task, state, sense, read, a_let, a_next, out, trace, script, done}
 use Rattle.dia_lines.specs.Lines.{Said, says, row, step}
 
@@ -36,7 +37,7 @@ IsTaskLine _ t = ⊥
 abbrev pub IsPart : Statement → Part → Type 0
 IsPart (state name first) (part.State n v) = (name ≡ n) × (first ≡ v)
 IsPart (sense name from) (part.Sense n i) = (name ≡ n) × (from ≡ i)
-IsPart (read name delay writer port at) (part.Read n d w p a) = (name ≡ n) × (delay ≡ pos d) × (writer ≡ w) × (port ≡ p) × (at ≡ pos a)
+IsPart (read name delay writer port at) (part.Read n d w p a) = (name ≡ n) × (delay_of delay ≡ pos d) × (writer ≡ w) × (port ≡ p) × (at ≡ pos a)
 IsPart (a_let name x) (part.Let n e) = (name ≡ n) × IsExprOf e x
 IsPart (a_next name x) (part.Next n e) = (name ≡ n) × IsExprOf e x
 IsPart (out name first x) (part.Out n v e) = (name ≡ n) × (first ≡ v) × IsExprOf e x

@@ -1,6 +1,7 @@
 -- Definitions that public clauses cite.
 pub mod Answers
 pub mod Codes
+pub mod Delays
 pub mod FirstLine
 pub mod Held
 pub mod Limits

@@ -1,6 +1,7 @@
 -- The limits of a document's numbers and counts.
 use Rattle.std.specs.Prelude.{ℕ, ℤ, pos, Bool, true, false, nat_le, ◌&&◌, int_le, List, [], ◌∷◌, length, filter, Option, Some, None, if◌then◌else◌}
 use Rattle.dbp_plan.specs.declared.limits.TheConstants.{MAX_TASKS, MAX_INPUTS, MAX_EVENTS, MAX_READS, MAX_READ_LINES, MAX_OUTS, MAX_BODY, MAX_TIME, MAX_PRIO}
+use Rattle.dbp_plan.specs.Limits.{max_delay}
 use Rattle.dia_lines.specs.declared.fault.Limit.{Limit}
 use Rattle.dia_lines.specs.declared.fault.Limit.TheVariants.{Tasks, Reads, Links, Outs, Inputs, Events, Body}
 use Rattle.dia_lines.specs.Statements.{Statement, Clock, every, on, until, input, event, task, read, out}
@@ -17,12 +18,16 @@ abbrev pub clock_fits : Clock → Bool
 clock_fits (every period offset) = lies_within period 1 MAX_TIME && lies_within offset 0 MAX_TIME
 clock_fits (on name) = true
 
+-- a delay is from 1 on, if it is spelled
+abbrev pub delay_fits : Option ℤ → Bool
+delay_fits delay = option_lies_within delay 1 max_delay
+
 -- each number of the statement is within its limits; the values of an input, a state and an out have none of their own
 abbrev pub numbers_fit : Statement → Bool
 numbers_fit (until end) = lies_within end 0 MAX_TIME
 numbers_fit (task t) =
     clock_fits t.clock && option_lies_within t.prio 0 MAX_PRIO && option_lies_within t.deadline 1 MAX_TIME && lies_within t.cost 1 MAX_TIME
-numbers_fit (read name delay writer port at) = lies_within at 0 MAX_TIME
+numbers_fit (read name delay writer port at) = delay_fits delay && lies_within at 0 MAX_TIME
 numbers_fit _ = true
 
 abbrev pub is_input : Statement → Bool

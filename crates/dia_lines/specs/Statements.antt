@@ -7,9 +7,10 @@ use Rattle.dia_tokens.specs.declared.token.Token.{Token}
 use Rattle.dia_tokens.specs.declared.token.Token.TheVariants.{Name, Number, Symbol, Word}
 use Rattle.dia_tokens.specs.declared.token.Symbol.TheVariants.{Assign, Point}
 use Rattle.dia_tokens.specs.declared.token.Word as words
-use Rattle.dia_tokens.specs.declared.token.Word.TheVariants.{Dbp, Policy as PolicyWord, Fp as FpWord, Edf as EdfWord, Until, Input, Event, Task, Every, From, On, Prio, Deadline, Cost, State, Sense, Let, Next, Read, Pre, At, Out, Then, Trace, Script, Done}
+use Rattle.dia_tokens.specs.declared.token.Word.TheVariants.{Dbp, Policy as PolicyWord, Fp as FpWord, Edf as EdfWord, Until, Input, Event, Task, Every, From, On, Prio, Deadline, Cost, State, Sense, Let, Next, Read, At, Out, Then, Trace, Script, Done}
 use Rattle.dia_exprs.specs.declared.level.Level.TheVariants.{Whole}
 use Rattle.dia_exprs.specs.Grammar.{Spells}
+use Rattle.dia_lines.specs.Delays.{SpellsDelay}
 
 -- when a task occurs: from an offset on with a period, or with an event
 pub data Clock : Type 0 where
@@ -36,7 +37,7 @@ pub data Statement : Type 0 where
   state : List ℕ → ℤ → Statement
   sense : List ℕ → List ℕ → Statement
   -- its name, delay, writer, port and time
-  read : List ℕ → ℤ → List ℕ → List ℕ → ℤ → Statement
+  read : List ℕ → Option ℤ → List ℕ → List ℕ → ℤ → Statement
   a_let : List ℕ → Tree (List ℕ) → Statement
   a_next : List ℕ → Tree (List ℕ) → Statement
   out : List ℕ → ℤ → Tree (List ℕ) → Statement
@@ -60,11 +61,6 @@ pub data SpellsAt : List Token → ℤ → Type 0 where
   at_once : SpellsAt [] (pos 0)
   at_tick : (value : ℤ) → SpellsAt (Word At ∷ Number value ∷ []) value
 
--- `pre` for one occurrence of the writer ago, or nothing for none
-pub data SpellsDelay : List Token → ℤ → Type 0 where
-  direct : SpellsDelay [] (pos 0)
-  delayed : SpellsDelay (Word Pre ∷ []) (pos 1)
-
 -- the tokens of a line are the statement
 pub data IsStatement : List Token → Statement → Type 0 where
   a_blank_line : IsStatement [] nothing
@@ -79,7 +75,7 @@ pub data IsStatement : List Token → Statement → Type 0 where
       → IsStatement (Word Task ∷ Name name ∷ (cs ++ ps ++ ds ++ Word Cost ∷ Number cost ∷ [])) (task (record { name = name; clock = clock; prio = prio; deadline = deadline; cost = cost }))
   a_state : (name : List ℕ) (first : ℤ) → IsStatement (Word State ∷ Name name ∷ Symbol Assign ∷ Number first ∷ []) (state name first)
   a_sense : (name from : List ℕ) → IsStatement (Word Sense ∷ Name name ∷ Symbol Assign ∷ Name from ∷ []) (sense name from)
-  a_read : (name writer port : List ℕ) (pre ats : List Token) (delay at : ℤ) → SpellsDelay pre delay → SpellsAt ats at
+  a_read : (name writer port : List ℕ) (pre ats : List Token) (delay : Option ℤ) (at : ℤ) → SpellsDelay pre delay → SpellsAt ats at
       → IsStatement (Word Read ∷ Name name ∷ Symbol Assign ∷ (pre ++ Name writer ∷ Symbol Point ∷ Name port ∷ ats)) (read name delay writer port at)
   a_let_line : (name : List ℕ) (ts : List Token) (x : Tree (List ℕ)) → Spells Whole ts x
       → IsStatement (Word Let ∷ Name name ∷ Symbol Assign ∷ ts) (a_let name x)

@@ -26,7 +26,8 @@ pub(crate) struct TaskForm {
 #[derive(Clone, Copy)]
 pub(crate) struct ReadForm {
     pub name: Name,
-    pub delay: u32,
+    /// None without `pre`.
+    pub delay: Option<i64>,
     pub task: Name,
     pub port: Name,
     pub at: i64,

@@ -1,8 +1,9 @@
 // What stands in front of tokens, and the tokens behind it; or what all that is left is.
 
-ghost use Rattle.std.specs.Prelude.{◌≡◌, pos};
+ghost use Rattle.std.specs.Prelude.{◌≡◌};
 ghost use Rattle.std.specs.Option.{option_map};
-ghost use Rattle.dia_lines.specs.Forms.{assigned_at, first_at, offset_at, clock_at, prio_at, deadline_at, delay_at, port_at, name_alone as is_name_alone, number_alone as is_number_alone, cost_alone as is_cost_alone, tick_alone as is_tick_alone};
+ghost use Rattle.dia_lines.specs.Forms.{assigned_at, first_at, offset_at, clock_at, prio_at, deadline_at, port_at, name_alone as is_name_alone, number_alone as is_number_alone, cost_alone as is_cost_alone, tick_alone as is_tick_alone};
+ghost use Rattle.dia_lines.specs.Delays.{delay_at};
 ghost use Rattle.dia_lines.specs.FormShapes.{clock_of};
 
 use crate::form::ClockForm;
@@ -73,14 +74,14 @@ pub(crate) fn deadline(tokens: &[Token]) -> (Option<i64>, &[Token])
     }
 }
 
-/// How many occurrences ago is meant: 1 with `pre` in front, else 0.
-pub(crate) fn delay(tokens: &[Token]) -> (u32, &[Token])
-    ensures { (pos result.0, result.1.now) ≡ delay_at tokens.now }
+/// `pre` or `pre K` in front, if it is: 1 or K. And the tokens after it.
+pub fn delay_at(tokens: &[Token]) -> (Option<i64>, &[Token])
+    ensures { (result.0, result.1.now) ≡ delay_at tokens.now }
 {
-    if let [Token::Word(Word::Pre), rest @ ..] = tokens {
-        (1, rest)
-    } else {
-        (0, tokens)
+    match tokens {
+        [Token::Word(Word::Pre), Token::Number(delay), rest @ ..] => (Some(*delay), rest),
+        [Token::Word(Word::Pre), rest @ ..] => (Some(1), rest),
+        _ => (None, tokens),
     }
 }
 

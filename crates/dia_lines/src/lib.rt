@@ -19,9 +19,11 @@ mod text;
 mod trace;
 
 pub use fault::{Limit, LineError, ReadCode};
+pub use fronts::delay_at;
 pub use item::{Decl, Line, Part, RawClock, TaskLine};
 pub use laws::{one_line_fault, one_reading, one_statement};
 pub use line::read_line;
 pub use place::Place;
 pub use position::{Counts, Position};
+pub use ranges::short_delay;
 pub use text::next_line;

@@ -1,13 +1,13 @@
 // The form of a line, by its first word: a function for each word, which takes the tokens behind it.
 
-ghost use Rattle.std.specs.Prelude.{◌≡◌, pos};
+ghost use Rattle.std.specs.Prelude.{◌≡◌};
 ghost use Rattle.std.specs.Option.{option_map};
 ghost use Rattle.dia_lines.specs.Forms.{header_at, policy_at, until_at, input_at, event_at, options_at, task_at, state_at, sense_at, port_read_at, read_at, let_at, next_at, out_at, ending_at, declared_at, line_at, shape_at};
 ghost use Rattle.dia_lines.specs.FormShapes.{clock_of, shape_of};
 
 use crate::form::{ClockForm, Form, ReadForm, TaskForm};
 use crate::fronts::{
-    assigned, clock, cost_alone, deadline, delay, first_value, name_alone, number_alone, port,
+    assigned, clock, cost_alone, deadline, delay_at, first_value, name_alone, number_alone, port,
     prio, tick_alone,
 };
 use dbp_plan::{Name, Policy};
@@ -115,10 +115,10 @@ fn sense<'t>(tokens: &'t [Token]) -> Option<Form<'t>>
     Some(Form::Sense(name, input))
 }
 
-// What is left of a `read` line behind `pre`.
+// What is left of a `read` line after its delay.
 #[tactic(auto, unfolding(crate::specs::Forms::port_read_at))]
-fn port_read<'t>(name: Name, delay: u32, tokens: &'t [Token]) -> Option<Form<'t>>
-    ensures { option_map shape_of result ≡ port_read_at name (pos delay) tokens.now }
+fn port_read<'t>(name: Name, delay: Option<i64>, tokens: &'t [Token]) -> Option<Form<'t>>
+    ensures { option_map shape_of result ≡ port_read_at name delay tokens.now }
 {
     let Some((task, port, rest)) = port(tokens) else {
         return None;
@@ -140,7 +140,7 @@ fn read<'t>(tokens: &'t [Token]) -> Option<Form<'t>>
     let Some((name, behind)) = assigned(tokens) else {
         return None;
     };
-    let (delay, rest) = delay(behind);
+    let (delay, rest) = delay_at(behind);
     port_read(name, delay, rest)
 }
 

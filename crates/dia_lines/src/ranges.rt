@@ -3,13 +3,14 @@
 ghost use Rattle.std.specs.Prelude.{◌≡◌, pos, ◌≤◌, IfSome};
 ghost use Rattle.std.specs.Option.{is_some, option_map};
 ghost use Rattle.dbp_plan.specs.declared.limits.TheConstants.{MAX_TIME as MaxTime, MAX_PRIO as MaxPrio};
-ghost use Rattle.dia_lines.specs.Limits.{lies_within, option_lies_within, clock_fits, numbers_fit};
-ghost use Rattle.dia_lines.specs.Held.{IsClock, IsTaskLine};
-ghost use Rattle.dia_lines.specs.FormShapes.{clock_of, task_of};
+ghost use Rattle.dia_lines.specs.Delays.{delay_of};
+ghost use Rattle.dia_lines.specs.Limits.{lies_within, option_lies_within, delay_fits, clock_fits, numbers_fit};
+ghost use Rattle.dia_lines.specs.Held.{IsClock, IsTaskLine, IsPart};
+ghost use Rattle.dia_lines.specs.FormShapes.{clock_of, task_of, read_of};
 
-use crate::form::{ClockForm, TaskForm};
-use crate::item::{RawClock, TaskLine};
-use dbp_plan::{MAX_PRIO, MAX_TIME};
+use crate::form::{ClockForm, ReadForm, TaskForm};
+use crate::item::{Part, RawClock, TaskLine};
+use dbp_plan::{MAX_DELAY, MAX_PRIO, MAX_TIME};
 
 // The number, where it lies between the two.
 fn within(value: i64, least: u64, greatest: u64) -> Option<u64>
@@ -109,5 +110,36 @@ pub(crate) fn task_line(form: &TaskForm) -> Option<TaskLine>
         prio,
         deadline,
         cost,
+    })
+}
+
+/// The delay in occurrences of the writer, if it is within its limits: 0 if none is given.
+#[tactic(auto, using(crate::proofs::DelayLaws::longest_delay))]
+pub fn short_delay(delay: Option<i64>) -> Option<u32>
+    ensures value { IfSome result (λ n. delay_of delay ≡ pos n) }
+    ensures exact { is_some result ≡ delay_fits delay }
+{
+    match delay {
+        Some(value) => match within(value, 1, u64::from(MAX_DELAY)) {
+            Some(number) => Some(number as u32),
+            None => None,
+        },
+        None => Some(0),
+    }
+}
+
+/// The line that names an out of a task, if its numbers are within their limits.
+pub(crate) fn read_part(form: &ReadForm) -> Option<Part>
+    ensures value { IfSome result (λ p. IsPart (read_of form.now) p) }
+    ensures exact { is_some result ≡ numbers_fit (read_of form.now) }
+{
+    let delay = short_delay(form.delay)?;
+    let at = ticks(form.at)?;
+    Some(Part::Read {
+        name: form.name,
+        delay,
+        task: form.task,
+        port: form.port,
+        at,
     })
 }

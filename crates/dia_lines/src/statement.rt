@@ -18,7 +18,7 @@ use crate::form::{Form, ReadForm, TaskForm};
 use crate::item::{Decl, Line, Part};
 use crate::line_forms::form;
 use crate::place::Place;
-use crate::ranges::{task_line, ticks};
+use crate::ranges::{read_part, task_line, ticks};
 use crate::standing::stands;
 use dbp_plan::{Expr, Name};
 use dia_exprs::expression;
@@ -59,14 +59,8 @@ fn kept_read(form: &ReadForm) -> Result<Line, ReadCode>
     ensures found { IfOk result (λ l. KeepsShape (plain (read_of form.now)) l) }
     ensures fault { IfErr result (λ code. RefusesNumbers (read_of form.now) code) }
 {
-    match ticks(form.at) {
-        Some(at) => Ok(Line::Part(Part::Read {
-            name: form.name,
-            delay: form.delay,
-            task: form.task,
-            port: form.port,
-            at,
-        })),
+    match read_part(form) {
+        Some(part) => Ok(Line::Part(part)),
         None => Err(ReadCode::LimitHit(Limit::Number)),
     }
 }

@@ -1,6 +1,6 @@
 -- The canonical lines of a document's items say the items.
-use Rattle.std.proofs.Common.{◌≡◌, ℕ, pos, zero, suc, ◌+◌, ◌<◌, ◌≤◌, ◌^◌, Bool, true, false, cond, All, List, [], ◌∷◌, ◌++◌, length, Option, Some, None, refl, sym, ap, subst, ◌∙◌, arith, append_assoc}
-use Rattle.std.specs.Prelude.{nat_lt, ◌==◌}
+use Rattle.std.proofs.Common.{◌≡◌, ℕ, pos, zero, suc, ◌+◌, ◌<◌, ◌≤◌, ◌^◌, Bool, true, false, All, List, [], ◌∷◌, ◌++◌, length, Option, Some, None, refl, sym, ap, subst, ◌∙◌, arith, append_assoc}
+use Rattle.std.specs.Prelude.{nat_lt}
 use Rattle.std.specs.List.{AllByRecursion}
 use Rattle.std.specs.Option.{option_map, IfSome}
 use Rattle.std.proofs.lemmas.Bool.Decides.{nat_tests}
@@ -11,7 +11,7 @@ use Rattle.dbp_plan.specs.declared.diagram.Policy.TheVariants.{Fp, Edf}
 use Rattle.dbp_plan.specs.declared.expr.Expr.{Expr}
 use Rattle.dbp_plan.specs.declared.limits.TheConstants.{MAX_NODES, MAX_TIME, MAX_PRIO}
 use Rattle.dbp_plan.specs.Expr.{tree_of}
-use Rattle.dbp_plan.specs.Limits.{max_delay, max_delay-is}
+use Rattle.dbp_plan.specs.Limits.{max_delay, max_delay-le}
 use Rattle.dbp_plan.specs.Tree.{Tree, number, variable, unary, binary, choice, size_of, root_of, nodes_of}
 use Rattle.dbp_plan.specs.TreeLaws.{length-nodes_of}
 use Rattle.dia_tokens.specs.declared.token.Token.{Token}
@@ -37,10 +37,12 @@ use Rattle.dia_lines.specs.declared.item.RawClock.TheVariants.{Every, On}
 use Rattle.dia_lines.specs.declared.item.TaskLine.{TaskLine}
 use Rattle.dia_lines.specs.declared.place.Place.{Place}
 use Rattle.dia_lines.specs.declared.place.Place.TheVariants.{Header}
+use Rattle.dia_lines.specs.Delays.{delay_tokens}
+use Rattle.dia_lines.proofs.DelayLaws.{given_delay, longer-tokens, delay-spelled, each-delay-token}
 use Rattle.dia_lines.specs.Lines.{token_fault, lacks_header, expression_of}
-use Rattle.dia_lines.specs.Statements.{Statement, header, policy, until, trace, script, done, state, sense, fixed_priorities, earliest_deadline, an_until, a_trace, a_script, an_end, a_header, SpellsClock, from_offset, with_event, SpellsOption, left_out, given, SpellsDelay, direct, delayed, at_tick, IsStatement, an_input, an_event, a_task, a_state, a_sense, a_read, a_let_line, a_next_line, an_out}
+use Rattle.dia_lines.specs.Statements.{Statement, header, policy, until, trace, script, done, state, sense, fixed_priorities, earliest_deadline, an_until, a_trace, a_script, an_end, a_header, SpellsClock, from_offset, with_event, SpellsOption, left_out, given, at_tick, IsStatement, an_input, an_event, a_task, a_state, a_sense, a_read, a_let_line, a_next_line, an_out}
 use Rattle.dia_print.specs.ExpressionTokens.{tokens_of}
-use Rattle.dia_print.specs.ItemTokens.{assigned, decl_tokens, clock_tokens, option_tokens, task_tokens, delay_tokens, source_tokens, part_tokens, policy_tokens, until_tokens, header_tokens}
+use Rattle.dia_print.specs.ItemTokens.{assigned, decl_tokens, clock_tokens, option_tokens, task_tokens, source_tokens, part_tokens, policy_tokens, until_tokens, header_tokens}
 use Rattle.dia_print.proofs.ItemStatements.{decl_statement, clock_of, task_statement, part_statement}
 use Rattle.dia_print.specs.Printable.{IsPrintableExpr, IsPrintableDecl, IsPrintableClock, IsPrintablePart, IsPrintableTaskLine}
 use Rattle.dia_print.proofs.ExpressionLaws.{spells-tokens, keeps-tokens, both-parts, each-printable, shallow}
@@ -64,16 +66,11 @@ task-says t =
     a_task t.name (clock_tokens t.clock) (option_tokens word.Prio t.prio) (option_tokens word.Deadline t.deadline) (clock_of t.clock) (option_map pos t.prio) (option_map pos t.deadline) (pos t.cost)
     (clock-says t.clock) (option-says word.Prio t.prio) (option-says word.Deadline t.deadline)
 
-delay-says : (d : ℕ) → d ≤ max_delay → SpellsDelay (delay_tokens d) (pos d)
-delay-says zero h = direct
-delay-says (suc zero) h = delayed
-delay-says (suc (suc d)) h = absurd (omega (arith, h, max_delay-is))
-
 pub part-says : (p : Part) → IsPrintablePart p → IsStatement (part_tokens p) (part_statement p)
 part-says (part.State n v) h = a_state n v
 part-says (part.Sense n i) h = a_sense n i
 part-says (part.Read n d w p a) h =
-    let read = a_read n w p (delay_tokens d) (Word word.At ∷ Number (pos a) ∷ []) (pos d) (pos a) (delay-says d h.1) (at_tick (pos a)) in
+    let read = a_read n w p (delay_tokens d) (Word word.At ∷ Number (pos a) ∷ []) (given_delay d) (pos a) (delay-spelled d) (at_tick (pos a)) in
     subst (λ ts. IsStatement (Word word.Read ∷ Name n ∷ Symbol Assign ∷ ts) (part_statement (part.Read n d w p a))) (sym (append_assoc (delay_tokens d) (Name w ∷ Symbol Point ∷ Name p ∷ []) (Word word.At ∷ Number (pos a) ∷ []))) read
 part-says (part.Let n e) h = a_let_line n (tokens_of (tree_of e)) (tree_of e) (spells-tokens (tree_of e))
 part-says (part.Next n e) h = a_next_line n (tokens_of (tree_of e)) (tree_of e) (spells-tokens (tree_of e))
@@ -118,13 +115,6 @@ task-plain t = (
   ),
 )
 
-no-or-pre : (P : Token → Type 0) (b : Bool) → P (Word word.Pre) → AllByRecursion P (cond b [] (Word word.Pre ∷ []))
-no-or-pre P true h = tt
-no-or-pre P false h = (h, tt)
-
-delay-plain : (d : ℕ) → AllByRecursion IsPlain (delay_tokens d)
-delay-plain d = no-or-pre IsPlain (d == 0) (λ k. refl)
-
 read-plain : (n w p : List ℕ) (d a : ℕ) → AllByRecursion IsPlain (assigned word.Read n ++ (source_tokens d w p ++ Word word.At ∷ Number (pos a) ∷ []))
 read-plain n w p d a = (
   λ k. refl,
@@ -132,7 +122,7 @@ read-plain n w p d a = (
     λ k. refl,
     (
       λ k. refl,
-      both-parts IsPlain (source_tokens d w p) (Word word.At ∷ Number (pos a) ∷ []) (both-parts IsPlain (delay_tokens d) (Name w ∷ Symbol Point ∷ Name p ∷ []) (delay-plain d) (λ k. refl, (λ k. refl, (λ k. refl, tt)))) (λ k. refl, (λ k. refl, tt)),
+      both-parts IsPlain (source_tokens d w p) (Word word.At ∷ Number (pos a) ∷ []) (both-parts IsPlain (delay_tokens d) (Name w ∷ Symbol Point ∷ Name p ∷ []) (each-delay-token IsPlain d (λ k. refl) (λ k. refl)) (λ k. refl, (λ k. refl, (λ k. refl, tt)))) (λ k. refl, (λ k. refl, tt)),
     ),
   ),
 )
@@ -189,16 +179,17 @@ task-keeps t =
     let same : cs ++ (ps ++ (ds ++ costs)) ≡ cs ++ ps ++ ds ++ costs = sym (append_assoc cs ps (ds ++ costs)) ∙ sym (append_assoc (cs ++ ps) ds costs) in
     (λ e. tt, (λ e. tt, subst (KeepsSigns false) same all))
 
-no-or-pre-keeps : (b : Bool) (rest : List Token) → Follows rest → Follows (cond b [] (Word word.Pre ∷ []) ++ rest)
-no-or-pre-keeps true rest f s = f s
-no-or-pre-keeps false rest f s = (λ e. tt, f true)
+delay-keeps : (d : ℕ) (rest : List Token) → Follows rest → Follows (delay_tokens d ++ rest)
+delay-keeps zero rest f s = f s
+delay-keeps (suc zero) rest f s = (λ e. tt, f true)
+delay-keeps (suc (suc d)) rest f s = rw (longer-tokens d) (λ e. tt, (λ e. tt, f false))
 
 read-keeps : (n w p : List ℕ) (d a : ℕ) → KeepsSigns true (assigned word.Read n ++ (source_tokens d w p ++ Word word.At ∷ Number (pos a) ∷ []))
 read-keeps n w p d a =
     let port : List Token = Name w ∷ Symbol Point ∷ Name p ∷ [] in
     let time : List Token = Word word.At ∷ Number (pos a) ∷ [] in
     let last : Follows (port ++ time) = λ s. (λ e. tt, (λ e. tt, (λ e. tt, (λ e. tt, (λ e. tt, tt))))) in
-    (λ e. tt, (λ e. tt, (λ e. tt, subst (KeepsSigns true) (sym (append_assoc (delay_tokens d) port time)) (no-or-pre-keeps (d == 0) (port ++ time) last true))))
+    (λ e. tt, (λ e. tt, (λ e. tt, subst (KeepsSigns true) (sym (append_assoc (delay_tokens d) port time)) (delay-keeps d (port ++ time) last true))))
 
 expression-keeps : (x : Expression) → KeepsSigns true (tokens_of x)
 expression-keeps x = subst (KeepsSigns true) (append-nil (tokens_of x)) (keeps-tokens x [] (λ s. tt))
@@ -237,15 +228,15 @@ task-printable t h =
       ),
     )
 
-read-printable : (n w p : List ℕ) (d a : ℕ) → IsPrintableName n → IsPrintableName w → IsPrintableName p → a ≤ MAX_TIME
+read-printable : (n w p : List ℕ) (d a : ℕ) → IsPrintableName n → d ≤ max_delay → IsPrintableName w → IsPrintableName p → a ≤ MAX_TIME
     → AllByRecursion IsPrintableToken (assigned word.Read n ++ (source_tokens d w p ++ Word word.At ∷ Number (pos a) ∷ []))
-read-printable n w p d a f g h less = (
+read-printable n w p d a f short g h less = (
   tt,
   (
     f,
     (
       tt,
-      both-parts IsPrintableToken (source_tokens d w p) (Word word.At ∷ Number (pos a) ∷ []) (both-parts IsPrintableToken (delay_tokens d) (Name w ∷ Symbol Point ∷ Name p ∷ []) (no-or-pre IsPrintableToken (d == 0) tt) (g, (tt, (h, tt)))) (tt, (small a less, tt)),
+      both-parts IsPrintableToken (source_tokens d w p) (Word word.At ∷ Number (pos a) ∷ []) (both-parts IsPrintableToken (delay_tokens d) (Name w ∷ Symbol Point ∷ Name p ∷ []) (each-delay-token IsPrintableToken d tt (omega (arith, short, max_delay-le))) (g, (tt, (h, tt)))) (tt, (small a less, tt)),
     ),
   ),
 )
@@ -300,7 +291,7 @@ module _ (place : Place) (behind : IsBehindHeader place) where
       plain-line (part_tokens (part.Sense n i)) (sense n i) refl (λ k. refl, (λ k. refl, (λ k. refl, (λ k. refl, tt)))) (a_sense n i)
       (tt, (h.0, (tt, (h.1, tt)))) (λ e. tt, (λ e. tt, (λ e. tt, (λ e. tt, tt))))
   part-line (part.Read n d w p a) h =
-      plain-line (part_tokens (part.Read n d w p a)) (part_statement (part.Read n d w p a)) refl (read-plain n w p d a) (part-says (part.Read n d w p a) h) (read-printable n w p d a h.0 h.2 h.3 h.4) (read-keeps n w p d a)
+      plain-line (part_tokens (part.Read n d w p a)) (part_statement (part.Read n d w p a)) refl (read-plain n w p d a) (part-says (part.Read n d w p a) h) (read-printable n w p d a h.0 h.1 h.2 h.3 h.4) (read-keeps n w p d a)
   part-line (part.Let n e) h =
       let ts = part_tokens (part.Let n e) in
       record {

@@ -9,6 +9,7 @@ use Rattle.dia_lines.specs.declared.item.Part.TheVariants as part
 use Rattle.dia_lines.specs.declared.item.RawClock.{RawClock}
 use Rattle.dia_lines.specs.declared.item.RawClock.TheVariants.{Every, On}
 use Rattle.dia_lines.specs.declared.item.TaskLine.{TaskLine}
+use Rattle.dia_lines.proofs.DelayLaws.{given_delay}
 use Rattle.dia_lines.specs.Statements.{Statement, Clock, every, on, input, event, task, state, sense, read, a_let, a_next, out}
 
 abbrev pub decl_statement : Decl → Statement
@@ -25,7 +26,7 @@ task_statement t = task (record { name = t.name; clock = clock_of t.clock; prio 
 abbrev pub part_statement : Part → Statement
 part_statement (part.State n first) = state n first
 part_statement (part.Sense n from) = sense n from
-part_statement (part.Read n delay writer port at) = read n (pos delay) writer port (pos at)
+part_statement (part.Read n delay writer port at) = read n (given_delay delay) writer port (pos at)
 part_statement (part.Let n e) = a_let n (tree_of e)
 part_statement (part.Next n e) = a_next n (tree_of e)
 part_statement (part.Out n first e) = out n first (tree_of e)

@@ -1,5 +1,5 @@
 -- The tokens of the lines of a document in canonical form.
-use Rattle.std.specs.Prelude.{ℕ, pos, ◌==◌, if◌then◌else◌, List, [], ◌∷◌, ◌++◌, Option, Some, None}
+use Rattle.std.specs.Prelude.{ℕ, pos, List, [], ◌∷◌, ◌++◌, Option, Some, None}
 use Rattle.dbp_plan.specs.declared.diagram.Policy.{Policy}
 use Rattle.dbp_plan.specs.declared.diagram.Policy.TheVariants.{Fp, Edf}
 use Rattle.dbp_plan.specs.Expr.{tree_of}
@@ -8,6 +8,7 @@ use Rattle.dia_tokens.specs.declared.token.Token.TheVariants.{Word, Name, Number
 use Rattle.dia_tokens.specs.declared.token.Word as words
 use Rattle.dia_tokens.specs.declared.token.Word.TheVariants as word
 use Rattle.dia_tokens.specs.declared.token.Symbol.TheVariants.{Assign, Point}
+use Rattle.dia_lines.specs.Delays.{delay_tokens}
 use Rattle.dia_lines.specs.declared.item.Decl.{Decl}
 use Rattle.dia_lines.specs.declared.item.Decl.TheVariants.{Input, Event}
 use Rattle.dia_lines.specs.declared.item.Part.{Part}
@@ -49,10 +50,6 @@ abbrev pub task_tokens : TaskLine → List Token
 task_tokens t =
     Word word.Task ∷ Name t.name ∷ (clock_tokens t.clock ++ option_tokens word.Prio t.prio ++ option_tokens word.Deadline t.deadline
     ++ Word word.Cost ∷ Number (pos t.cost) ∷ [])
-
--- a delay is at most 1 for now
-abbrev pub delay_tokens : ℕ → List Token
-delay_tokens delay = if delay == 0 then [] else Word word.Pre ∷ []
 
 abbrev pub source_tokens : ℕ → List ℕ → List ℕ → List Token
 source_tokens delay writer port = delay_tokens delay ++ Name writer ∷ Symbol Point ∷ Name port ∷ []

@@ -2,7 +2,8 @@
 
 ghost use Rattle.std.specs.Prelude.{◌≡◌, OnOk};
 ghost use Rattle.std.specs.Option.{option_map};
-ghost use Rattle.dia_print.specs.ItemTokens.{policy_tokens, until_tokens, decl_tokens, clock_tokens, option_tokens, task_tokens, delay_tokens, part_tokens, header_tokens, assigned, source_tokens};
+ghost use Rattle.dia_lines.specs.Delays.{delay_tokens};
+ghost use Rattle.dia_print.specs.ItemTokens.{policy_tokens, until_tokens, decl_tokens, clock_tokens, option_tokens, task_tokens, part_tokens, header_tokens, assigned, source_tokens};
 ghost use Rattle.dia_print.specs.Printed.{with_tokens};
 
 use crate::Printer;
@@ -51,8 +52,11 @@ fn push_assigned(printer: &mut Printer, word: Word, name: Name) -> Result<(), No
 fn push_delay(printer: &mut Printer, delay: u32) -> Result<(), NoMemory>
     ensures { OnOk result (printer.new ≡ with_tokens printer.old (delay_tokens delay)) }
 {
-    if delay != 0 {
+    if delay > 0 {
         printer.push(Token::Word(Word::Pre))?;
+    }
+    if delay > 1 {
+        printer.push_count(u64::from(delay))?;
     }
     Ok(())
 }

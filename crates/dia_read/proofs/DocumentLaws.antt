@@ -16,6 +16,7 @@ use Rattle.dia_lines.specs.declared.item.RawClock.{RawClock}
 use Rattle.dia_lines.specs.declared.item.RawClock.TheVariants.{Every, On}
 use Rattle.dia_lines.specs.declared.item.TaskLine.{TaskLine}
 use Rattle.dia_lines.specs.Statements.{Statement, Clock, every, on, input, event, task, state, sense, read, a_let, a_next, out}
+use Rattle.dia_lines.specs.Delays.{delay_of}
 use Rattle.dia_lines.specs.Held.{IsDecl, IsClock, IsTaskLine, IsPart}
 use Rattle.dia_lines.specs.Lines.{Said}
 use Rattle.dia_lines.specs.Text.{lines_of}
@@ -50,7 +51,7 @@ part-one : (s : Statement) (p q : Part) → IsPart s p → IsPart s q → p ≡ 
 part-one (state m v) (part.State n w) (part.State k x) (a, b) (c, d) = cc
 part-one (sense m v) (part.Sense n w) (part.Sense k x) (a, b) (c, d) = cc
 part-one (read m d w q t) (part.Read n e x r u) (part.Read k f y s v) (a, b, c, g, h) (a', b', c', g', h') =
-    let delay = same-pos e f d b b' in
+    let delay = same-pos e f (delay_of d) b b' in
     let time = same-pos u v t h h' in
     cc
 part-one (a_let m x) (part.Let n e) (part.Let k f) (a, b) (c, d) = let same = expr-one x e f b d in cc

@@ -1,19 +1,16 @@
 -- A draft holds what can be printed.
 use Rattle.std.proofs.Common.{◌≡◌, ℕ, ℤ, pos, ◌+◌, ◌≤◌, Bool, true, false, cond, All, List, [], ◌∷◌, ◌++◌, length, filter, Option, Some, None, refl, sym, ap, ◌∙◌, subst, append_assoc, arith, length-append}
-use Rattle.std.specs.Prelude.{nat_le, int_le, ◌&&◌, count_by, sum_by}
+use Rattle.std.specs.Prelude.{nat_le, ◌&&◌, count_by, sum_by}
 use Rattle.std.specs.Option.{IfSome, option_to_list, option_map}
 use Rattle.std.proofs.lemmas.Bool.{and_parts}
 use Rattle.std.proofs.lemmas.Bool.Decides.{nat_tests}
-use Rattle.std.proofs.lemmas.Int.{ints}
 use Rattle.std.proofs.lemmas.List.Elements.{All-push, All-append}
 use Rattle.std.proofs.lemmas.List.Sums.{sum_by-append}
 use Rattle.dbp_plan.proofs.FirstFaults.{test-none}
 use Rattle.dbp_plan.specs.declared.limits.TheConstants.{MAX_TASKS, MAX_INPUTS, MAX_EVENTS, MAX_READS, MAX_READ_LINES, MAX_OUTS, MAX_BODY, MAX_TIME, MAX_PRIO}
 use Rattle.dbp_plan.specs.declared.expr.Expr.{Expr}
-use Rattle.dbp_plan.specs.Limits.{max_delay, max_delay-is}
 use Rattle.dbp_plan.specs.Expr.{IsExprOf}
 use Rattle.dbp_plan.specs.Tree.{Tree}
-use Rattle.dia_tokens.specs.declared.token.Token.{Token}
 use Rattle.dia_tokens.proofs.SpellingLaws.{printable-tokens, spells-again, spelled-again}
 use Rattle.dia_lines.specs.declared.fault.ReadCode.TheVariants.{LimitHit}
 use Rattle.dia_lines.specs.declared.fault.Limit.{Limit}
@@ -27,13 +24,15 @@ use Rattle.dia_lines.specs.declared.item.Part.TheVariants as part
 use Rattle.dia_lines.specs.declared.item.RawClock.{RawClock}
 use Rattle.dia_lines.specs.declared.item.RawClock.TheVariants.{Every, On}
 use Rattle.dia_lines.specs.declared.item.TaskLine.{TaskLine}
-use Rattle.dia_lines.specs.Statements.{Statement, Clock, every, on, nothing, header, policy, until, input, event, task, state, sense, read, a_let, a_next, out, trace, script, done, direct, delayed, IsStatement, a_blank_line, a_read}
+use Rattle.dia_lines.specs.Statements.{Statement, Clock, every, on, nothing, header, policy, until, input, event, task, state, sense, read, a_let, a_next, out, trace, script, done}
 use Rattle.dia_lines.specs.Places.{is_body}
-use Rattle.dia_lines.specs.Limits.{lies_within, option_lies_within, clock_fits, numbers_fit, is_input, is_event, is_task, is_read, is_out, of_this_task, passed_count}
+use Rattle.dia_lines.specs.Limits.{lies_within, option_lies_within, delay_fits, clock_fits, numbers_fit, is_input, is_event, is_task, is_read, is_out, of_this_task, passed_count}
 use Rattle.dia_lines.specs.Lines.{Said, says, row, step, statements, limit_fault, SaysInTrace, an_empty_row, trace_ends, script_begins, a_row, SaysInScript, no_step, script_ends, a_step, Reads, of_the_diagram, of_the_trace, of_the_script}
 use Rattle.dia_lines.specs.Held.{IsDecl, IsClock, IsTaskLine, IsPart, IsKept, IsHeld}
 use Rattle.dia_exprs.specs.Printable.{IsPrintableTree}
 use Rattle.dia_exprs.proofs.PrintableTrees.{printable-nodes}
+use Rattle.dia_lines.proofs.RangeLaws.{within}
+use Rattle.dia_lines.proofs.DelayLaws.{short-delay}
 use Rattle.dia_lines.proofs.PrintableStatements as lines
 use Rattle.dia_lines.proofs.PrintableStatements.{IsPrintableStatement, printable-statement}
 use Rattle.dia_read.specs.declared.document.RawTask.{RawTask}
@@ -59,23 +58,11 @@ below count most e = grind (arith, nat_tests)
 
 -- ---- what a line promises
 
--- the delay of a read
-abbrev pub HasShortDelay : Statement → Type 0
-HasShortDelay (read n d w p a) = lies_within d 0 max_delay ≡ true
-HasShortDelay _ = Unit {0}
-
 -- the numbers and the counts of a statement behind those before it, and its names
 pub record IsSound (before : List Statement) (s : Statement) : Type 0 where
   pub free : IsPrintableStatement s
   pub numbers : numbers_fit s ≡ true
   pub counts : passed_count before s ≡ None
-  pub delay : HasShortDelay s
-
-within : (n least greatest : ℕ) (z : ℤ) → z ≡ pos n → lies_within z least greatest ≡ true → (least ≤ n) × (n ≤ greatest)
-within n least greatest z e h =
-    let at : lies_within (pos n) least greatest ≡ true = subst (λ v. lies_within v least greatest ≡ true) e h in
-    let each = and_parts (int_le (pos least) (pos n)) (int_le (pos n) (pos greatest)) at in
-    (let k = each.0 in grind (arith, ints, nat_tests), let k = each.1 in grind (arith, ints, nat_tests))
 
 decl-prints : (s : Statement) (d : Decl) → IsDecl s d → IsPrintableStatement s → IsPrintableDecl d
 decl-prints (input n v) (Input m w) (a, b) f = (rw (← a) f.0, rw (← b) f.1)
@@ -84,20 +71,22 @@ decl-prints (input n v) (Event m) a f = absurd a
 decl-prints (event n) (Input m w) a f = absurd a
 decl-prints s d a f = absurd a
 
-part-prints : (s : Statement) (p : Part) → IsPart s p → IsPrintableStatement s → numbers_fit s ≡ true → HasShortDelay s → IsPrintablePart p
-part-prints (state n v) (part.State m w) (a, b) f h l = (rw (← a) f.0, rw (← b) f.1)
-part-prints (sense n v) (part.Sense m w) (a, b) f h l = rw (← a, ← b) f
-part-prints (read n d w p at) (part.Read m k t q i) (a, b, c, e, g) f h l = (rw (← a) f.0, (within k 0 max_delay d b l).1, rw (← c) f.1, rw (← e) f.2, (within i 0 MAX_TIME at g h).1)
-part-prints (a_let n x) (part.Let m e) (a, b) f h l = (rw (← a) f.0, printable-expr x e f.1 b)
-part-prints (a_next n x) (part.Next m e) (a, b) f h l = (rw (← a) f.0, printable-expr x e f.1 b)
-part-prints (out n v x) (part.Out m w e) (a, b, c) f h l = (rw (← a) f.0, rw (← b) f.1, printable-expr x e f.2 c)
-part-prints (state n v) p a f h l = absurd a
-part-prints (sense n v) p a f h l = absurd a
-part-prints (read n d w p at) q a f h l = absurd a
-part-prints (a_let n x) p a f h l = absurd a
-part-prints (a_next n x) p a f h l = absurd a
-part-prints (out n v x) p a f h l = absurd a
-part-prints s p a f h l = absurd a
+part-prints : (s : Statement) (p : Part) → IsPart s p → IsPrintableStatement s → numbers_fit s ≡ true → IsPrintablePart p
+part-prints (state n v) (part.State m w) (a, b) f h = (rw (← a) f.0, rw (← b) f.1)
+part-prints (sense n v) (part.Sense m w) (a, b) f h = rw (← a, ← b) f
+part-prints (read n d w p at) (part.Read m k t q i) (a, b, c, e, g) f h =
+    let each = and_parts (delay_fits d) (lies_within at 0 MAX_TIME) h in
+    (rw (← a) f.0, short-delay k d b each.0, rw (← c) f.1, rw (← e) f.2, (within i 0 MAX_TIME at g each.1).1)
+part-prints (a_let n x) (part.Let m e) (a, b) f h = (rw (← a) f.0, printable-expr x e f.1 b)
+part-prints (a_next n x) (part.Next m e) (a, b) f h = (rw (← a) f.0, printable-expr x e f.1 b)
+part-prints (out n v x) (part.Out m w e) (a, b, c) f h = (rw (← a) f.0, rw (← b) f.1, printable-expr x e f.2 c)
+part-prints (state n v) p a f h = absurd a
+part-prints (sense n v) p a f h = absurd a
+part-prints (read n d w p at) q a f h = absurd a
+part-prints (a_let n x) p a f h = absurd a
+part-prints (a_next n x) p a f h = absurd a
+part-prints (out n v x) p a f h = absurd a
+part-prints s p a f h = absurd a
 
 option-within : (o : Option ℕ) (z : Option ℤ) (least greatest : ℕ) → z ≡ option_map pos o → option_lies_within z least greatest ≡ true → IfSome o (λ n. (least ≤ n) × (n ≤ greatest))
 option-within None z least greatest e h = tt
@@ -316,9 +305,9 @@ still-few false count most h k = omega arith
 this-task : (s : Statement) (ss : List Statement) → is_task s ≡ false → of_this_task (s ∷ ss) ≡ s ∷ of_this_task ss
 this-task s ss e = rw e refl
 
-part-line-more : (ss : List Statement) (s : Statement) (x : Part) (d : Draft) (n : ℕ) (t : RawTask) → d.tasks.latest ≡ Some t → Prints ss d → IsPart s x → IsPrintableStatement s → numbers_fit s ≡ true → HasShortDelay s → HasCounts ss s
+part-line-more : (ss : List Statement) (s : Statement) (x : Part) (d : Draft) (n : ℕ) (t : RawTask) → d.tasks.latest ≡ Some t → Prints ss d → IsPart s x → IsPrintableStatement s → numbers_fit s ≡ true → HasCounts ss s
     → Prints (s ∷ ss) (drafted d n [] (line.Part x))
-part-line-more ss s x d n t found p i f h l c =
+part-line-more ss s x d n t found p i f h c =
     let k = part-kind s x i in
     let latest : IsLatest ss t = subst (λ (o : Option RawTask). IfSome o (IsLatest ss)) found p.latest in
     let here = of_this_task ss in
@@ -342,7 +331,7 @@ part-line-more ss s x d n t found p i f h l c =
       latest = rw found (record {
         prints = record {
           line = latest.prints.line;
-          parts = All-push IsPrintablePart t.parts x latest.prints.parts (part-prints s x i f h l);
+          parts = All-push IsPrintablePart t.parts x latest.prints.parts (part-prints s x i f h);
           body = omega (arith, size, c.body k.body, latest.body);
           reads = rw reads (still-few (is_read s) (reads_of t) MAX_READS latest_reads (λ e. omega (arith, c.reads e, latest.reads)));
           outs = rw outs (still-few (is_out s) (count_by is_out_part t.parts) MAX_OUTS latest_outs (λ e. omega (arith, c.outs e, latest.outs)));
@@ -399,7 +388,7 @@ prints-stated ss script line.Script d n p i k h = same-statement ss script d (dr
 prints-stated ss done line.Done d n p i k h = same-statement ss done d (drafted d n [] line.Done) p refl refl refl refl refl refl refl p.until refl refl
 prints-stated ss s (line.Decl x) d n p i k h = decl-more ss s x d n p (kept-decl s x k) i.free (counts-of ss s i.counts)
 prints-stated ss s (line.Task t) d n p i k h = task-line-more ss s t d n p (kept-task s t k) i.free i.numbers (counts-of ss s i.counts)
-prints-stated ss s (line.Part x) d n p i k h = part-line-more ss s x d n h.0 h.1 p (kept-part s x k) i.free i.numbers i.delay (counts-of ss s i.counts)
+prints-stated ss s (line.Part x) d n p i k h = part-line-more ss s x d n h.0 h.1 p (kept-part s x k) i.free i.numbers (counts-of ss s i.counts)
 prints-stated ss s l d n p i k h = absurd k
 
 -- a section's line leaves the items
@@ -486,20 +475,14 @@ fault-free ss s e = go (numbers_fit s) (passed_count ss s) refl refl e
     go true (Some l) n c e = absurd cc
     go false o n c e = absurd cc
 
-short-delay : (ts : List Token) (s : Statement) → IsStatement ts s → HasShortDelay s
-short-delay ts s (a_read n w p pre ats d at direct t) = rw max_delay-is refl
-short-delay ts s (a_read n w p pre ats d at delayed t) = rw max_delay-is refl
-short-delay ts s a_blank_line = tt
-short-delay ts s i = tt
-
 pub sound-line : (before : List Said) (bytes : List ℕ) (x : Said) → Reads before bytes x → IsSoundLine (statements before) x
 sound-line before bytes x (of_the_diagram b s e i) =
     let free = fault-free (statements before) s i.within in
-    record { free = printable-statement i.tokens s i.stands.form (printable-tokens b i.tokens i.spelled); numbers = free.0; counts = free.1; delay = short-delay i.tokens s i.stands.form }
-sound-line before bytes x (of_the_trace b s e (an_empty_row c i)) = record { free = tt; numbers = refl; counts = refl; delay = tt }
-sound-line before bytes x (of_the_trace b s e (trace_ends c i)) = record { free = tt; numbers = refl; counts = refl; delay = tt }
-sound-line before bytes x (of_the_trace b s e (script_begins c i)) = record { free = tt; numbers = refl; counts = refl; delay = tt }
+    record { free = printable-statement i.tokens s i.stands.form (printable-tokens b i.tokens i.spelled); numbers = free.0; counts = free.1 }
+sound-line before bytes x (of_the_trace b s e (an_empty_row c i)) = record { free = tt; numbers = refl; counts = refl }
+sound-line before bytes x (of_the_trace b s e (trace_ends c i)) = record { free = tt; numbers = refl; counts = refl }
+sound-line before bytes x (of_the_trace b s e (script_begins c i)) = record { free = tt; numbers = refl; counts = refl }
 sound-line before bytes x (of_the_trace b s e (a_row c i j)) = a_row c i j
-sound-line before bytes x (of_the_script b s e (no_step c i)) = record { free = tt; numbers = refl; counts = refl; delay = tt }
-sound-line before bytes x (of_the_script b s e (script_ends c i)) = record { free = tt; numbers = refl; counts = refl; delay = tt }
+sound-line before bytes x (of_the_script b s e (no_step c i)) = record { free = tt; numbers = refl; counts = refl }
+sound-line before bytes x (of_the_script b s e (script_ends c i)) = record { free = tt; numbers = refl; counts = refl }
 sound-line before bytes x (of_the_script b s e (a_step c u ts i n m k)) = a_step u u ts (spells-again c u ts i k) n m (spelled-again c u k)

@@ -1,11 +1,9 @@
 -- The canonical text of a document spells the document.
 use Rattle.std.proofs.Common.{◌≡◌, ℕ, pos, ◌+◌, ◌≤◌, Bool, true, false, cond, List, [], ◌∷◌, ◌++◌, codes, length, Option, Some, None, refl, sym, ap, subst, ◌∙◌, arith, append_assoc, length-append}
-use Rattle.std.specs.Prelude.{int_le, ◌&&◌, count_by, sum_by}
+use Rattle.std.specs.Prelude.{◌&&◌, count_by, sum_by}
 use Rattle.std.specs.List.{AllByRecursion, list_all, flat_map}
 use Rattle.std.specs.Option.{IfSome, option_map}
 use Rattle.std.proofs.lemmas.Bool.{and_from}
-use Rattle.std.proofs.lemmas.Bool.Decides.{nat_tests}
-use Rattle.std.proofs.lemmas.Int.{ints}
 use Rattle.std.proofs.lemmas.List.{append-nil}
 use Rattle.std.proofs.lemmas.List.Elements.{recursion_from_All}
 use Rattle.std.proofs.lemmas.List.Sums.{sum_by-append, sum_by-cons}
@@ -29,7 +27,7 @@ use Rattle.dia_lines.specs.declared.place.Place.{Place}
 use Rattle.dia_lines.specs.declared.place.Place.TheVariants.{Header, Policy as PolicyPlace, Until, Declarations, Body as BodyPlace, Trace, Script, Ended}
 use Rattle.dia_lines.specs.Statements.{Statement, header, policy, until, trace, script, done}
 use Rattle.dia_lines.specs.Places.{leads}
-use Rattle.dia_lines.specs.Limits.{lies_within, option_lies_within, clock_fits, numbers_fit, passed_count}
+use Rattle.dia_lines.specs.Limits.{lies_within, option_lies_within, delay_fits, clock_fits, numbers_fit, passed_count}
 use Rattle.dia_lines.specs.Lines.{says, row, step, keeps_lines, of_the_trace, of_the_script, SaysInTrace, trace_ends, script_begins, SaysInScript, script_ends, a_step}
 use Rattle.dia_lines.specs.Held.{IsClock, IsKept}
 use Rattle.dia_lines.specs.Sections.{IsAlone}
@@ -37,6 +35,8 @@ use Rattle.dia_lines.specs.Text.{is_inside}
 use Rattle.dia_print.specs.ItemTokens.{header_tokens, policy_tokens, until_tokens, decl_tokens, task_tokens, part_tokens}
 use Rattle.dia_print.proofs.ItemStatements.{decl_statement, clock_of, task_statement, part_statement}
 use Rattle.dia_print.proofs.ItemLaws.{IsBehindHeader, header-line, policy-line, until-line, decl-line, task-line, part-line, trace-line, script-line, done-line}
+use Rattle.dia_lines.proofs.DelayLaws.{given_delay, delay-given, short-given}
+use Rattle.dia_lines.proofs.RangeLaws.{fits}
 use Rattle.dia_lines.proofs.TraceLaws.{all_allowed}
 use Rattle.dia_read.specs.declared.document.Body.{Body}
 use Rattle.dia_read.specs.declared.document.Doc.{Doc}
@@ -60,9 +60,6 @@ abbrev content : Policy → ℕ → List Decl → Tasks → Section → Section 
 content p end ds ts tr sc = record { policy = p; until = end; decls = ds; tasks = ts; trace = tr; script = sc; lines = empty_draft.lines }
 
 -- ---- numbers
-
-fits : (n least greatest : ℕ) → least ≤ n → n ≤ greatest → lies_within (pos n) least greatest ≡ true
-fits n least greatest h k = and_from (int_le (pos least) (pos n)) (int_le (pos n) (pos greatest)) (grind (arith, ints, nat_tests)) (grind (arith, ints, nat_tests))
 
 clock-fits : (c : RawClock) → IsPrintableClock c → clock_fits (clock_of c) ≡ true
 clock-fits (Every p o) h = and_from (lies_within (pos p) 1 MAX_TIME) (lies_within (pos o) 0 MAX_TIME) (fits p 1 MAX_TIME h.0 h.1) (fits o 0 MAX_TIME (omega arith) h.2)
@@ -91,7 +88,7 @@ decl-fits (Event n) = refl
 part-fits : (p : Part) → IsPrintablePart p → numbers_fit (part_statement p) ≡ true
 part-fits (part.State n v) h = refl
 part-fits (part.Sense n i) h = refl
-part-fits (part.Read n d w p a) h = fits a 0 MAX_TIME (omega arith) h.4
+part-fits (part.Read n d w p a) h = and_from (delay_fits (given_delay d)) (lies_within (pos a) 0 MAX_TIME) (short-given d h.1) (fits a 0 MAX_TIME (omega arith) h.4)
 part-fits (part.Let n e) h = refl
 part-fits (part.Next n e) h = refl
 part-fits (part.Out n v e) h = refl
@@ -112,7 +109,7 @@ task-kept t = (refl, clock-kept t.clock, refl, refl, refl)
 part-kept : (p : Part) → IsKept (part_statement p) (line.Part p)
 part-kept (part.State n v) = (refl, refl)
 part-kept (part.Sense n i) = (refl, refl)
-part-kept (part.Read n d w p a) = (refl, refl, refl, refl, refl)
+part-kept (part.Read n d w p a) = (refl, delay-given d, refl, refl, refl)
 part-kept (part.Let n e) = (refl, e.tree.1)
 part-kept (part.Next n e) = (refl, e.tree.1)
 part-kept (part.Out n v e) = (refl, refl, e.tree.1)
