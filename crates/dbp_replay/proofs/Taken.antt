@@ -14,6 +14,7 @@ use Rattle.dbp_rules.specs.Rules.{IsNamed, IsStep, hears, next, refusal}
 use Rattle.dbp_rules.specs.Wired.{wiring_of}
 use Rattle.dbp_rules.proofs.LeadsLaws.{answer_allowed, answer_refused, leads_more}
 use Rattle.dbp_plan.specs.declared.plan.Plan.{Plan}
+use Rattle.dbp_replay.proofs.OneReplay.{text-not-refused}
 use Rattle.dbp_replay.specs.Places.{IsThere}
 use Rattle.dbp_replay.specs.Replays.{AreTaken, IsIllegal, IsReplay, first, taken_text, with_heard}
 
@@ -83,3 +84,7 @@ taken-there p count steps taken t there = subst (All (λ x. IsThere p.diagram x.
 
 pub taken-replay : (p : Plan) (count : Count) (steps : List Step) (taken : List (Step × Heard)) (text : List ℕ) → AreTaken p count steps taken → text ≡ taken_text p.diagram taken → IsReplay p count steps text
 taken-replay p count steps taken text t is = record { state = t.state; leads = t.leads; told = is ∙ ap (taken_text p.diagram) t.told }
+
+pub taken-not-refused : (p : Plan) (count : Count) (steps : List Step) (taken : List (Step × Heard)) (number : ℕ) (why : Illegal) → AreTaken p count steps taken → IsIllegal p count steps number why → ⊥
+taken-not-refused p count steps taken number why t illegal =
+    text-not-refused p count steps (taken_text p.diagram taken) number why (taken-replay p count steps taken (taken_text p.diagram taken) t refl) illegal

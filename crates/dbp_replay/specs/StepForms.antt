@@ -1,15 +1,15 @@
 -- The lines of a script: their forms, and the steps that they name in a diagram.
-use Rattle.std.specs.Prelude.{ℕ, ℤ, pos, negsuc, ◌^◌, ◌==◌, ◌&&◌, Bool, nat_le, nat_lt, if◌then◌else◌, codes, List, [], ◌∷◌, length, Option, Some, None, Result, Ok, Err}
+use Rattle.std.specs.Prelude.{ℕ, ℤ, pos, negsuc, ◌^◌, ◌==◌, ◌&&◌, Bool, nat_lt, if◌then◌else◌, codes, List, [], ◌∷◌, length, Option, Some, None, Result, Ok, Err}
 use Rattle.std.specs.List.{find, position_or_len}
 use Rattle.std.specs.Str.{bytes_eq}
 use Rattle.dbp_rules.specs.declared.step.Step.{Step}
 use Rattle.dbp_rules.specs.declared.step.Step.TheVariants as step
 use Rattle.dbp_plan.specs.declared.diagram.Diagram.{Diagram}
 use Rattle.dbp_plan.specs.declared.diagram.Link.{Link}
-use Rattle.dbp_plan.specs.Limits.{max_delay}
+use Rattle.dia_lines.specs.Delays.{delay_at}
+use Rattle.dia_lines.specs.Limits.{delay_fits}
 use Rattle.dia_tokens.specs.declared.token.Token.{Token}
 use Rattle.dia_tokens.specs.declared.token.Token.TheVariants as token
-use Rattle.dia_tokens.specs.declared.token.Word.TheVariants.{Pre}
 use Rattle.dia_tokens.specs.Words.{word_text}
 use Rattle.dbp_replay.specs.Places.{task_in}
 use Rattle.dbp_replay.specs.declared.fail.ScriptCode.{ScriptCode}
@@ -61,26 +61,25 @@ abbrev pub slot_of : ℤ → Option Operand
 slot_of (pos n) = if nat_lt n (2 ^ 32) then Some (operand.Slot n) else None
 slot_of (negsuc n) = None
 
--- a delay that is written as a number is from 1 to `max_delay`
-abbrev pub is_delay : ℕ → Bool
-is_delay n = nat_lt 0 n && nat_le n max_delay
+-- the number of a delay that is within its limits
+abbrev pub small_delay : Option ℤ → ℕ
+small_delay (Some (pos n)) = n
+small_delay _ = 0
 
-abbrev pub delay_of : ℤ → Option ℕ
-delay_of (pos n) = if is_delay n then Some n else None
-delay_of (negsuc n) = None
+-- a link with the delay, if that is within its limits
+abbrev pub link_of : Option ℤ → List ℕ → Option Operand
+link_of delay writer = if delay_fits delay then Some (operand.Link (small_delay delay) writer) else None
 
-abbrev pub link_of : Option ℕ → List ℕ → Option Operand
-link_of None writer = None
-link_of (Some delay) writer = Some (operand.Link delay writer)
+-- a delay as documents have it, and then the writer
+abbrev pub writer_of : Option ℤ × List Token → Option Operand
+writer_of (delay, token.Name w ∷ []) = link_of delay w
+writer_of _ = None
 
--- what the tokens after the task are: before the writer stands nothing for a direct link, `pre` for the delay 1, and
--- `pre N` for the delay N
+-- what the tokens after the task are
 abbrev pub operand_of : Takes → List Token → Option Operand
 operand_of Nothing [] = Some operand.Nothing
 operand_of Slot (token.Number z ∷ []) = slot_of z
-operand_of Writer (token.Name w ∷ []) = Some (operand.Link 0 w)
-operand_of Writer (token.Word Pre ∷ token.Name w ∷ []) = Some (operand.Link 1 w)
-operand_of Writer (token.Word Pre ∷ token.Number z ∷ token.Name w ∷ []) = link_of (delay_of z) w
+operand_of Writer ts = writer_of (delay_at ts)
 operand_of Read (token.Name r ∷ []) = Some (operand.Read r)
 operand_of Port (token.Name p ∷ []) = Some (operand.Port p)
 operand_of _ _ = None

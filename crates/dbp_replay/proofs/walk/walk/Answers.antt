@@ -1,4 +1,4 @@
-use Rattle.std.proofs.Common.{◌≡◌, ◌∷◌, ◌++◌, [], get_or, slice_get, Some, Ok, Err, refl}
+use Rattle.std.proofs.Common.{◌≡◌, ◌∙◌, ◌∷◌, ◌++◌, [], get_or, slice_get, Some, Ok, Err, refl, rules}
 use Rattle.std.proofs.lemmas.Option.{slice_get-get_or}
 use Rattle.dbp_core.specs.Cores.{count_in, plan_in, state_in}
 use Rattle.dbp_rules.specs.declared.step.Step.TheVariants.{Seen}
@@ -25,3 +25,22 @@ returns-in-Err-clause-illegal c =
     let here : slice_get steps c.loop-place.place ≡ Some e = slice_get-get_or steps c.loop-place.place (Seen 0) c.loop-place-test.true in
     refused-at (plan_in c.args.core.now) (count_in c.args.core.now) steps c.loop-place.place (state_in c.loop-place.core) (state_in c.step.new.self) c.loop-place.taken.items e c.in-Err.why i.so_far here
     (same-step (plan_in c.loop-place.core) (plan_in c.args.core.now) (count_in c.loop-place.core) (count_in c.args.core.now) (state_in c.loop-place.core) (state_in c.step.new.self) e (Err c.in-Err.why) i.plan i.count c.in-Err.ensures.step)
+
+pub loop-place-preserved : goal.loop-place-preserved
+loop-place-preserved c =
+    let p = plan_in c.args.core.now in
+    let steps = c.args.steps.now in
+    let e = get_or steps c.loop-place.place (Seen 0) in
+    let h = c.in-Ok.heard in
+    let i = c.loop-place.invariant in
+    let here : slice_get steps c.loop-place.place ≡ Some e = slice_get-get_or steps c.loop-place.place (Seen 0) c.loop-place-test.true in
+    let named : IsNamed p.diagram e = (all_place (IsThere p.diagram) steps c.loop-place.place e c.requires.there here).named in
+    let added : c.push.new.self.items ≡ c.loop-place.taken.items ++ (e, h) ∷ [] = search rules in
+    record {
+      plan = c.in-Ok.ensures.plan ∙ i.plan;
+      count = c.in-Ok.ensures.count ∙ i.count;
+      so_far = taken-more p (count_in c.args.core.now) steps c.loop-place.place (state_in c.loop-place.core) (state_in c.step.new.self) c.loop-place.taken.items c.push.new.self.items e h i.so_far here named
+          (same-step (plan_in c.loop-place.core) (plan_in c.args.core.now) (count_in c.loop-place.core) (count_in c.args.core.now) (state_in c.loop-place.core) (state_in c.step.new.self) e (Ok h) i.plan i.count c.in-Ok.ensures.step) added;
+      filled = search rules;
+      room = search rules;
+    }
