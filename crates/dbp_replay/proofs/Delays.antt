@@ -2,7 +2,6 @@
 use Rattle.std.proofs.Common.{◌≡◌, ℕ, ℤ, pos, negsuc, true, false, List, Option, Some, None, refl, sym}
 use Rattle.dia_lines.specs.Delays.{delay_of}
 use Rattle.dia_lines.specs.Limits.{delay_fits}
-use Rattle.dbp_replay.specs.declared.form.Operand.{Operand}
 use Rattle.dbp_replay.specs.declared.form.Operand.TheVariants as operand
 use Rattle.dbp_replay.specs.StepForms.{link_of, small_delay}
 
