@@ -1,5 +1,5 @@
 -- The diagram of a document has names.
-use Rattle.std.proofs.Common.{◌≡◌, ◌≢◌, ℕ, suc, ◌<◌, ◌≤◌, Bool, true, false, All, List, [], ◌∷◌, ◌++◌, take, map, get_or, slice_get, Option, Some, None, refl, sym, ap, ◌∙◌, subst, arith}
+use Rattle.std.proofs.Common.{◌≡◌, ◌≢◌, ℕ, suc, ◌<◌, Bool, true, false, All, List, [], ◌∷◌, ◌++◌, take, map, get_or, slice_get, Option, Some, None, refl, sym, ap, ◌∙◌, subst, arith}
 use Rattle.std.specs.Prelude.{AllPairs, if◌then◌else◌}
 use Rattle.std.specs.List.{flat_map, list_any}
 use Rattle.std.specs.Str.{bytes_eq}
@@ -11,7 +11,6 @@ use Rattle.std.proofs.lemmas.Option.{slice_get-get_or}
 use Rattle.std.proofs.lemmas.Slice.Eq.{bytes_eq-Decides}
 use Rattle.dbp_plan.specs.declared.diagram.Diagram.{Diagram}
 use Rattle.dbp_plan.specs.declared.diagram.Task.{Task}
-use Rattle.dbp_plan.specs.Limits.{max_delay-is}
 use Rattle.dbp_plan.specs.Places.{all_place, take_place}
 use Rattle.dbp_plan.specs.NameLists.{is_among}
 use Rattle.dia_tokens.specs.Printable.{IsPrintableName}
@@ -159,5 +158,5 @@ checked-names doc d printable lines checked =
       reads = reads-named doc.body raw printable fine is;
       outs = outs-named doc.body raw printable fine is;
       links = whole.one_link;
-      delays = subst (λ most. All (λ l. l.delay ≤ most) raw.links) max_delay-is whole.delays;
+      delays = whole.delays;
     })

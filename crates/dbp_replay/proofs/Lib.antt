@@ -1,5 +1,6 @@
 pub mod Taken
 pub mod There
+pub mod Delays
 pub mod KeptSteps
 pub mod OneScript
 pub mod OneReplay

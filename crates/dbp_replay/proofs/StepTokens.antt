@@ -1,12 +1,17 @@
 -- A printed step spells tokens that name the step.
 use Rattle.std.proofs.Common.{◌≡◌, ℕ, pos, zero, suc, ◌<◌, ◌≤◌, ◌^◌, All, false, List, [], ◌∷◌, ◌++◌, Some, Ok, refl, sym, ap, ◌∙◌, subst, arith}
+use Rattle.std.specs.Prelude.{◌==◌, codes}
 use Rattle.std.specs.Fmt.{decimal}
 use Rattle.std.proofs.lemmas.Bool.{lt-ltb}
+use Rattle.std.proofs.lemmas.Bool.Decides.{nat_tests}
 use Rattle.std.proofs.lemmas.List.Elements.{All-cons, All-nil}
 use Rattle.dbp_rules.specs.declared.step.Step.{Step}
 use Rattle.dbp_rules.specs.declared.step.Step.TheVariants as step
 use Rattle.dbp_plan.specs.declared.diagram.Diagram.{Diagram}
+use Rattle.dbp_plan.specs.Limits.{max_delay, max_delay-le}
 use Rattle.dbp_plan.specs.Lookups.{no_link}
+use Rattle.dia_lines.specs.Delays.{delay_at, delay_tokens}
+use Rattle.dia_lines.proofs.DelayLaws.{given_delay, longer-tokens, short-given}
 use Rattle.dia_tokens.specs.declared.edge.Edge.TheVariants.{Loose}
 use Rattle.dia_tokens.specs.declared.token.Token.{Token}
 use Rattle.dia_tokens.specs.declared.token.Token.TheVariants as token
@@ -23,7 +28,7 @@ use Rattle.dbp_replay.specs.declared.kind.Takes.TheVariants.{Nothing, Slot, Writ
 use Rattle.dbp_replay.specs.Names.{HasNames, HasSlotNumber}
 use Rattle.dbp_replay.specs.Places.{IsThere, link_in, port_name, read_name, task_in, task_of}
 use Rattle.dbp_replay.specs.Scripts.{Says}
-use Rattle.dbp_replay.specs.StepForms.{form_of, named_step, number_of, step_numbered, of_kind, of_task, operand_of, step_with, with_operand}
+use Rattle.dbp_replay.specs.StepForms.{form_of, named_step, number_of, step_numbered, of_kind, of_task, operand_of, small_delay, step_with, with_operand, writer_of}
 use Rattle.dbp_replay.specs.Texts.{delay_words, operand_words, spaced_words, step_text}
 use Rattle.dbp_rules.specs.StepKinds.{kind_of}
 use Rattle.dbp_replay.proofs.FirstPlaces.{link-place, port-place, port-printable, read-place, read-printable, task-place, task-printable}
@@ -59,16 +64,49 @@ one-name takes n o printable read = record {
   read = read;
 }
 
-writer : (delay : ℕ) (n : List ℕ) → delay ≤ 1 → IsPrintableName n → IsOperand Writer (delay_words delay ++ n ∷ []) (operand.Link delay n)
-writer zero n short printable = one-name Writer n (operand.Link 0 n) printable refl
-writer (suc zero) n short printable = record {
-  tokens = token.Word Pre ∷ token.Name n ∷ [];
-  text = refl;
-  printable = All-cons IsPrintableToken (token.Word Pre) (token.Name n ∷ []) tt (All-cons IsPrintableToken (token.Name n) [] printable (All-nil IsPrintableToken));
-  unsigned = (λ _. tt, (λ _. tt, tt));
-  read = refl;
+-- the words of a delay above 1; its comparisons don't compute
+longer-words : (d : ℕ) → delay_words (suc (suc d)) ≡ codes "pre" ∷ decimal (suc (suc d)) ∷ []
+longer-words d =
+    let some : (suc (suc d) == 0) ≡ false = grind (arith, nat_tests) in
+    let more : (suc (suc d) == 1) ≡ false = grind (arith, nat_tests) in
+    rw (some, more) refl
+
+-- the tokens of a delay before a name
+delay-text : (d : ℕ) (n : List ℕ) → spaced_words (delay_words d ++ n ∷ []) ≡ text_behind Loose (delay_tokens d ++ token.Name n ∷ [])
+delay-text zero n = refl
+delay-text (suc zero) n = refl
+delay-text (suc (suc d)) n = rw (longer-words d, longer-tokens d) refl
+
+delay-again : (d : ℕ) (n : List ℕ) → delay_at (delay_tokens d ++ token.Name n ∷ []) ≡ (given_delay d, token.Name n ∷ [])
+delay-again zero n = refl
+delay-again (suc zero) n = refl
+delay-again (suc (suc d)) n = rw (longer-tokens d) refl
+
+small-given : (d : ℕ) → small_delay (given_delay d) ≡ d
+small-given zero = refl
+small-given (suc d) = refl
+
+delay-printable : (d : ℕ) (n : List ℕ) → d ≤ max_delay → IsPrintableName n → All IsPrintableToken (delay_tokens d ++ token.Name n ∷ [])
+delay-printable zero n short printable = All-cons IsPrintableToken (token.Name n) [] printable (All-nil IsPrintableToken)
+delay-printable (suc zero) n short printable = All-cons IsPrintableToken (token.Word Pre) (token.Name n ∷ []) tt (All-cons IsPrintableToken (token.Name n) [] printable (All-nil IsPrintableToken))
+delay-printable (suc (suc d)) n short printable =
+    let number : IsPrintableToken (token.Number (pos (suc (suc d)))) = omega (arith, short, max_delay-le) in
+    rw (longer-tokens d) (All-cons IsPrintableToken (token.Word Pre) (token.Number (pos (suc (suc d))) ∷ token.Name n ∷ []) tt
+    (All-cons IsPrintableToken (token.Number (pos (suc (suc d)))) (token.Name n ∷ []) number (All-cons IsPrintableToken (token.Name n) [] printable (All-nil IsPrintableToken))))
+
+delay-unsigned : (d : ℕ) (n : List ℕ) → KeepsSigns false (delay_tokens d ++ token.Name n ∷ [])
+delay-unsigned zero n = (λ _. tt, tt)
+delay-unsigned (suc zero) n = (λ _. tt, (λ _. tt, tt))
+delay-unsigned (suc (suc d)) n = rw (longer-tokens d) (λ _. tt, (λ _. tt, (λ _. tt, tt)))
+
+writer : (delay : ℕ) (n : List ℕ) → delay ≤ max_delay → IsPrintableName n → IsOperand Writer (delay_words delay ++ n ∷ []) (operand.Link delay n)
+writer delay n short printable = record {
+  tokens = delay_tokens delay ++ token.Name n ∷ [];
+  text = delay-text delay n;
+  printable = delay-printable delay n short printable;
+  unsigned = delay-unsigned delay n;
+  read = ap writer_of (delay-again delay n) ∙ rw (short-given delay short, small-given delay) refl;
 }
-writer (suc (suc delay)) n short printable = absurd (omega (arith, short))
 
 slot-number : (slot : ℕ) → slot < 2 ^ 32 → IsOperand Slot (decimal slot ∷ []) (operand.Slot slot)
 slot-number slot small = record {

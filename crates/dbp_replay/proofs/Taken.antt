@@ -1,6 +1,7 @@
 -- Steps taken so far.
-use Rattle.std.proofs.Common.{◌≡◌, ℕ, ◌+◌, List, [], ◌∷◌, ◌++◌, take, length, slice_get, Some, Result, Ok, Err, refl, sym, ap, ◌∙◌, subst, arith, append_assoc}
-use Rattle.std.proofs.lemmas.List.{append-nil, take_all}
+use Rattle.std.proofs.Common.{◌≡◌, ℕ, ◌+◌, All, List, [], ◌∷◌, ◌++◌, take, length, slice_get, Some, Result, Ok, Err, refl, sym, ap, ◌∙◌, subst, arith}
+use Rattle.std.proofs.lemmas.List.{take_all}
+use Rattle.std.proofs.lemmas.List.Elements.{All-cons, All-head, All-nil, All-tail}
 use Rattle.dbp_plan.proofs.ListParts.{take_push}
 use Rattle.dbp_rules.specs.declared.step.Count.{Count}
 use Rattle.dbp_rules.specs.declared.step.Heard.{Heard}
@@ -13,47 +14,45 @@ use Rattle.dbp_rules.specs.Rules.{IsNamed, IsStep, hears, next, refusal}
 use Rattle.dbp_rules.specs.Wired.{wiring_of}
 use Rattle.dbp_rules.proofs.LeadsLaws.{answer_allowed, answer_refused, leads_more}
 use Rattle.dbp_plan.specs.declared.plan.Plan.{Plan}
-use Rattle.dbp_replay.specs.Replays.{IsIllegal, IsReplay, first, heard_lines}
-use Rattle.dbp_replay.specs.Texts.{heard_line}
+use Rattle.dbp_replay.proofs.OneReplay.{text-not-refused}
+use Rattle.dbp_replay.specs.Places.{IsThere}
+use Rattle.dbp_replay.specs.Replays.{AreTaken, IsIllegal, IsReplay, first, taken_text, with_heard}
 
 -- ---- one step more
 
-told-more : (p : Plan) (w : Wiring) (es : List Step) (s t : State) (e : Step) → Leads p w s es t → heard_lines p w s (es ++ e ∷ []) ≡ heard_lines p w s es ++ heard_line p.diagram e (hears w t e)
-told-more p w [] s t e same = append-nil (heard_line p.diagram e (hears w s e)) ∙ ap (λ (x : State). heard_line p.diagram e (hears w x e)) (sym same)
-told-more p w (f ∷ fs) s t e leads =
-    ap (λ (l : List ℕ). heard_line p.diagram f (hears w s f) ++ l) (told-more p w fs (next p w s f) t e leads.2)
-    ∙ sym (append_assoc (heard_line p.diagram f (hears w s f)) (heard_lines p w (next p w s f) fs) (heard_line p.diagram e (hears w t e)))
+one-more : (p : Plan) (w : Wiring) (es : List Step) (s t : State) (e : Step) → Leads p w s es t → with_heard p w s (es ++ e ∷ []) ≡ with_heard p w s es ++ (e, hears w t e) ∷ []
+one-more p w [] s t e same = ap (λ (x : State). (e, hears w x e) ∷ []) (sym same)
+one-more p w (f ∷ fs) s t e leads = ap (λ (l : List (Step × Heard)). (f, hears w s f) ∷ l) (one-more p w fs (next p w s f) t e leads.2)
 
--- the items up to a place, and the one at it
--- ---- the steps before a place were taken, and this is their text
+-- ---- the steps before a place were taken, and this is what they heard
 
-pub record TakenTo (p : Plan) (count : Count) (steps : List Step) (place : ℕ) (s : State) (text : List ℕ) : Type 0 where
+pub record TakenTo (p : Plan) (count : Count) (steps : List Step) (place : ℕ) (s : State) (taken : List (Step × Heard)) : Type 0 where
   pub leads : Leads p (wiring_of p count) (first p count) (take place steps) s
-  pub told : text ≡ heard_lines p (wiring_of p count) (first p count) (take place steps)
+  pub told : taken ≡ with_heard p (wiring_of p count) (first p count) (take place steps)
 
-pub taken-none : (p : Plan) (count : Count) (steps : List Step) (s : State) (text : List ℕ) → s ≡ first p count → text ≡ [] → TakenTo p count steps 0 s text
-taken-none p count steps s text start none = record { leads = start; told = none }
+pub taken-none : (p : Plan) (count : Count) (steps : List Step) (s : State) (taken : List (Step × Heard)) → s ≡ first p count → taken ≡ [] → TakenTo p count steps 0 s taken
+taken-none p count steps s taken start none = record { leads = start; told = none }
 
-pub taken-more : (p : Plan) (count : Count) (steps : List Step) (place : ℕ) (s new : State) (text more : List ℕ) (e : Step) (h : Heard) → TakenTo p count steps place s text
-    → slice_get steps place ≡ Some e → IsNamed p.diagram e → IsStep p (wiring_of p count) s e (Ok h) new → more ≡ text ++ heard_line p.diagram e h
+pub taken-more : (p : Plan) (count : Count) (steps : List Step) (place : ℕ) (s new : State) (taken more : List (Step × Heard)) (e : Step) (h : Heard) → TakenTo p count steps place s taken
+    → slice_get steps place ≡ Some e → IsNamed p.diagram e → IsStep p (wiring_of p count) s e (Ok h) new → more ≡ taken ++ (e, h) ∷ []
     → TakenTo p count steps (place + 1) new more
-taken-more p count steps place s new text more e h t here named answer added =
+taken-more p count steps place s new taken more e h t here named answer added =
     let w = wiring_of p count in
     let is = answer_allowed (refusal w s e) p w s new e h answer in
     let front = take_push steps place e here in
     record {
       leads = subst (λ (es : List Step). Leads p w (first p count) es new) (sym front) (subst (λ (x : State). Leads p w (first p count) (take place steps ++ e ∷ []) x) (sym is.2) (leads_more p w (take place steps) (first p count) s e t.leads named is.0));
-      told = added ∙ ap (λ (l : List ℕ). l ++ heard_line p.diagram e h) t.told ∙ ap (λ (x : Heard). heard_lines p w (first p count) (take place steps) ++ heard_line p.diagram e x) is.1
-          ∙ sym (told-more p w (take place steps) (first p count) s e t.leads) ∙ ap (heard_lines p w (first p count)) (sym front);
+      told = added ∙ ap (λ (l : List (Step × Heard)). l ++ (e, h) ∷ []) t.told ∙ ap (λ (x : Heard). with_heard p w (first p count) (take place steps) ++ (e, x) ∷ []) is.1
+          ∙ sym (one-more p w (take place steps) (first p count) s e t.leads) ∙ ap (with_heard p w (first p count)) (sym front);
     }
 
-pub taken-all : (p : Plan) (count : Count) (steps : List Step) (place : ℕ) (s : State) (text : List ℕ) → TakenTo p count steps place s text → place ≡ length steps → IsReplay p count steps text
-taken-all p count steps place s text t end =
+pub taken-all : (p : Plan) (count : Count) (steps : List Step) (place : ℕ) (s : State) (taken : List (Step × Heard)) → TakenTo p count steps place s taken → place ≡ length steps → AreTaken p count steps taken
+taken-all p count steps place s taken t end =
     let whole : take place steps ≡ steps = take_all place steps (omega (arith, end)) in
     record {
       state = s;
       leads = subst (λ (es : List Step). Leads p (wiring_of p count) (first p count) es s) whole t.leads;
-      told = t.told ∙ ap (heard_lines p (wiring_of p count) (first p count)) whole;
+      told = t.told ∙ ap (with_heard p (wiring_of p count) (first p count)) whole;
     }
 
 -- a step of an equal plan under an equal count
@@ -61,9 +60,9 @@ pub same-step : (p q : Plan) (m n : Count) (s t : State) (e : Step) (r : Result 
 same-step p q m n s t e r plan count step =
     subst (λ (k : Count). IsStep q (wiring_of q k) s e r t) count (subst (λ (x : Plan). IsStep x (wiring_of x m) s e r t) plan step)
 
-pub refused-at : (p : Plan) (count : Count) (steps : List Step) (place : ℕ) (s new : State) (text : List ℕ) (e : Step) (why : Illegal) → TakenTo p count steps place s text
+pub refused-at : (p : Plan) (count : Count) (steps : List Step) (place : ℕ) (s new : State) (taken : List (Step × Heard)) (e : Step) (why : Illegal) → TakenTo p count steps place s taken
     → slice_get steps place ≡ Some e → IsStep p (wiring_of p count) s e (Err why) new → IsIllegal p count steps (place + 1) why
-refused-at p count steps place s new text e why t here answer = record {
+refused-at p count steps place s new taken e why t here answer = record {
   place = place;
   state = s;
   leads = t.leads;
@@ -72,3 +71,20 @@ refused-at p count steps place s new text e why t here answer = record {
   refused = answer_refused (refusal (wiring_of p count) s e) p (wiring_of p count) s new e why answer;
   which = refl;
 }
+
+-- ---- all steps were taken
+
+steps-there : (p : Plan) (w : Wiring) (s : State) (es : List Step) → All (IsThere p.diagram) es → All (λ x. IsThere p.diagram x.0) (with_heard p w s es)
+steps-there p w s [] there = All-nil (λ x. IsThere p.diagram x.0)
+steps-there p w s (e ∷ es) there =
+    All-cons (λ x. IsThere p.diagram x.0) (e, hears w s e) (with_heard p w (next p w s e) es) (All-head (IsThere p.diagram) e es there) (steps-there p w (next p w s e) es (All-tail (IsThere p.diagram) e es there))
+
+pub taken-there : (p : Plan) (count : Count) (steps : List Step) (taken : List (Step × Heard)) → AreTaken p count steps taken → All (IsThere p.diagram) steps → All (λ x. IsThere p.diagram x.0) taken
+taken-there p count steps taken t there = subst (All (λ x. IsThere p.diagram x.0)) (sym t.told) (steps-there p (wiring_of p count) (first p count) steps there)
+
+pub taken-replay : (p : Plan) (count : Count) (steps : List Step) (taken : List (Step × Heard)) (text : List ℕ) → AreTaken p count steps taken → text ≡ taken_text p.diagram taken → IsReplay p count steps text
+taken-replay p count steps taken text t is = record { state = t.state; leads = t.leads; told = is ∙ ap (taken_text p.diagram) t.told }
+
+pub taken-not-refused : (p : Plan) (count : Count) (steps : List Step) (taken : List (Step × Heard)) (number : ℕ) (why : Illegal) → AreTaken p count steps taken → IsIllegal p count steps number why → ⊥
+taken-not-refused p count steps taken number why t illegal =
+    text-not-refused p count steps (taken_text p.diagram taken) number why (taken-replay p count steps taken (taken_text p.diagram taken) t refl) illegal

@@ -1,6 +1,6 @@
 -- A step that tokens name is there.
-use Rattle.std.proofs.Common.{◌≡◌, ℕ, ◌<◌, true, List, [], ◌∷◌, length, Option, Some, None, Ok, refl, sym, subst, arith, inl, inr}
-use Rattle.std.specs.Prelude.{nat_lt}
+use Rattle.std.proofs.Common.{◌≡◌, ℕ, ℤ, ◌<◌, Bool, true, false, List, [], ◌∷◌, length, Option, Some, None, Ok, refl, sym, subst, arith, inl, inr}
+use Rattle.std.specs.Prelude.{if◌then◌else◌, nat_lt}
 use Rattle.std.specs.List.{position_or_len}
 use Rattle.std.specs.Str.{bytes_eq}
 use Rattle.std.proofs.lemmas.Bool.{and_parts, cases_Bool, eqb-true}
@@ -13,7 +13,8 @@ use Rattle.dbp_plan.specs.declared.diagram.Link.{Link}
 use Rattle.dbp_plan.specs.Lookups.{no_link}
 use Rattle.dia_tokens.specs.declared.token.Token.{Token}
 use Rattle.dia_tokens.specs.declared.token.Token.TheVariants as token
-use Rattle.dia_tokens.specs.declared.token.Word.TheVariants.{Pre}
+use Rattle.dia_lines.specs.Delays.{delay_at}
+use Rattle.dia_lines.specs.Limits.{delay_fits}
 use Rattle.dbp_replay.specs.declared.form.Form.{Form}
 use Rattle.dbp_replay.specs.declared.form.Operand.{Operand}
 use Rattle.dbp_replay.specs.declared.form.Operand.TheVariants as operand
@@ -22,7 +23,7 @@ use Rattle.dbp_rules.specs.declared.kind.StepKind.TheVariants.{Seen, Aim, Claim,
 use Rattle.dbp_replay.specs.declared.kind.Takes.{Takes}
 use Rattle.dbp_replay.specs.declared.kind.Takes.TheVariants.{Nothing, Slot, Writer, Read, Port}
 use Rattle.dbp_replay.specs.Places.{IsThere, link_in, task_in}
-use Rattle.dbp_replay.specs.StepForms.{form_of, is_link, kind_with, link_between, named_step, number_of, step_numbered, of_kind, of_task, operand_of, name_text, step_of, step_with, task_named, with_operand, within}
+use Rattle.dbp_replay.specs.StepForms.{form_of, is_link, kind_with, link_between, named_step, number_of, step_numbered, of_kind, of_task, operand_of, name_text, small_delay, step_of, step_with, task_named, with_operand, within, writer_of}
 
 within-is : (len place n : ℕ) → within len place ≡ Some n → (place ≡ n) × (place < len)
 within-is len place n e =
@@ -49,11 +50,18 @@ Fits Read _ = ⊥
 Fits Port (operand.Port n) = Unit {0}
 Fits Port _ = ⊥
 
+chosen-fits : (fits : Bool) (delay : ℕ) (w : List ℕ) (o : Operand) → (if fits then Some (operand.Link delay w) else None) ≡ Some o → Fits Writer o
+chosen-fits false delay w o e = absurd (cc (e))
+chosen-fits true delay w o e = subst (Fits Writer) (same_Some (operand.Link delay w) o e) tt
+
+writer-fits : (said : Option ℤ × List Token) (o : Operand) → writer_of said ≡ Some o → Fits Writer o
+writer-fits (delay, token.Name w ∷ []) o e = chosen-fits (delay_fits delay) (small_delay delay) w o e
+writer-fits _ o e = absurd (cc (e))
+
 operand-fits : (t : Takes) (ts : List Token) (o : Operand) → operand_of t ts ≡ Some o → Fits t o
 operand-fits Nothing ts o e = tt
 operand-fits Slot ts o e = tt
-operand-fits Writer (token.Name w ∷ []) o e = subst (Fits Writer) (same_Some (operand.Link 0 w) o e) tt
-operand-fits Writer (token.Word Pre ∷ token.Name w ∷ []) o e = subst (Fits Writer) (same_Some (operand.Link 1 w) o e) tt
+operand-fits Writer ts o e = writer-fits (delay_at ts) o e
 operand-fits Read (token.Name r ∷ []) o e = subst (Fits Read) (same_Some (operand.Read r) o e) tt
 operand-fits Port (token.Name p ∷ []) o e = subst (Fits Port) (same_Some (operand.Port p) o e) tt
 operand-fits _ _ o e = absurd (cc (e))

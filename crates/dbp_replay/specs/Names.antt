@@ -3,6 +3,7 @@ use Rattle.std.specs.Prelude.{◌≢◌, ℕ, ◌≤◌, ◌<◌, ◌^◌, All, 
 use Rattle.dbp_rules.specs.declared.step.Step.{Step}
 use Rattle.dbp_rules.specs.declared.step.Step.TheVariants.{Aim}
 use Rattle.dbp_plan.specs.declared.diagram.Diagram.{Diagram}
+use Rattle.dbp_plan.specs.Limits.{max_delay}
 use Rattle.dia_tokens.specs.Printable.{IsPrintableName}
 
 -- each item has a name of the language, and no two have the same
@@ -16,8 +17,8 @@ pub record HasNames (d : Diagram) : Type 0 where
   pub reads : All (λ t. AreNamed (λ r. r.name) t.reads) d.tasks
   pub outs : All (λ t. AreNamed (λ o. o.name) t.outs) d.tasks
   pub links : AllPairs (λ k l. k ≢ l) d.links
-  -- a script has a word for the delays 0 and 1 only
-  pub delays : All (λ l. l.delay ≤ 1) d.links
+  -- no link has a longer delay than a script has words for
+  pub delays : All (λ l. l.delay ≤ max_delay) d.links
 
 -- the number of an aim's slot has 32 bits
 abbrev pub HasSlotNumber : Step → Type 0

@@ -1,6 +1,8 @@
 -- Steps that are taken one after another from the start, and the first that isn't allowed.
-use Rattle.std.specs.Prelude.{◌≡◌, ℕ, ◌+◌, List, [], ◌∷◌, ◌++◌, take, slice_get, Some}
+use Rattle.std.specs.Prelude.{◌≡◌, ℕ, ◌+◌, List, [], ◌∷◌, take, slice_get, Some}
+use Rattle.std.specs.List.{flat_map}
 use Rattle.dbp_rules.specs.declared.step.Count.{Count}
+use Rattle.dbp_rules.specs.declared.step.Heard.{Heard}
 use Rattle.dbp_rules.specs.declared.step.Illegal.{Illegal}
 use Rattle.dbp_rules.specs.declared.step.Step.{Step}
 use Rattle.dbp_rules.specs.declared.state.State.{State}
@@ -9,6 +11,7 @@ use Rattle.dbp_rules.specs.Lawful.{Leads}
 use Rattle.dbp_rules.specs.Rules.{hears, next, refusal}
 use Rattle.dbp_rules.specs.Start.{start_of}
 use Rattle.dbp_rules.specs.Wired.{wiring_of}
+use Rattle.dbp_plan.specs.declared.diagram.Diagram.{Diagram}
 use Rattle.dbp_plan.specs.declared.plan.Plan.{Plan}
 use Rattle.dbp_replay.specs.Texts.{heard_line}
 use Rattle.dbp_replay.specs.declared.fail.ReplayFail.{ReplayFail}
@@ -18,10 +21,23 @@ use Rattle.dbp_replay.specs.declared.fail.ReplayFail.TheVariants as fail
 abbrev pub first : Plan → Count → State
 first p count = start_of p (wiring_of p count)
 
--- the lines of steps that are taken from this state on, each with what it hears
+-- the steps that are taken from this state on, each with what it hears
+abbrev pub with_heard : Plan → Wiring → State → List Step → List (Step × Heard)
+with_heard p w s [] = []
+with_heard p w s (e ∷ es) = (e, hears w s e) ∷ with_heard p w (next p w s e) es
+
+-- their lines
+abbrev pub taken_text : Diagram → List (Step × Heard) → List ℕ
+taken_text d taken = flat_map (λ x. heard_line d x.0 x.1) taken
+
 abbrev pub heard_lines : Plan → Wiring → State → List Step → List ℕ
-heard_lines p w s [] = []
-heard_lines p w s (e ∷ es) = heard_line p.diagram e (hears w s e) ++ heard_lines p w (next p w s e) es
+heard_lines p w s steps = taken_text p.diagram (with_heard p w s steps)
+
+-- all steps are allowed, and these are the steps, each with what it hears
+pub record AreTaken (p : Plan) (count : Count) (steps : List Step) (taken : List (Step × Heard)) : Type 0 where
+  pub state : State
+  pub leads : Leads p (wiring_of p count) (first p count) steps state
+  pub told : taken ≡ with_heard p (wiring_of p count) (first p count) steps
 
 -- all steps are allowed, and the text tells what each hears
 pub record IsReplay (p : Plan) (count : Count) (steps : List Step) (text : List ℕ) : Type 0 where
@@ -29,7 +45,7 @@ pub record IsReplay (p : Plan) (count : Count) (steps : List Step) (text : List 
   pub leads : Leads p (wiring_of p count) (first p count) steps state
   pub told : text ≡ heard_lines p (wiring_of p count) (first p count) steps
 
--- the steps before the one with this number, counted from 1, are allowed, and behind them it isn't
+-- the steps before the one with this number, counted from 1, are allowed, and after them it isn't
 pub record IsIllegal (p : Plan) (count : Count) (steps : List Step) (number : ℕ) (why : Illegal) : Type 0 where
   pub place : ℕ
   pub state : State

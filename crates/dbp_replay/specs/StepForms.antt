@@ -6,9 +6,10 @@ use Rattle.dbp_rules.specs.declared.step.Step.{Step}
 use Rattle.dbp_rules.specs.declared.step.Step.TheVariants as step
 use Rattle.dbp_plan.specs.declared.diagram.Diagram.{Diagram}
 use Rattle.dbp_plan.specs.declared.diagram.Link.{Link}
+use Rattle.dia_lines.specs.Delays.{delay_at}
+use Rattle.dia_lines.specs.Limits.{delay_fits}
 use Rattle.dia_tokens.specs.declared.token.Token.{Token}
 use Rattle.dia_tokens.specs.declared.token.Token.TheVariants as token
-use Rattle.dia_tokens.specs.declared.token.Word.TheVariants.{Pre}
 use Rattle.dia_tokens.specs.Words.{word_text}
 use Rattle.dbp_replay.specs.Places.{task_in}
 use Rattle.dbp_replay.specs.declared.fail.ScriptCode.{ScriptCode}
@@ -60,12 +61,25 @@ abbrev pub slot_of : ℤ → Option Operand
 slot_of (pos n) = if nat_lt n (2 ^ 32) then Some (operand.Slot n) else None
 slot_of (negsuc n) = None
 
--- what the tokens behind the task are: `pre` stands before the writer of a link with the delay 1
+-- the number of a delay that is within its limits
+abbrev pub small_delay : Option ℤ → ℕ
+small_delay (Some (pos n)) = n
+small_delay _ = 0
+
+-- a link with the delay, if that is within its limits
+abbrev pub link_of : Option ℤ → List ℕ → Option Operand
+link_of delay writer = if delay_fits delay then Some (operand.Link (small_delay delay) writer) else None
+
+-- a delay as documents have it, and then the writer
+abbrev pub writer_of : Option ℤ × List Token → Option Operand
+writer_of (delay, token.Name w ∷ []) = link_of delay w
+writer_of _ = None
+
+-- what the tokens after the task are
 abbrev pub operand_of : Takes → List Token → Option Operand
 operand_of Nothing [] = Some operand.Nothing
 operand_of Slot (token.Number z ∷ []) = slot_of z
-operand_of Writer (token.Name w ∷ []) = Some (operand.Link 0 w)
-operand_of Writer (token.Word Pre ∷ token.Name w ∷ []) = Some (operand.Link 1 w)
+operand_of Writer ts = writer_of (delay_at ts)
 operand_of Read (token.Name r ∷ []) = Some (operand.Read r)
 operand_of Port (token.Name p ∷ []) = Some (operand.Port p)
 operand_of _ _ = None

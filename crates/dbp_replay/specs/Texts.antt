@@ -16,9 +16,13 @@ abbrev pub spaced_words : List (List ℕ) → List ℕ
 spaced_words [] = []
 spaced_words (w ∷ ws) = 32 ∷ w ++ spaced_words ws
 
--- the word before a writer: a delay is at most 1 for now
+-- the number after `pre`: it is left out for the delay 1
+abbrev pub delay_number : ℕ → List (List ℕ)
+delay_number delay = if delay == 1 then [] else decimal delay ∷ []
+
+-- the words before a writer: none for a direct link
 abbrev pub delay_words : ℕ → List (List ℕ)
-delay_words delay = if delay == 0 then [] else codes "pre" ∷ []
+delay_words delay = if delay == 0 then [] else codes "pre" ∷ delay_number delay
 
 -- the words behind the task
 abbrev pub operand_words : Diagram → Step → List (List ℕ)

@@ -7,6 +7,7 @@ ghost use Rattle.dbp_replay.specs.declared.fail.ScriptFail.TheVariants as script
 use dbp_core::Illegal;
 use dbp_plan::NoMemory;
 use std::alloc::AllocError;
+use std::fmt;
 
 /// What is wrong with a document's script, in the order of their numbers, from 27 on.
 #[derive(Clone, Copy, Debug, PartialEq, Eq)]
@@ -45,6 +46,18 @@ impl ScriptCode {
     }
 }
 
+/// The number and the name of the code.
+impl fmt::Display for ScriptCode {
+    ghost use Rattle.std.specs.Prelude.{Some};
+    ghost use Rattle.dbp_replay.specs.Codes.{code_text};
+
+    ghost output = { λ code. Some (code_text code) };
+
+    fn fmt<W: fmt::Write>(&self, f: &mut fmt::Formatter<W>) -> fmt::Result {
+        write!(f, "{} {}", self.number(), self.name())
+    }
+}
+
 /// Why a document has no script.
 #[derive(Clone, Copy, Debug, PartialEq, Eq)]
 pub enum ScriptFail {
@@ -62,13 +75,31 @@ impl From<NoMemory> for ScriptFail {
     }
 }
 
+/// The first step, counted from 1, that isn't allowed after those before it, and why it isn't.
+#[derive(Clone, Copy)]
+pub(crate) struct Refused {
+    pub(crate) step: u32,
+    pub(crate) why: Illegal,
+}
+
 /// Why steps can't be replayed.
 #[derive(Clone, Copy, Debug, PartialEq, Eq)]
 pub enum ReplayFail {
-    /// The first step, counted from 1, that isn't allowed behind those before it, and why it isn't.
+    /// The first step, counted from 1, that isn't allowed after those before it, and why it isn't.
     Illegal { step: u32, why: Illegal },
     /// Memory ran out. That may be at any time.
     NoMemory,
+}
+
+impl From<Refused> for ReplayFail {
+    ghost from_gives = { λ refused e. e ≡ replay_fail.Illegal refused.step refused.why };
+
+    fn from(refused: Refused) -> ReplayFail {
+        ReplayFail::Illegal {
+            step: refused.step,
+            why: refused.why,
+        }
+    }
 }
 
 impl From<NoMemory> for ReplayFail {

@@ -1,14 +1,16 @@
 // The form of a line's tokens.
 
 ghost use Rattle.std.specs.Prelude.{◌≡◌};
-ghost use Rattle.dbp_replay.specs.StepForms.{form_in, operand_of, slot_of, name_text};
+ghost use Rattle.dia_lines.specs.Delays.{delay_at};
+ghost use Rattle.dbp_replay.specs.StepForms.{form_in, link_of, name_text, operand_of, slot_of, writer_of};
 
 use crate::kind::{Takes, kind_with, takes_of};
 use dbp_core::StepKind;
 use dbp_plan::Name;
-use dia_tokens::{Token, Word};
+use dia_lines::{delay_at, short_delay};
+use dia_tokens::Token;
 
-/// What a line says behind its task.
+/// What a line says after its task.
 #[derive(Clone, Copy)]
 pub(crate) enum Operand {
     Nothing,
@@ -46,6 +48,26 @@ fn slot_of(number: i64) -> Option<Operand>
     }
 }
 
+/// The link with the delay, if that is within its limits.
+fn link_of(delay: Option<i64>, writer: Name) -> Option<Operand>
+    ensures { result ≡ link_of delay writer }
+{
+    match short_delay(delay) {
+        Some(delay) => Some(Operand::Link { delay, writer }),
+        None => None,
+    }
+}
+
+/// A delay as documents have it, and then the writer.
+fn writer_of(tokens: &[Token]) -> Option<Operand>
+    ensures { result ≡ writer_of (delay_at tokens.now) }
+{
+    match delay_at(tokens) {
+        (delay, [Token::Name(writer)]) => link_of(delay, *writer),
+        _ => None,
+    }
+}
+
 /// The operand that the tokens are.
 fn operand_of(takes: Takes, tokens: &[Token]) -> Option<Operand>
     ensures { result ≡ operand_of takes tokens.now }
@@ -53,14 +75,7 @@ fn operand_of(takes: Takes, tokens: &[Token]) -> Option<Operand>
     match (takes, tokens) {
         (Takes::Nothing, []) => Some(Operand::Nothing),
         (Takes::Slot, [Token::Number(number)]) => slot_of(*number),
-        (Takes::Writer, [Token::Name(writer)]) => Some(Operand::Link {
-            delay: 0,
-            writer: *writer,
-        }),
-        (Takes::Writer, [Token::Word(Word::Pre), Token::Name(writer)]) => Some(Operand::Link {
-            delay: 1,
-            writer: *writer,
-        }),
+        (Takes::Writer, tokens) => writer_of(tokens),
         (Takes::Read, [Token::Name(name)]) => Some(Operand::Read(*name)),
         (Takes::Port, [Token::Name(name)]) => Some(Operand::Port(*name)),
         _ => None,

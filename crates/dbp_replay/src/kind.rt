@@ -1,18 +1,18 @@
 // The table of the forms of script lines.
 
-ghost use Rattle.std.specs.Prelude.{◌≡◌};
+ghost use Rattle.std.specs.Prelude.{◌≡◌, [], ◌∷◌, ◌++◌};
 ghost use Rattle.dbp_replay.specs.StepForms.{all_kinds, form_of, kind_among, kind_with};
 
 use dbp_core::StepKind;
 
-/// What a line has behind its word and its task.
+/// What a line has after its word and its task.
 #[derive(Clone, Copy, Debug, PartialEq, Eq)]
 pub(crate) enum Takes {
     /// Nothing.
     Nothing,
     /// The number of a slot.
     Slot,
-    /// The name of a writer, behind `pre` where the link is delayed.
+    /// The name of a writer, after `pre` or `pre N` if the link is delayed.
     Writer,
     /// The name of a read.
     Read,
@@ -37,6 +37,26 @@ pub(crate) fn word_of(kind: StepKind) -> &'static [u8]
         StepKind::Put => b"put",
         StepKind::Done => b"done",
         StepKind::End => b"end",
+    }
+}
+
+/// The word that begins a line of the kind, and the space after it.
+pub(crate) fn opening_of(kind: StepKind) -> &'static [u8]
+    ensures { result.now ≡ (form_of kind).0 ++ 32 ∷ [] }
+{
+    match kind {
+        StepKind::Seen => b"seen ",
+        StepKind::Aim => b"aim ",
+        StepKind::Claim => b"claim ",
+        StepKind::OpenGate => b"open ",
+        StepKind::Start => b"start ",
+        StepKind::Hear => b"hear ",
+        StepKind::Look => b"look ",
+        StepKind::Take => b"take ",
+        StepKind::Shut => b"shut ",
+        StepKind::Put => b"put ",
+        StepKind::Done => b"done ",
+        StepKind::End => b"end ",
     }
 }
 

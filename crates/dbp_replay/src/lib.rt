@@ -10,6 +10,7 @@ mod naming;
 mod printed;
 mod replaying;
 mod script;
+mod walk;
 
 pub use fail::{ReplayFail, ScriptCode, ScriptFail};
 pub use laws::{allowed_steps_are_printable, one_replay, one_script, printed_script_again};

@@ -13,7 +13,8 @@ use dbp_core::{Step, StepKind};
 use dbp_plan::{Diagram, Link, Name, Out, Read, Task};
 use dia_tokens::Token;
 
-/// The step that the tokens of a line name. `BadStep` where they have no form, else `StepName` where a name isn't there.
+/// The step that the tokens of a line name: `BadStep` if they have no form, else `StepName` if a name or a link isn't
+/// there.
 pub(crate) fn step_of(diagram: &Diagram, tokens: &[Token]) -> Result<Step, ScriptCode>
     ensures { result ≡ step_of diagram.now tokens.now }
 {

@@ -4,7 +4,7 @@ ghost use Rattle.std.specs.Prelude.{◌≡◌, ◌∷◌, ◌++◌, All, IfOk, O
 ghost use Rattle.dbp_replay.specs.Places.{IsThere};
 ghost use Rattle.dbp_replay.specs.Texts.{delay_words, heard_words, operand_words, script_text, spaced_words, step_text};
 
-use crate::kind::word_of;
+use crate::kind::opening_of;
 use crate::look_up::{link_at, port_name, read_name, task_name, task_of};
 use dbp_core::{Heard, Step};
 use dbp_plan::{Diagram, List, NoMemory};
@@ -29,17 +29,17 @@ pub fn print_script(
     Ok(text)
 }
 
-/// Adds the words of a step.
+/// Adds the words of a step: its word and its task, each with the space between them as one slice, and what it names.
 pub(crate) fn push_step(text: &mut Vec<u8>, diagram: &Diagram, step: Step) -> Result<(), NoMemory>
     requires { IsThere diagram.now step }
     ensures { OnOk result (text.new.items ≡ text.old.items ++ step_text diagram.now step) }
 {
-    text.extend_from_slice(word_of(step.kind()))?;
-    push_word(text, task_name(diagram, task_of(diagram, step)))?;
+    text.extend_from_slice(opening_of(step.kind()))?;
+    text.extend_from_slice(task_name(diagram, task_of(diagram, step)))?;
     push_operand(text, diagram, step)
 }
 
-// Adds the words behind the task.
+// Adds the words after the task.
 fn push_operand(text: &mut Vec<u8>, diagram: &Diagram, step: Step) -> Result<(), NoMemory>
     requires { IsThere diagram.now step }
     ensures { OnOk result (text.new.items ≡ text.old.items ++ spaced_words (operand_words diagram.now step)) }
@@ -58,54 +58,58 @@ fn push_operand(text: &mut Vec<u8>, diagram: &Diagram, step: Step) -> Result<(),
     }
 }
 
-// Adds `pre` where the delay isn't 0.
+// Adds `pre` and the delay, which is left out if it is 1; nothing for the delay 0.
 fn push_delay(text: &mut Vec<u8>, delay: u32) -> Result<(), NoMemory>
     ensures { OnOk result (text.new.items ≡ text.old.items ++ spaced_words (delay_words delay)) }
 {
     if delay == 0 {
         return Ok(());
     }
-    push_word(text, b"pre")
+    text.extend_from_slice(b" pre")?;
+    if delay == 1 {
+        return Ok(());
+    }
+    push_number(text, delay)
 }
 
-/// Adds what a step heard behind ` ->`, and nothing where it stored a word.
+/// Adds what a step heard after ` ->`, and nothing if it stored a word.
 pub(crate) fn push_heard(text: &mut Vec<u8>, heard: Heard) -> Result<(), NoMemory>
     ensures { OnOk result (text.new.items ≡ text.old.items ++ spaced_words (heard_words heard)) }
 {
     match heard {
         Heard::Stored => Ok(()),
         Heard::Ended(count) => push_answer(text, count),
-        Heard::Started => push_told(text, b"started"),
-        Heard::Closed => push_told(text, b"closed"),
+        Heard::Started => push_words(text, b" -> started"),
+        Heard::Closed => push_words(text, b" -> closed"),
         Heard::Order { slot, number } => {
-            push_told(text, b"slot")?;
+            push_words(text, b" -> slot")?;
             push_number(text, slot)?;
-            push_word(text, b"number")?;
+            push_words(text, b" number")?;
             push_number(text, number)
         }
-        Heard::Ready => push_told(text, b"ready"),
-        Heard::NotYet => push_told(text, b"notyet"),
+        Heard::Ready => push_words(text, b" -> ready"),
+        Heard::NotYet => push_words(text, b" -> notyet"),
         Heard::Word(value) => push_answer(text, value),
     }
 }
 
-// Adds ` ->` and the word.
-fn push_told(text: &mut Vec<u8>, word: &[u8]) -> Result<(), NoMemory>
-    ensures { OnOk result (text.new.items ≡ text.old.items ++ 32 ∷ 45 ∷ 62 ∷ 32 ∷ word.now) }
+// Adds the words, each of which has its space before it.
+fn push_words(text: &mut Vec<u8>, words: &[u8]) -> Result<(), NoMemory>
+    ensures { OnOk result (text.new.items ≡ text.old.items ++ words.now) }
 {
-    push_word(text, b"->")?;
-    push_word(text, word)
+    text.extend_from_slice(words)?;
+    Ok(())
 }
 
 // Adds ` ->` and the number.
 fn push_answer<N: Integer>(text: &mut Vec<u8>, number: N) -> Result<(), NoMemory>
     ensures { OnOk result (text.new.items ≡ text.old.items ++ 32 ∷ 45 ∷ 62 ∷ 32 ∷ N.text number) }
 {
-    push_word(text, b"->")?;
+    push_words(text, b" ->")?;
     push_number(text, number)
 }
 
-// Adds the word behind a space.
+// Adds the word after a space.
 fn push_word(text: &mut Vec<u8>, word: &[u8]) -> Result<(), NoMemory>
     ensures { OnOk result (text.new.items ≡ text.old.items ++ 32 ∷ word.now) }
 {
@@ -114,7 +118,7 @@ fn push_word(text: &mut Vec<u8>, word: &[u8]) -> Result<(), NoMemory>
     Ok(())
 }
 
-// Adds the number in decimal behind a space.
+// Adds the number in decimal after a space.
 fn push_number<N: Integer>(text: &mut Vec<u8>, number: N) -> Result<(), NoMemory>
     ensures { OnOk result (text.new.items ≡ text.old.items ++ 32 ∷ N.text number) }
 {

@@ -1,13 +1,15 @@
 // Steps taken on the core of a plan.
 
-ghost use Rattle.std.specs.Prelude.{◌≡◌, ◌<◌, ◌^◌, ◌++◌, [], All, IfErr, IfOk, OnOk, length};
+ghost use Rattle.std.specs.Prelude.{◌≡◌, ◌<◌, ◌≤◌, ◌^◌, ℕ, [], All, Err, IfErr, IfOk, length, vec_capacity, vec_len};
 ghost use Rattle.dbp_core.specs.Cores.{count_in, plan_in, state_in};
 ghost use Rattle.dbp_replay.specs.Places.{IsThere};
-ghost use Rattle.dbp_replay.specs.Replays.{IsReplay, IsReplayRefusal, first};
-ghost use Rattle.dbp_replay.specs.Texts.{heard_line};
+ghost use Rattle.dbp_replay.specs.Replays.{IsIllegal, IsReplay, IsReplayRefusal, first, taken_text};
+ghost use Rattle.dbp_replay.specs.declared.fail.ReplayFail.TheVariants as replay_fail;
+ghost use Rattle.dbp_rules.specs.declared.step.Illegal.{Illegal as Refusal};
 
 use crate::fail::ReplayFail;
 use crate::printed::{push_heard, push_step};
+use crate::walk::walk;
 use dbp_core::{Core, Count, Heard, Step};
 use dbp_plan::{Diagram, List, NoMemory, Plan};
 use std::alloc::Global;
@@ -42,47 +44,52 @@ pub fn replay_owned(
     // The first step that the core refuses, unless memory ran out.
     ensures illegal { IfErr result (λ fail. IsReplayRefusal plan count steps.now fail) }
 {
-    let mut core = Core::new(alloc, plan, count)?;
-    let mut text = Vec::new(alloc);
-    push_lines(&mut text, &mut core, steps.items())?;
-    Ok(text)
+    let core = Core::new(alloc, plan, count)?;
+    let steps = steps.items();
+    let room = Vec::with_capacity(alloc, steps.len())?;
+    replay_in(alloc, core, steps, room)
 }
 
-// Adds the lines of steps that a core takes from its start on.
-fn push_lines(text: &mut Vec<u8>, core: &mut Core, steps: &[Step]) -> Result<(), ReplayFail>
-    requires there { All (IsThere (plan_in core.old).diagram) steps.now }
+/// The text of steps that a core takes from its start on, if there is room for what they hear.
+fn replay_in(
+    alloc: Global,
+    core: Core,
+    steps: &[Step],
+    room: Vec<(Step, Heard)>,
+) -> Result<Vec<u8>, ReplayFail>
+    requires there { All (IsThere (plan_in core).diagram) steps.now }
     requires few { length steps.now < 2 ^ 32 }
-    requires start { state_in core.old ≡ first (plan_in core.old) (count_in core.old) }
-    requires empty { text.old.items ≡ [] }
-    ensures text { OnOk result (IsReplay (plan_in core.old) (count_in core.old) steps.now text.new.items) }
-    ensures illegal { IfErr result (λ fail. IsReplayRefusal (plan_in core.old) (count_in core.old) steps.now fail) }
+    requires start { state_in core ≡ first (plan_in core) (count_in core) }
+    requires empty { room.items ≡ [] }
+    requires none { vec_len room ≡ 0 }
+    requires room { length steps.now ≤ vec_capacity room }
+    ensures text { IfOk result (λ text. IsReplay (plan_in core) (count_in core) steps.now text.items) }
+    ensures illegal { IfErr result
+        (λ fail. IsReplayRefusal (plan_in core) (count_in core) steps.now fail) }
+    // A step that isn't allowed is found before memory is taken, so it is never out of memory.
+    ensures refused { (number : ℕ) (why : Refusal)
+        → IsIllegal (plan_in core) (count_in core) steps.now number why
+        → result ≡ Err (replay_fail.Illegal number why) }
 {
-    for (place, step) in steps.iter().enumerate() {
-        match core.step(*step) {
-            Ok(heard) => push_line(text, &core.plan().diagram, *step, heard)?,
-            Err(why) => {
-                return Err(ReplayFail::Illegal {
-                    step: place as u32 + 1,
-                    why,
-                });
-            }
-        }
-    }
-    Ok(())
+    let mut core = core;
+    let taken = walk(&mut core, steps, room)?;
+    Ok(taken_text(alloc, &core.plan().diagram, &taken)?)
 }
 
-// Adds the line of a step and what it heard.
-fn push_line(
-    text: &mut Vec<u8>,
+/// The lines of steps, each with what it heard.
+fn taken_text(
+    alloc: Global,
     diagram: &Diagram,
-    step: Step,
-    heard: Heard,
-) -> Result<(), NoMemory>
-    requires { IsThere diagram.now step }
-    ensures { OnOk result (text.new.items ≡ text.old.items ++ heard_line diagram.now step heard) }
+    taken: &[(Step, Heard)],
+) -> Result<Vec<u8>, NoMemory>
+    requires { All (λ x. IsThere diagram.now x.0) taken.now }
+    ensures { IfOk result (λ text. text.items ≡ taken_text diagram.now taken.now) }
 {
-    push_step(text, diagram, step)?;
-    push_heard(text, heard)?;
-    text.push(b'\n')?;
-    Ok(())
+    let mut text = Vec::new(alloc);
+    for (step, heard) in taken {
+        push_step(&mut text, diagram, *step)?;
+        push_heard(&mut text, *heard)?;
+        text.push(b'\n')?;
+    }
+    Ok(text)
 }

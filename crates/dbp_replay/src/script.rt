@@ -21,9 +21,9 @@ use std::alloc::Global;
 /// The steps that the lines of the document's script name, in order. Tasks, links, reads and outs are those of the
 /// diagram.
 ///
-/// Refused is the first line with a fault: with `BadStep` where its tokens have no form of a step, else with `StepName`
-/// where a name is no task, no link, no read of the task or no out of the task. A document without a script section is
-/// refused with `NoScript` at its line `done`.
+/// Refused is the first line with a fault: with `BadStep` if its tokens have no form of a step, else with `StepName` if a
+/// name is no task, no read of the task or no out of the task, or no link is there. A document without a script section
+/// is refused with `NoScript` at its line `done`.
 pub fn read_script(alloc: Global, diagram: &Diagram, doc: &Doc) -> Result<List<Step>, ScriptFail>
     requires printable { IsPrintable doc.now.body }
     requires lines { HasItemLines doc.now }
@@ -38,10 +38,7 @@ pub fn read_script(alloc: Global, diagram: &Diagram, doc: &Doc) -> Result<List<S
         → result ≡ Err (script_fail.Refused doc.now.lines.done_at NoSection) }
 {
     let Some(text) = &doc.body.script else {
-        return Err(ScriptFail::Refused {
-            line: doc.lines.done_at,
-            code: ScriptCode::NoScript,
-        });
+        return refused(doc.lines.done_at, ScriptCode::NoScript);
     };
     let lines = doc.lines.script.items();
     let mut steps = List::new(alloc);
@@ -50,14 +47,18 @@ pub fn read_script(alloc: Global, diagram: &Diagram, doc: &Doc) -> Result<List<S
         let (line, after) = next_line(rest);
         match step_on(alloc, diagram, line)? {
             Ok(step) => steps.push(step)?,
-            Err(code) => {
-                let line = lines[steps.len() as usize];
-                return Err(ScriptFail::Refused { line, code });
-            }
+            Err(code) => return refused(lines[steps.len() as usize], code),
         }
         rest = after;
     }
     Ok(steps)
+}
+
+/// No script: the first fault, which is never out of memory.
+fn refused(line: u32, code: ScriptCode) -> Result<List<Step>, ScriptFail>
+    ensures { result ≡ Err (script_fail.Refused line code) }
+{
+    Err(ScriptFail::Refused { line, code })
 }
 
 /// What a kept line says: a step, or a fault.

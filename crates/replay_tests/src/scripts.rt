@@ -6,7 +6,7 @@ ghost use Rattle.dia_read.specs.Printable.{HasItemLines, IsPrintable};
 
 use dbp_core::{Broken, Count, Illegal, Step};
 use dbp_plan::{Diagram, List, Plan};
-use dbp_replay::{ReplayFail, print_script, read_script, replay, replay_owned};
+use dbp_replay::{ReplayFail, ScriptCode, print_script, read_script, replay, replay_owned};
 use dia_read::Doc;
 use std::alloc::Global;
 use std::process::Abort;
@@ -23,7 +23,7 @@ struct Script {
 
 static SCRIPTS: [Script; 2] = [
     Script {
-        lines: "claim  h pre a # of the delayed link\naim a 007\ntake h x\nput h w\ndone b\n",
+        lines: "claim  h pre 01 a # of the delayed link\naim a 007\ntake h x\nput h w\ndone b\n",
         steps: &[
             Step::Claim { link: 1 },
             Step::Aim { task: 0, slot: 7 },
@@ -133,6 +133,21 @@ fn compare(rt: &impl Abort, alloc: Global, script: &Script) -> Result<(), Fail> 
 fn scripts_are_read_printed_and_replayed(rt: HostRuntime) -> Result<(), Fail> {
     for script in &SCRIPTS {
         compare(&rt, rt.alloc(), script)?;
+    }
+    Ok(())
+}
+
+// The codes, and how they print themselves.
+static CODES: [(ScriptCode, &str); 3] = [
+    (ScriptCode::BadStep, "27 BadStep"),
+    (ScriptCode::StepName, "28 StepName"),
+    (ScriptCode::NoScript, "29 NoScript"),
+];
+
+#[test]
+fn codes_print_themselves(rt: HostRuntime) -> Result<(), Fail> {
+    for (code, text) in &CODES {
+        assert_eq!(rt; format!(in rt.alloc(); "{code}")?.as_str(), *text);
     }
     Ok(())
 }

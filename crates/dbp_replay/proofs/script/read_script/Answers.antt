@@ -1,13 +1,15 @@
-use Rattle.std.proofs.Common.{◌≡◌, ◌∙◌, ◌<◌, ℕ, List, [], get_or, length, slice_get, Some, Ok, Err, ap, refl, sym, subst, rules, arith}
+use Rattle.std.proofs.Common.{◌≡◌, ◌∙◌, ◌<◌, ℕ, List, [], get_or, length, slice_get, Some, None, Ok, Err, ap, refl, sym, subst, rules, arith}
 use Rattle.std.proofs.lemmas.Option.{slice_get-get_or}
 use Rattle.dbp_rules.specs.declared.step.Step.{Step}
 use Rattle.dia_read.proofs.OneMore.{nothing-left}
-use Rattle.dbp_replay.specs.Scripts.{Says, no_section, at_a_line}
+use Rattle.dbp_replay.specs.Scripts.{IsScriptFault, Says, no_section, at_a_line}
 use Rattle.dbp_replay.proofs.KeptSteps.{NamedTo, named-none, section-kept, line-kept, has-number, named-more, line-fault, named-all}
 use Rattle.dbp_replay.proofs.script.read_script.Goals as goal
 
 pub returns-in_default-clause-fault : goal.returns-in_default-clause-fault
-returns-in_default-clause-fault c = no_section (search rules)
+returns-in_default-clause-fault c =
+    let none : c.args.doc.now.body.script ≡ None = search rules in
+    rw c.refused.ensures (no_section none)
 
 pub loop-lines-init : goal.loop-lines-init
 loop-lines-init c = named-none c.args.diagram.now c.items-rest.result.now c.new-steps.result c.new-steps.ensures
@@ -53,7 +55,8 @@ returns-in-Err-clause-fault c =
     has-number d text steps c.loop-lines.rest.now line after c.loop-lines.invariant c.next_line.ensures.value doc c.requires.lines section (section-kept doc text section c.requires.printable.script) in
     let number : slice_get doc.lines.script (length steps) ≡ Some at =
     slice_get-get_or doc.lines.script (length steps) 0 below ∙ ap (λ (n : ℕ). Some n) (rw (c.len.ensures, c.items-lines.ensures.value) refl) in
-    at_a_line text at code section (line-fault d text steps c.loop-lines.rest.now line after c.loop-lines.invariant c.next_line.ensures.value doc.lines.script at code number says)
+    let fault : IsScriptFault d doc at code = at_a_line text at code section (line-fault d text steps c.loop-lines.rest.now line after c.loop-lines.invariant c.next_line.ensures.value doc.lines.script at code number says) in
+    rw c.refused-in-Err.ensures fault
 
 pub loop-lines-preserved : goal.loop-lines-preserved
 loop-lines-preserved c =

@@ -1,20 +1,20 @@
-use Rattle.std.proofs.Common.{◌≡◌, ◌∙◌, ◌++◌, get_or, slice_get, Some, Ok, Err, ap, refl}
+use Rattle.std.proofs.Common.{◌≡◌, ◌∙◌, ◌∷◌, ◌++◌, [], get_or, slice_get, Some, Ok, Err, refl, rules}
 use Rattle.std.proofs.lemmas.Option.{slice_get-get_or}
 use Rattle.dbp_core.specs.Cores.{count_in, plan_in, state_in}
 use Rattle.dbp_rules.specs.declared.step.Step.TheVariants.{Seen}
-use Rattle.dbp_plan.specs.declared.plan.Plan.{Plan}
 use Rattle.dbp_rules.specs.Rules.{IsNamed}
 use Rattle.dbp_plan.specs.Places.{all_place}
 use Rattle.dbp_replay.specs.Places.{IsThere}
-use Rattle.dbp_replay.specs.Texts.{heard_line}
 use Rattle.dbp_replay.proofs.Taken.{taken-none, taken-more, refused-at, same-step}
-use Rattle.dbp_replay.proofs.replaying.push_lines.Goals as goal
+use Rattle.dbp_replay.proofs.walk.walk.Goals as goal
 
 pub loop-place-init : goal.loop-place-init
 loop-place-init c = record {
   plan = refl;
   count = refl;
-  so_far = taken-none (plan_in c.args.core.now) (count_in c.args.core.now) c.args.steps.now (state_in c.args.core.now) c.args.text.now.items c.requires.start c.requires.empty;
+  so_far = taken-none (plan_in c.args.core.now) (count_in c.args.core.now) c.args.steps.now (state_in c.args.core.now) c.args.room.items c.requires.start c.requires.empty;
+  filled = c.requires.none;
+  room = c.requires.room;
 }
 
 pub returns-in-Err-clause-illegal : goal.returns-in-Err-clause-illegal
@@ -23,7 +23,7 @@ returns-in-Err-clause-illegal c =
     let e = get_or steps c.loop-place.place (Seen 0) in
     let i = c.loop-place.invariant in
     let here : slice_get steps c.loop-place.place ≡ Some e = slice_get-get_or steps c.loop-place.place (Seen 0) c.loop-place-test.true in
-    refused-at (plan_in c.args.core.now) (count_in c.args.core.now) steps c.loop-place.place (state_in c.loop-place.core) (state_in c.step.new.self) c.loop-place.text.items e c.in-Err.why i.so_far here
+    refused-at (plan_in c.args.core.now) (count_in c.args.core.now) steps c.loop-place.place (state_in c.loop-place.core) (state_in c.step.new.self) c.loop-place.taken.items e c.in-Err.why i.so_far here
     (same-step (plan_in c.loop-place.core) (plan_in c.args.core.now) (count_in c.loop-place.core) (count_in c.args.core.now) (state_in c.loop-place.core) (state_in c.step.new.self) e (Err c.in-Err.why) i.plan i.count c.in-Err.ensures.step)
 
 pub loop-place-preserved : goal.loop-place-preserved
@@ -35,12 +35,12 @@ loop-place-preserved c =
     let i = c.loop-place.invariant in
     let here : slice_get steps c.loop-place.place ≡ Some e = slice_get-get_or steps c.loop-place.place (Seen 0) c.loop-place-test.true in
     let named : IsNamed p.diagram e = (all_place (IsThere p.diagram) steps c.loop-place.place e c.requires.there here).named in
-    let plan : c.plan.result.now ≡ p = c.plan.ensures ∙ c.in-Ok.ensures.plan ∙ i.plan in
-    let line : c.push_line.new.text.items ≡ c.loop-place.text.items ++ heard_line p.diagram e h =
-    c.in_ok-push_line-in-Ok.ensures ∙ ap (λ (q : Plan). c.loop-place.text.items ++ heard_line q.diagram e h) plan in
+    let added : c.push.new.self.items ≡ c.loop-place.taken.items ++ (e, h) ∷ [] = search rules in
     record {
       plan = c.in-Ok.ensures.plan ∙ i.plan;
       count = c.in-Ok.ensures.count ∙ i.count;
-      so_far = taken-more p (count_in c.args.core.now) steps c.loop-place.place (state_in c.loop-place.core) (state_in c.step.new.self) c.loop-place.text.items c.push_line.new.text.items e h i.so_far here named
-          (same-step (plan_in c.loop-place.core) (plan_in c.args.core.now) (count_in c.loop-place.core) (count_in c.args.core.now) (state_in c.loop-place.core) (state_in c.step.new.self) e (Ok h) i.plan i.count c.in-Ok.ensures.step) line;
+      so_far = taken-more p (count_in c.args.core.now) steps c.loop-place.place (state_in c.loop-place.core) (state_in c.step.new.self) c.loop-place.taken.items c.push.new.self.items e h i.so_far here named
+          (same-step (plan_in c.loop-place.core) (plan_in c.args.core.now) (count_in c.loop-place.core) (count_in c.args.core.now) (state_in c.loop-place.core) (state_in c.step.new.self) e (Ok h) i.plan i.count c.in-Ok.ensures.step) added;
+      filled = search rules;
+      room = search rules;
     }
