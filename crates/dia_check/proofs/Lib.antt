@@ -9,8 +9,10 @@ pub mod LinkLists
 pub mod NameTests
 pub mod NoOuts
 pub mod PlaceLaws
+pub mod PortLaws
 pub mod RankLaws
 pub mod ReadLines
+pub mod ReadSteps
 pub mod Refusals
 pub mod ShapeLaws
 pub mod TaskFaults

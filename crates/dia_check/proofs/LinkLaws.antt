@@ -27,7 +27,7 @@ use Rattle.dia_read.specs.declared.document.RawTask.{RawTask}
 use Rattle.dia_read.specs.Printable.{IsPrintable, IsPrintableTask, IsPrintablePart, is_read_part}
 use Rattle.dia_check.specs.declared.fail.LineFault.TheVariants.{Duplicate, Unknown, SelfLink, ReadPastCost}
 use Rattle.dia_check.specs.Diagrams.{is_same_link, link_of, links_used, links_of, link_number, read_of, out_of, IsDiagramOf}
-use Rattle.dia_check.specs.Faults.{is_repeated, is_unknown, is_self_link, is_past_cost}
+use Rattle.dia_check.specs.Faults.{is_repeated, is_unknown, is_self_link, is_past_cost, part_fault}
 use Rattle.dia_check.specs.Names.{task_names, out_name, env_names, port_names}
 use Rattle.dia_check.proofs.ClosedTasks.{outs-alike}
 use Rattle.dia_check.proofs.DiagramTasks.{raw-at, task-at}
@@ -69,7 +69,7 @@ used-by-one P tasks number (u ∷ ts) (suc i) j t p at_t at_p all =
     let later : number + 1 + i ≡ number + suc i = omega arith in
     subst (λ n. All P (link_of tasks n p)) later (used-by-one P tasks (number + 1) ts i j t p at_t at_p (all-behind P (flat_map (link_of tasks number) u.parts) _ all))
 
-links_used-append : (tasks : List RawTask) (number : ℕ) (ts us : List RawTask) → links_used tasks number (ts ++ us) ≡ links_used tasks number ts ++ links_used tasks (number + length ts) us
+pub links_used-append : (tasks : List RawTask) (number : ℕ) (ts us : List RawTask) → links_used tasks number (ts ++ us) ≡ links_used tasks number ts ++ links_used tasks (number + length ts) us
 links_used-append tasks number [] us = ap (λ n. links_used tasks n us) (omega arith)
 links_used-append tasks number (t ∷ ts) us =
     let behind : number + 1 + length ts ≡ number + suc (length ts) = omega arith in
@@ -120,6 +120,13 @@ no-fault false true c d none = absurd cc
 no-fault false false true d none = absurd cc
 no-fault false false false true none = absurd cc
 no-fault false false false false none = (refl, refl)
+
+-- a read line without a fault names an out that is there
+pub known-read : (body : Body) (t : RawTask) (before : List Part) (n : List ℕ) (delay : ℕ) (writer port : List ℕ) (at : ℕ)
+    → part_fault body t before (part.Read n delay writer port at) ≡ None → is_among (port_names body.tasks writer) port ≡ true
+known-read body t before n delay writer port at none =
+    let p = part.Read n delay writer port at in
+    not-false _ (no-fault (is_repeated before p) (is_unknown body t p) (is_self_link t p) (is_past_cost t p) none).0
 
 -- the reads of read lines
 all-of-reads : (P : Read → Type 0) (tasks : List RawTask) (reader : ℕ) (p : Part)

@@ -4,13 +4,15 @@ use Rattle.std.specs.Prelude.{AllPairs, not, ◌&&◌, ◌||◌, ◌==◌, sum_b
 use Rattle.std.specs.List.{flat_map, list_any}
 use Rattle.std.proofs.lemmas.Bool.{cases_Bool, and_parts, eqb-true, eq-eqb, not-true, both_ways, false_from_ne_true, or_left, or_right}
 use Rattle.std.proofs.lemmas.Bool.Decides.{nat_tests}
-use Rattle.std.proofs.lemmas.List.{append-nil}
+use Rattle.std.proofs.lemmas.List.{append-nil, append_assoc}
 use Rattle.std.proofs.lemmas.List.Elements.{All-nil, All-cons, All-head, All-tail, All-append, All-filter, filter-append, filter_passes}
-use Rattle.std.proofs.lemmas.List.Folds.{list_any-append, list_any_at}
+use Rattle.std.proofs.lemmas.List.Folds.{list_any-append, list_any_at, position_or_len_push}
 use Rattle.std.proofs.lemmas.List.Kept.{AllPairs-cons, AllPairs-filter}
 use Rattle.std.proofs.lemmas.List.Sums.{length-filter, count_by-le-length, sum_by-cons, position_or_len_is}
 use Rattle.std.proofs.lemmas.Option.{slice_get_within, get_or_from_slice_get, same_Some}
 use Rattle.dbp_plan.specs.declared.diagram.Link.{Link}
+use Rattle.dbp_plan.proofs.FirstIndexes.{first-below}
+use Rattle.dia_check.proofs.PortLaws.{last-none}
 use Rattle.dia_check.specs.Diagrams.{is_same_link, firsts, link_number}
 
 -- ---- the same link
@@ -95,6 +97,37 @@ add-new used links l is none = sym (firsts-add used l ∙ rw (sym is, none) refl
 
 pub add-known : (used links : List Link) (l : Link) → links ≡ firsts used → list_any (λ k. is_same_link k l) links ≡ true → links ≡ firsts (used ++ l ∷ [])
 add-known used links l is known = sym (firsts-add used l ∙ rw (sym is, known) refl)
+
+-- ---- the number of a link
+
+pub not-there : (links : List Link) (l : Link) → length links ≤ link_number links l → list_any (λ k. is_same_link k l) links ≡ false
+not-there links l last =
+    false_from_ne_true (list_any (λ k. is_same_link k l) links) (λ known. let below = first-below (λ k. is_same_link k l) links known in absurd (omega (arith, below, last)))
+
+pub is-there : (links : List Link) (l : Link) → link_number links l ≢ length links → list_any (λ k. is_same_link k l) links ≡ true
+is-there links l other = elim (cases_Bool (list_any (λ k. is_same_link k l) links)) [ inl known ↦ known | inr none ↦ absurd (other (last-none (λ k. is_same_link k l) links none)) ]
+
+-- a link that is there keeps its number, and stays there
+stays-there : (used : List Link) (m l : Link) → list_any (λ k. is_same_link k l) (firsts used) ≡ true
+    → (list_any (λ k. is_same_link k l) (firsts (used ++ m ∷ [])) ≡ true) × (link_number (firsts (used ++ m ∷ [])) l ≡ link_number (firsts used) l)
+stays-there used m l known = elim (cases_Bool (list_any (λ k. is_same_link k m) (firsts used))) [
+  | inl is ↦
+      let same : firsts (used ++ m ∷ []) ≡ firsts used = firsts-add used m ∙ rw is refl in
+      (ap (list_any (λ k. is_same_link k l)) same ∙ known, ap (λ ks. link_number ks l) same)
+  | inr isnt ↦
+      let more : firsts (used ++ m ∷ []) ≡ firsts used ++ m ∷ [] = firsts-add used m ∙ rw isnt refl in
+      let below : link_number (firsts used) l < length (firsts used) = first-below (λ k. is_same_link k l) (firsts used) known in
+      let apart : (link_number (firsts used) l == length (firsts used)) ≡ false = grind (arith, nat_tests, below) in (
+        ap (list_any (λ k. is_same_link k l)) more ∙ list_any-append (λ k. is_same_link k l) (firsts used) (m ∷ []) ∙ or_left (list_any (λ k. is_same_link k l) (firsts used)) _ known,
+        ap (λ ks. link_number ks l) more ∙ position_or_len_push (λ k. is_same_link k l) (firsts used) m ∙ rw apart refl,
+      )
+]
+
+pub number-stays : (used more : List Link) (l : Link) → list_any (λ k. is_same_link k l) (firsts used) ≡ true → link_number (firsts (used ++ more)) l ≡ link_number (firsts used) l
+number-stays used [] l known = ap (λ (ks : List Link). link_number (firsts ks) l) (append-nil used)
+number-stays used (m ∷ more) l known =
+    let next = stays-there used m l known in
+    ap (λ (ks : List Link). link_number (firsts ks) l) (sym (append_assoc used (m ∷ []) more)) ∙ number-stays (used ++ m ∷ []) more l next.0 ∙ next.1
 
 -- each link is among those kept
 pub firsts-have : (used : List Link) → All (λ l. list_any (λ k. is_same_link k l) (firsts used) ≡ true) used

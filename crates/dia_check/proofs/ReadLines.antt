@@ -6,7 +6,6 @@ use Rattle.std.proofs.lemmas.List.{append_assoc, length-drop, map-append}
 use Rattle.std.proofs.lemmas.List.Sums.{sum_by-cons}
 use Rattle.dbp_plan.specs.declared.diagram.Diagram.{Diagram}
 use Rattle.dbp_plan.specs.declared.diagram.Task.{Task}
-use Rattle.dbp_plan.specs.declared.diagram.Link.{Link}
 use Rattle.dbp_plan.proofs.ListParts.{split-at}
 use Rattle.dia_lines.specs.declared.item.Part.{Part}
 use Rattle.dia_lines.specs.declared.item.Part.TheVariants as part
@@ -22,13 +21,12 @@ module _ (tasks : List RawTask) (reader : ℕ) (ps : List Part) (ns : List ℕ) 
       ≡ map (λ l. record { line = n; link = link_number (links_of tasks) l }) (link_of tasks reader p) ++ body_read_lines tasks reader (drop (k + 1) ps) (drop (k + 1) ns)
   from-here = rw (split-at ps k p in_ps is_p, split-at ns k n in_ns is_n) refl
 
-  pub no-read : (made : List ReadLine) → link_of tasks reader p ≡ []
-      → made ++ body_read_lines tasks reader (drop k ps) (drop k ns) ≡ made ++ body_read_lines tasks reader (drop (k + 1) ps) (drop (k + 1) ns)
-  no-read made none = ap (λ ls. made ++ ls) (from-here ∙ rw none refl)
-
-  pub one-read : (made : List ReadLine) (l : Link) → link_of tasks reader p ≡ l ∷ []
-      → made ++ body_read_lines tasks reader (drop k ps) (drop k ns) ≡ (made ++ record { line = n; link = link_number (links_of tasks) l } ∷ []) ++ body_read_lines tasks reader (drop (k + 1) ps) (drop (k + 1) ns)
-  one-read made l one = ap (λ ls. made ++ ls) (from-here ∙ rw one refl) ∙ sym (append_assoc made (record { line = n; link = link_number (links_of tasks) l } ∷ []) (body_read_lines tasks reader (drop (k + 1) ps) (drop (k + 1) ns)))
+  -- one more line of the body
+  pub lines-next : (made : List ReadLine) → made ++ body_read_lines tasks reader (drop k ps) (drop k ns)
+      ≡ (made ++ map (λ l. record { line = n; link = link_number (links_of tasks) l }) (link_of tasks reader p)) ++ body_read_lines tasks reader (drop (k + 1) ps) (drop (k + 1) ns)
+  lines-next made =
+      ap (λ ls. made ++ ls) from-here
+      ∙ sym (append_assoc made (map (λ l. record { line = n; link = link_number (links_of tasks) l }) (link_of tasks reader p)) (body_read_lines tasks reader (drop (k + 1) ps) (drop (k + 1) ns)))
 
 -- ---- each read line has the link of its read
 

@@ -8,6 +8,7 @@ use Rattle.dbp_plan.specs.declared.limits.TheConstants.{MAX_BODY}
 use Rattle.dbp_plan.specs.declared.diagram.Clock.{Clock}
 use Rattle.dbp_plan.specs.declared.diagram.Task.{Task}
 use Rattle.dbp_plan.specs.declared.diagram.Let.{Let}
+use Rattle.dbp_plan.specs.declared.diagram.Read.{Read}
 use Rattle.dia_lines.specs.declared.item.Part.{Part}
 use Rattle.dia_lines.specs.declared.item.Part.TheVariants as part
 use Rattle.dia_read.specs.declared.document.Body.{Body}
@@ -93,11 +94,12 @@ pub base-of-task : (body : Body) (number : ℕ) (t : RawTask) (order : List ℕ)
 base-of-task body number t order =
     rw (made-alike state_of state_name states-alike t.parts, made-alike (sense_of (flat_map input_name body.decls)) sense_name (senses-alike (flat_map input_name body.decls)) t.parts, made-alike (read_of body.tasks number) read_name (reads-alike body.tasks number) t.parts) refl
 
-pub assembled : (body : Body) (number : ℕ) (t : RawTask) (w : Work) (g : Given) (clock : Clock) → IsWorkOf t w → IsGivenTo body number t.parts g → clock ≡ clock_of (flat_map event_name body.decls) t.clock
-    → IsTaskOf body number t (record { name = t.name; clock = clock; prio = t.prio; deadline = t.deadline; cost = t.cost; states = g.states; senses = g.senses; reads = g.reads; lets = w.lets; order = w.order; nexts = w.nexts; outs = w.outs })
-assembled body number t w g clock work given is =
-    let made : Task = record { name = t.name; clock = clock; prio = t.prio; deadline = t.deadline; cost = t.cost; states = g.states; senses = g.senses; reads = g.reads; lets = w.lets; order = w.order; nexts = w.nexts; outs = w.outs } in
-    let same : made ≡ task_of body number t w.order = rw (is, given.states, given.senses, given.reads, work.lets, work.nexts, work.outs) refl in
+pub assembled : (body : Body) (number : ℕ) (t : RawTask) (w : Work) (g : Given) (reads : List Read) (clock : Clock) → IsWorkOf t w → IsGivenTo body t.parts g → reads ≡ flat_map (read_of body.tasks number) t.parts
+    → clock ≡ clock_of (flat_map event_name body.decls) t.clock
+    → IsTaskOf body number t (record { name = t.name; clock = clock; prio = t.prio; deadline = t.deadline; cost = t.cost; states = g.states; senses = g.senses; reads = reads; lets = w.lets; order = w.order; nexts = w.nexts; outs = w.outs })
+assembled body number t w g reads clock work given read is =
+    let made : Task = record { name = t.name; clock = clock; prio = t.prio; deadline = t.deadline; cost = t.cost; states = g.states; senses = g.senses; reads = reads; lets = w.lets; order = w.order; nexts = w.nexts; outs = w.outs } in
+    let same : made ≡ task_of body number t w.order = rw (is, given.states, given.senses, read, work.lets, work.nexts, work.outs) refl in
     record {
       is = same;
       order = subst (λ (u : Task). IsFrontOrder (let_base u) u.lets w.order) (sym same) (subst (λ (b : ℕ). IsFrontOrder b (lets_of t) w.order) (sym (base-of-task body number t w.order)) work.order);

@@ -1,5 +1,5 @@
 -- The numbers and the names of codes, as refusals print them.
-use Rattle.std.specs.Prelude.{ℕ, List, codes}
+use Rattle.std.specs.Prelude.{ℕ, List, ◌++◌, codes, decimal}
 use Rattle.dia_check.specs.declared.fail.CheckCode.{CheckCode}
 use Rattle.dia_check.specs.declared.fail.CheckCode.TheVariants.{Duplicate, Unknown, SelfLink, LetCycle, MissingPrio, MissingDeadline, ReadPastCost, NoOut, UndelayedUpward}
 
@@ -24,3 +24,7 @@ check_name MissingDeadline = codes "MissingDeadline"
 check_name ReadPastCost = codes "ReadPastCost"
 check_name NoOut = codes "NoOut"
 check_name (UndelayedUpward writer reader) = codes "UndelayedUpward"
+
+-- the number and the name of a code
+abbrev pub check_text : CheckCode → List ℕ
+check_text code = decimal (check_number code) ++ codes " " ++ check_name code

@@ -10,6 +10,7 @@ pub mod Placed
 pub mod RankFaults
 pub mod Shapes
 -- What private functions, the inside of types and proofs cite.
+pub mod Indexes
 pub mod Kinds
 pub mod Scopes
 pub mod Tests

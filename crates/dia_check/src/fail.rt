@@ -7,6 +7,7 @@ ghost use Rattle.dia_check.specs.RankFaults.{rank_refusal};
 ghost use Rattle.dia_check.specs.declared.fail.CheckFail.TheVariants.{NoMemory as OutOfMemory};
 
 use dbp_plan::{List, Name, NoMemory};
+use std::fmt;
 
 /// Why a document has no diagram, in the order of their numbers, from 10 on.
 #[derive(Drop)]
@@ -65,6 +66,18 @@ impl CheckCode {
             CheckCode::NoOut => "NoOut",
             CheckCode::UndelayedUpward { .. } => "UndelayedUpward",
         }
+    }
+}
+
+/// The number and the name of the code, as a refusal has them after the number of its line.
+impl fmt::Display for CheckCode {
+    ghost use Rattle.std.specs.Prelude.{Some};
+    ghost use Rattle.dia_check.specs.Codes.{check_text};
+
+    ghost output = { λ code. Some (check_text code) };
+
+    fn fmt<W: fmt::Write>(&self, f: &mut fmt::Formatter<W>) -> fmt::Result {
+        write!(f, "{} {}", self.number(), self.name())
     }
 }
 

@@ -10,6 +10,7 @@ mod names;
 mod outs;
 mod parts;
 mod placing;
+mod ports;
 mod rank_faults;
 mod ranking;
 mod reads;

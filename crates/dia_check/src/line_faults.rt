@@ -10,6 +10,7 @@ ghost use Rattle.dia_check.specs.Tests.{is_input, is_event, is_decl, is_task, is
 
 use crate::fail::LineFault;
 use crate::names::is_same_name;
+use crate::ports::{port_index, task_index};
 use dbp_plan::{Expr, Name, Node};
 use dia_lines::{Decl, Part, RawClock};
 use dia_read::{Body, RawTask};
@@ -51,12 +52,6 @@ fn has_state(parts: &[Part], name: &Name) -> bool
     ensures { result ≡ list_any (is_state name.now) parts.now }
 {
     parts.iter().any(|part| matches!(part, Part::State(other, _) if is_same_name(other, name)))
-}
-
-fn has_out(parts: &[Part], name: &Name) -> bool
-    ensures { result ≡ list_any (is_out name.now) parts.now }
-{
-    parts.iter().any(|part| matches!(part, Part::Out(other, _, _) if is_same_name(other, name)))
 }
 
 fn has_next(parts: &[Part], name: &Name) -> bool
@@ -112,24 +107,6 @@ fn has_strange(parts: &[Part], expr: &Expr<Name>) -> bool
         .any(|node| is_strange(parts, node))
 }
 
-/// The first task with the name.
-pub(crate) fn find_task<'a>(tasks: &'a [RawTask], name: &Name) -> Option<&'a RawTask>
-    ensures { option_copied result ≡ find (is_task name.now) tasks.now }
-{
-    tasks.iter().find(|task| is_same_name(&task.name, name))
-}
-
-/// Whether the first task with the name has an out with this one.
-#[tactic(auto, using(crate::proofs::NameTests::among_outs))]
-fn has_port(tasks: &[RawTask], writer: &Name, port: &Name) -> bool
-    ensures { result ≡ is_among (port_names tasks.now writer.now) port.now }
-{
-    match find_task(tasks, writer) {
-        Some(task) => has_out(task.parts.items(), port),
-        None => false,
-    }
-}
-
 /// Whether the part uses a name that nothing has.
 #[tactic(auto, using(crate::proofs::NameTests::among_inputs, crate::proofs::NameTests::among_states))]
 fn is_unknown(body: &Body, task: &RawTask, part: &Part) -> bool
@@ -138,7 +115,7 @@ fn is_unknown(body: &Body, task: &RawTask, part: &Part) -> bool
     match part {
         Part::State(_, _) => false,
         Part::Sense(_, input) => !has_input(body.decls.items(), input),
-        Part::Read { task, port, .. } => !has_port(body.tasks.items(), task, port),
+        Part::Read { task, port, .. } => port_index(&body.tasks, task, port).is_none(),
         Part::Let(_, expr) | Part::Out(_, _, expr) => has_strange(task.parts.items(), expr),
         Part::Next(state, expr) => {
             !has_state(task.parts.items(), state) || has_strange(task.parts.items(), expr)
@@ -198,10 +175,12 @@ fn has_decl(decls: &[Decl], name: &Name) -> bool
     decls.iter().any(|decl| is_same_name(decl_name(decl), name))
 }
 
+/// Whether a task has the name.
+#[tactic(auto, using(crate::proofs::PortLaws::some_index))]
 fn has_task(tasks: &[RawTask], name: &Name) -> bool
     ensures { result ≡ list_any (is_task name.now) tasks.now }
 {
-    tasks.iter().any(|task| is_same_name(&task.name, name))
+    task_index(tasks, name).is_some()
 }
 
 /// The fault of a declaration behind those before it.

@@ -5,13 +5,12 @@ ghost use Rattle.std.specs.List.{flat_map};
 ghost use Rattle.std.specs.Str.{bytes_eq};
 ghost use Rattle.std.specs.Option.{option_to_list};
 ghost use Rattle.dia_check.specs.Kinds.{named};
-ghost use Rattle.dia_check.specs.Names.{input_name, event_name, task_names, state_name, env_names};
+ghost use Rattle.dia_check.specs.Names.{input_name, event_name, state_name, env_names};
 ghost use Rattle.dbp_plan.specs.declared.limits.TheConstants.{MAX_BODY};
 ghost use Rattle.dbp_plan.specs.NameLists.{index_of};
 
 use dbp_plan::{List, Name, NoMemory};
 use dia_lines::{Decl, Part};
-use dia_read::RawTask;
 use std::alloc::Global;
 
 /// The kinds of names of a task.
@@ -68,17 +67,6 @@ pub(crate) fn event_names(alloc: Global, decls: &[Decl]) -> Result<List<Name>, N
         if let Decl::Event(name) = decl {
             names.push(*name)?;
         }
-    }
-    Ok(names)
-}
-
-pub(crate) fn task_names(alloc: Global, tasks: &[RawTask]) -> Result<List<Name>, NoMemory>
-    requires { length tasks.now < 2 ^ 32 }
-    ensures { IfOk result (λ names. names ≡ task_names tasks.now) }
-{
-    let mut names = List::new(alloc);
-    for task in tasks {
-        names.push(task.name)?;
     }
     Ok(names)
 }

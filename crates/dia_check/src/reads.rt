@@ -1,143 +1,112 @@
-// The reads of a task, and the lines of reads.
+// The reads of tasks, with their links and their lines.
 
-ghost use Rattle.std.specs.Prelude.{◌≡◌, ◌+◌, ◌<◌, ◌≤◌, ◌^◌, ◌++◌, List as Items, length, sum_by, IfOk, OnOk};
+ghost use Rattle.std.specs.Prelude.{◌≡◌, ◌+◌, ◌<◌, ◌≤◌, ◌^◌, ◌++◌, List as Items, Some, true, length, map, slice_get, take, IfOk, OnOk};
 ghost use Rattle.std.specs.List.{flat_map};
 ghost use Rattle.std.specs.Option.{option_to_list};
-ghost use Rattle.dia_read.specs.declared.document.Body.{Body as AnyBody};
-ghost use Rattle.dia_check.specs.Diagrams.{read_of};
-ghost use Rattle.dia_check.specs.Names.{out_name, port_names};
+ghost use Rattle.dbp_plan.specs.declared.diagram.Link.{Link as AnyLink};
 ghost use Rattle.dbp_plan.specs.declared.limits.TheConstants.{MAX_BODY};
-ghost use Rattle.dbp_plan.specs.NameLists.{index_of};
-ghost use Rattle.dia_check.specs.Scopes.{IsScopeOf};
-ghost use Rattle.dia_check.specs.Shapes.{body_read_lines, read_lines_of};
-ghost use Rattle.dia_read.specs.Printable.{HasItemLines};
+ghost use Rattle.dia_check.specs.Diagrams.{firsts, link_number, link_of, links_of, links_used, read_of};
+ghost use Rattle.dia_check.specs.Scopes.{HasFaultlessParts, IsKnownRead};
+ghost use Rattle.dia_check.specs.Shapes.{body_read_lines};
 
-use crate::line_faults::find_task;
-use crate::links::{link_number, link_of};
-use crate::names::{index_of, is_same_name};
-use crate::scope::Scope;
+use crate::links::number_of;
+use crate::ports::port_index;
 use crate::shaped::ReadLine;
-use dbp_plan::{Link, List, Name, NoMemory, Read};
+use dbp_plan::{Link, List, NoMemory, Read};
 use dia_lines::Part;
-use dia_read::{Body, Doc, RawTask};
+use dia_read::{Body, RawTask};
 use std::alloc::Global;
 
-/// The place of the name among the body's outs; behind all where it isn't there.
-fn out_place(parts: &[Part], name: &Name) -> u32
-    requires { length parts.now < 2 ^ 32 }
-    ensures { result ≡ index_of (flat_map out_name parts.now) name.now }
-{
-    let mut place = 0;
-    for part in parts {
-        if let Part::Out(out, _, _) = part {
-            if is_same_name(out, name) {
-                return place;
-            }
-            place += 1;
-        }
-    }
-    place
+/// The links over which tasks read, and their `read` lines.
+#[derive(Drop)]
+pub(crate) struct ReadLinks {
+    pub(crate) links: List<Link>,
+    pub(crate) lines: List<ReadLine>,
 }
 
-/// The place of the out among those of the first task with the name.
-fn port_place(tasks: &[RawTask], writer: &Name, port: &Name) -> u32
-    ensures { result ≡ index_of (port_names tasks.now writer.now) port.now }
+/// The read of this line of the reader's body. Its link is added if it isn't there, and so is the line.
+fn read_of(
+    body: &Body,
+    found: &mut ReadLinks,
+    reader: u32,
+    part: &Part,
+    line: u32,
+) -> Result<Option<Read>, NoMemory>
+    requires known { IsKnownRead body.now.tasks part.now }
+    requires links { length found.old.links + 1 < 2 ^ 32 }
+    requires lines { length found.old.lines + 1 < 2 ^ 32 }
+    ensures read { IfOk result (λ read. (used more : Items AnyLink)
+        → found.old.links ≡ firsts used
+        → links_used body.now.tasks 0 body.now.tasks ≡ (used ++ link_of body.now.tasks reader part.now) ++ more
+        → option_to_list read ≡ read_of body.now.tasks reader part.now) }
+    ensures links { OnOk result ((used : Items AnyLink) → found.old.links ≡ firsts used
+        → found.new.links ≡ firsts (used ++ link_of body.now.tasks reader part.now)) }
+    ensures lines { OnOk result ((used more : Items AnyLink)
+        → found.old.links ≡ firsts used
+        → links_used body.now.tasks 0 body.now.tasks ≡ (used ++ link_of body.now.tasks reader part.now) ++ more
+        → found.new.lines ≡ found.old.lines
+        ++ map (λ l. record { line = line; link = link_number (links_of body.now.tasks) l })
+        (link_of body.now.tasks reader part.now)) }
+    ensures few { OnOk result ((length found.new.links ≤ length found.old.links + 1)
+        × (length found.new.lines ≤ length found.old.lines + 1)) }
 {
-    match find_task(tasks, writer) {
-        Some(task) => out_place(task.parts.items(), port),
-        None => 0,
-    }
+    let Part::Read {
+        name,
+        delay,
+        task,
+        port,
+        at,
+    } = part
+    else {
+        return Ok(None);
+    };
+    let Some((writer, port)) = port_index(&body.tasks, task, port) else {
+        unreachable!()
+    };
+    let link = Link {
+        writer,
+        reader,
+        delay: *delay,
+    };
+    let link = number_of(&mut found.links, link)?;
+    found.lines.push(ReadLine { line, link })?;
+    Ok(Some(Read {
+        name: *name,
+        link,
+        port,
+        at: *at,
+    }))
 }
 
-fn read_of(body: &Body, scope: &Scope, reader: u32, part: &Part) -> Option<Read>
-    requires { IsScopeOf body.now scope.now }
-    ensures { option_to_list result ≡ read_of body.now.tasks reader part.now }
-{
-    match part {
-        Part::Read {
-            name,
-            delay,
-            task,
-            port,
-            at,
-        } => {
-            let link = Link {
-                writer: index_of(scope.tasks.items(), task),
-                reader,
-                delay: *delay,
-            };
-            Some(Read {
-                name: *name,
-                link: link_number(scope.links.items(), &link),
-                port: port_place(body.tasks.items(), task, port),
-                at: *at,
-            })
-        }
-        _ => None,
-    }
-}
-
-/// The reads of the task's body.
+/// The reads of the task with this number, of which no line has a fault. The links of its `read` lines that aren't there
+/// are added, and so are the lines. The lines of its body have the first of these numbers.
 pub(crate) fn reads_of(
     alloc: Global,
     body: &Body,
-    scope: &Scope,
+    found: &mut ReadLinks,
     reader: u32,
-    parts: &[Part],
+    raw: &RawTask,
+    lines: &[u32],
 ) -> Result<List<Read>, NoMemory>
-    requires scope { IsScopeOf body.now scope.now }
-    requires few { length parts.now ≤ MAX_BODY }
-    ensures { IfOk result (λ reads. reads ≡ flat_map (read_of body.now.tasks reader) parts.now) }
+    requires at { slice_get body.now.tasks reader ≡ Some raw.now }
+    requires faultless { HasFaultlessParts body.now raw.now }
+    requires lines { length raw.now.parts ≤ length lines.now }
+    requires few { length raw.now.parts ≤ MAX_BODY }
+    requires links { found.old.links ≡ firsts (links_used body.now.tasks 0 (take reader body.now.tasks)) }
+    requires links_room { length found.old.links + length raw.now.parts < 2 ^ 32 }
+    requires lines_room { length found.old.lines + length raw.now.parts < 2 ^ 32 }
+    ensures reads { IfOk result (λ reads. reads ≡ flat_map (read_of body.now.tasks reader) raw.now.parts) }
+    ensures links { OnOk result (found.new.links ≡ firsts (links_used body.now.tasks 0 (take (reader + 1) body.now.tasks))) }
+    ensures lines { OnOk result (found.new.lines ≡ found.old.lines
+        ++ body_read_lines body.now.tasks reader raw.now.parts lines.now) }
+    ensures few { OnOk result ((length found.new.links ≤ length found.old.links + length raw.now.parts)
+        × (length found.new.lines ≤ length found.old.lines + length raw.now.parts)) }
 {
     let mut reads = List::new(alloc);
-    for part in parts {
-        if let Some(read) = read_of(body, scope, reader, part) {
+    for (place, part) in raw.parts.items().iter().enumerate() {
+        if let Some(read) = read_of(body, found, reader, part, lines[place])? {
             reads.push(read)?;
         }
     }
     Ok(reads)
-}
-
-/// Adds the read lines of the task's body, whose lines have the first of these numbers.
-fn push_read_lines(
-    made: &mut List<ReadLine>,
-    scope: &Scope,
-    reader: u32,
-    parts: &[Part],
-    lines: &[u32],
-) -> Result<(), NoMemory>
-    requires lines { length parts.now ≤ length lines.now }
-    requires room { length made.old + length parts.now < 2 ^ 32 }
-    ensures added { OnOk result ((body : AnyBody) → IsScopeOf body scope.now → made.new ≡ made.old ++ body_read_lines body.tasks reader parts.now lines.now) }
-    ensures few { OnOk result (length made.new ≤ length made.old + length parts.now) }
-{
-    for (place, part) in parts.iter().enumerate() {
-        if let Some(link) = link_of(scope.tasks.items(), reader, part) {
-            made.push(ReadLine {
-                line: lines[place],
-                link: link_number(scope.links.items(), &link),
-            })?;
-        }
-    }
-    Ok(())
-}
-
-/// The read lines of the document.
-pub(crate) fn read_lines_of(
-    alloc: Global,
-    doc: &Doc,
-    scope: &Scope,
-) -> Result<List<ReadLine>, NoMemory>
-    requires scope { IsScopeOf doc.now.body scope.now }
-    requires lines { HasItemLines doc.now }
-    requires few { sum_by (λ t. length t.parts) doc.now.body.tasks ≤ 2048 }
-    ensures { IfOk result (λ lines. lines ≡ read_lines_of doc.now) }
-{
-    let mut made = List::new(alloc);
-    let mut rest = doc.lines.parts.items();
-    for (number, task) in doc.body.tasks.items().iter().enumerate() {
-        push_read_lines(&mut made, scope, number as u32, task.parts.items(), rest)?;
-        rest = &rest[task.parts.items().len()..];
-    }
-    Ok(made)
 }

@@ -1,27 +1,27 @@
 // The diagram that a document says.
 
-ghost use Rattle.std.specs.Prelude.{◌≡◌, ◌<◌, ◌^◌, [], None, length, IfOk, IfErr, IfSome, IsErrOf};
+ghost use Rattle.std.specs.Prelude.{◌≡◌, ◌<◌, ◌^◌, [], None, length, IfOk, IfErr, IfSome, IsErrOf, OnOk};
 ghost use Rattle.std.specs.List.{flat_map};
 ghost use Rattle.dbp_plan.specs.Closed.{IsClosed};
 ghost use Rattle.dbp_plan.specs.FirstFault.{first_fault};
 ghost use Rattle.dia_read.specs.Printable.{IsPrintable, HasItemLines};
-ghost use Rattle.dia_check.specs.Diagrams.{IsDiagramOf, input_of};
+ghost use Rattle.dia_check.specs.Diagrams.{IsDiagramOf, input_of, links_of};
 ghost use Rattle.dia_check.specs.declared.fail.CheckCode.TheVariants.{NoOut};
 ghost use Rattle.dia_check.specs.declared.fail.CheckFail.TheVariants.{Refused};
 ghost use Rattle.dia_check.specs.Faults.{line_faults, line_refusal, line_without_out};
 ghost use Rattle.dia_check.specs.Scopes.{IsScopeOf};
-ghost use Rattle.dia_check.specs.Shapes.{IsShapeOf, IsShapeRefusal, HasLines, AreTasksOf, AreWhole};
+ghost use Rattle.dia_check.specs.Shapes.{IsShapeOf, IsShapeRefusal, HasLines, AreTasksOf, AreWhole, read_lines_of};
 
 use crate::fail::{CheckCode, CheckFail, line_refusal};
 use crate::first_line::first_line_fault;
 use crate::outs::line_without_out;
-use crate::reads::read_lines_of;
+use crate::reads::{ReadLinks, reads_of};
 use crate::scope::{Scope, scope_of};
 use crate::shaped::Shaped;
 use crate::tasks::checked_task;
-use dbp_plan::{Diagram, Input, List, NoMemory, Task};
+use dbp_plan::{Diagram, Input, Link, List, NoMemory, Task};
 use dia_lines::Decl;
-use dia_read::Doc;
+use dia_read::{Body, Doc};
 use std::alloc::Global;
 
 fn inputs_of(alloc: Global, decls: &[Decl]) -> Result<List<Input>, NoMemory>
@@ -40,14 +40,22 @@ fn inputs_of(alloc: Global, decls: &[Decl]) -> Result<List<Input>, NoMemory>
     Ok(inputs)
 }
 
-/// The tasks of the document, of which no line has a fault.
+/// The tasks of the document, of which no line has a fault. Their links and read lines are put into `found`.
 #[tactic(auto, using(crate::proofs::TasksSoFar::tasks_begin))]
-fn tasks_of(alloc: Global, doc: &Doc, scope: &Scope) -> Result<List<Task>, CheckFail>
+fn tasks_of(
+    alloc: Global,
+    doc: &Doc,
+    scope: &Scope,
+    found: &mut ReadLinks,
+) -> Result<List<Task>, CheckFail>
     requires printable { IsPrintable doc.now.body }
     requires lines { HasItemLines doc.now }
     requires scope { IsScopeOf doc.now.body scope.now }
     requires faultless { first_fault (line_faults doc.now) ≡ None }
+    requires none { (found.old.links ≡ []) × (found.old.lines ≡ []) }
     ensures tasks { IfOk result (λ tasks. AreTasksOf doc.now.body tasks) }
+    ensures links { OnOk result (found.new.links ≡ links_of doc.now.body.tasks) }
+    ensures lines { OnOk result (found.new.lines ≡ read_lines_of doc.now) }
     ensures whole { IfOk result (λ _. AreWhole doc.now.body.tasks) }
     ensures fault { IfErr result (λ fail. IsShapeRefusal doc.now fail) }
 {
@@ -55,34 +63,37 @@ fn tasks_of(alloc: Global, doc: &Doc, scope: &Scope) -> Result<List<Task>, Check
     let mut rest = doc.lines.parts.items();
     let mut tasks = List::new(alloc);
     for (number, raw) in doc.body.tasks.items().iter().enumerate() {
+        let reads = reads_of(alloc, &doc.body, found, number as u32, raw, rest)?;
         let line = begins[number];
-        let task = checked_task(alloc, &doc.body, scope, number as u32, raw, line, rest)?;
+        let task = checked_task(alloc, &doc.body, scope, raw, reads, line, rest)?;
         tasks.push(task)?;
         rest = &rest[raw.parts.items().len()..];
     }
     Ok(tasks)
 }
 
-/// The diagram of the document, of which no line has a fault.
-fn diagram_of(alloc: Global, doc: &Doc, scope: Scope) -> Result<Diagram, CheckFail>
-    requires printable { IsPrintable doc.now.body }
-    requires lines { HasItemLines doc.now }
-    requires scope { IsScopeOf doc.now.body scope }
-    requires faultless { first_fault (line_faults doc.now) ≡ None }
-    ensures diagram { IfOk result (λ diagram. IsDiagramOf doc.now.body diagram) }
+/// The diagram of the document with these tasks and links.
+fn diagram_of(
+    alloc: Global,
+    body: &Body,
+    scope: Scope,
+    tasks: List<Task>,
+    links: List<Link>,
+) -> Result<Diagram, NoMemory>
+    requires scope { IsScopeOf body.now scope }
+    requires tasks { AreTasksOf body.now tasks }
+    requires links { links ≡ links_of body.now.tasks }
+    ensures diagram { IfOk result (λ diagram. IsDiagramOf body.now diagram) }
     ensures unranked { IfOk result (λ diagram. diagram.ranks ≡ []) }
-    ensures whole { IfOk result (λ _. AreWhole doc.now.body.tasks) }
-    ensures fault { IfErr result (λ fail. IsShapeRefusal doc.now fail) }
 {
-    let tasks = tasks_of(alloc, doc, &scope)?;
-    let inputs = inputs_of(alloc, doc.body.decls.items())?;
+    let inputs = inputs_of(alloc, body.decls.items())?;
     Ok(Diagram {
-        policy: doc.body.policy,
-        until: doc.body.until,
+        policy: body.policy,
+        until: body.until,
         inputs,
         events: scope.events,
         tasks,
-        links: scope.links,
+        links,
         ranks: List::new(alloc),
     })
 }
@@ -98,13 +109,17 @@ fn shaped_of(alloc: Global, doc: &Doc) -> Result<Shaped, CheckFail>
     ensures fault { IfErr result (λ fail. IsShapeRefusal doc.now fail) }
 {
     let scope = scope_of(alloc, &doc.body)?;
-    let read_lines = read_lines_of(alloc, doc, &scope)?;
+    let mut found = ReadLinks {
+        links: List::new(alloc),
+        lines: List::new(alloc),
+    };
+    let tasks = tasks_of(alloc, doc, &scope, &mut found)?;
     let task_lines = doc.lines.tasks.copied()?;
-    let diagram = diagram_of(alloc, doc, scope)?;
+    let diagram = diagram_of(alloc, &doc.body, scope, tasks, found.links)?;
     Ok(Shaped {
         diagram,
         task_lines,
-        read_lines,
+        read_lines: found.lines,
     })
 }
 

@@ -4,7 +4,8 @@ ghost use Rattle.std.specs.Prelude.{◌≡◌, ◌<◌, ◌≤◌, ℕ, Some, tr
 ghost use Rattle.dbp_plan.specs.declared.limits.TheConstants.{MAX_BODY};
 ghost use Rattle.dia_check.specs.declared.fail.CheckCode.TheVariants.{NoOut};
 ghost use Rattle.dia_check.specs.declared.fail.CheckFail.TheVariants.{Refused};
-ghost use Rattle.dia_check.specs.Diagrams.{IsTaskOf, clock_of, lets_of};
+ghost use Rattle.dia_check.specs.Diagrams.{IsTaskOf, clock_of, lets_of, read_of};
+ghost use Rattle.std.specs.List.{flat_map};
 ghost use Rattle.dia_check.specs.Faults.{IsWhole, base_of, lacks_outs, let_lines};
 ghost use Rattle.dia_check.specs.Names.{env_names};
 ghost use Rattle.dia_check.specs.Scopes.{IsScopeOf, HasFaultlessParts, HasNoCycle, AreOrderedLets, IsWorkOf, IsGivenTo, IsTaskRefusal, let_refusal};
@@ -14,7 +15,6 @@ use crate::fail::{CheckCode, CheckFail};
 use crate::names::{env_names, index_of, state_names};
 use crate::outs::lacks_outs;
 use crate::parts::{lets_of, nexts_of, outs_of, senses_of, states_of};
-use crate::reads::reads_of;
 use crate::scope::Scope;
 use dbp_plan::{Clock, Let, List, Name, Next, NoMemory, Out, Read, Sense, State, Task};
 use dia_lines::{Part, RawClock};
@@ -93,49 +93,42 @@ fn work_of(alloc: Global, body: &Body, raw: &RawTask) -> Result<Work, LetFail>
     })
 }
 
-/// What a task keeps, senses and reads.
+/// What a task keeps and senses.
 #[derive(Drop)]
 struct Given {
     states: List<State>,
     senses: List<Sense>,
-    reads: List<Read>,
 }
 
-fn given_to(
-    alloc: Global,
-    body: &Body,
-    scope: &Scope,
-    number: u32,
-    parts: &[Part],
-) -> Result<Given, NoMemory>
+fn given_to(alloc: Global, body: &Body, scope: &Scope, parts: &[Part]) -> Result<Given, NoMemory>
     requires scope { IsScopeOf body.now scope.now }
     requires few { length parts.now ≤ MAX_BODY }
-    ensures { IfOk result (λ given. IsGivenTo body.now number parts.now given) }
+    ensures { IfOk result (λ given. IsGivenTo body.now parts.now given) }
 {
     Ok(Given {
         states: states_of(alloc, parts)?,
         senses: senses_of(alloc, scope.inputs.items(), parts)?,
-        reads: reads_of(alloc, body, scope, number, parts)?,
     })
 }
 
-/// The task with the number that its lines say.
+/// The task that its lines say, with these reads.
 fn task_of(
     alloc: Global,
     body: &Body,
     scope: &Scope,
-    number: u32,
     raw: &RawTask,
+    reads: List<Read>,
 ) -> Result<Task, LetFail>
     requires scope { IsScopeOf body.now scope.now }
     requires few { length raw.now.parts ≤ MAX_BODY }
     requires faultless { HasFaultlessParts body.now raw.now }
-    ensures task { IfOk result (λ task. IsTaskOf body.now number raw.now task) }
+    ensures task { (number : ℕ) → reads ≡ flat_map (read_of body.now.tasks number) raw.now.parts
+        → IfOk result (λ task. IsTaskOf body.now number raw.now task) }
     ensures whole { IfOk result (λ _. HasNoCycle raw.now) }
     ensures fail { IfErr result (λ fail. IsFailOf (base_of raw.now) (lets_of raw.now) fail) }
 {
     let work = work_of(alloc, body, raw)?;
-    let given = given_to(alloc, body, scope, number, raw.parts.items())?;
+    let given = given_to(alloc, body, scope, raw.parts.items())?;
     Ok(Task {
         name: raw.name,
         clock: clock_of(scope, &raw.clock),
@@ -144,7 +137,7 @@ fn task_of(
         cost: raw.cost,
         states: given.states,
         senses: given.senses,
-        reads: given.reads,
+        reads,
         lets: work.lets,
         order: work.order,
         nexts: work.nexts,
@@ -185,14 +178,14 @@ fn let_refusal(raw: &RawTask, lines: &[u32], fail: LetFail) -> CheckFail
     }
 }
 
-/// The task with the number that its lines say, or why it isn't right as a whole. Its first line has this number, and
+/// The task that its lines say, with these reads, or why it isn't right as a whole. Its first line has this number, and
 /// those of its body the first of these.
 pub(crate) fn checked_task(
     alloc: Global,
     body: &Body,
     scope: &Scope,
-    number: u32,
     raw: &RawTask,
+    reads: List<Read>,
     begins: u32,
     lines: &[u32],
 ) -> Result<Task, CheckFail>
@@ -200,7 +193,8 @@ pub(crate) fn checked_task(
     requires few { length raw.now.parts ≤ MAX_BODY }
     requires lines { length raw.now.parts ≤ length lines.now }
     requires faultless { HasFaultlessParts body.now raw.now }
-    ensures task { IfOk result (λ task. IsTaskOf body.now number raw.now task) }
+    ensures task { (number : ℕ) → reads ≡ flat_map (read_of body.now.tasks number) raw.now.parts
+        → IfOk result (λ task. IsTaskOf body.now number raw.now task) }
     ensures whole { IfOk result (λ _. IsWhole raw.now) }
     ensures fault { IfErr result (λ fail. IsTaskRefusal raw.now begins lines.now fail) }
     // A task without outs is refused before memory is taken.
@@ -212,7 +206,7 @@ pub(crate) fn checked_task(
             code: CheckCode::NoOut,
         });
     }
-    match task_of(alloc, body, scope, number, raw) {
+    match task_of(alloc, body, scope, raw, reads) {
         Ok(task) => Ok(task),
         Err(fail) => Err(let_refusal(raw, lines, fail)),
     }

@@ -17,3 +17,4 @@ pub mod Following
 mod Rooms
 mod RoundTrip
 pub mod ItemLines
+pub mod TextLengths

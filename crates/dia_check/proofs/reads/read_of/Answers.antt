@@ -1,15 +1,39 @@
-use Rattle.std.proofs.Common.{◌≡◌, List, refl}
-use Rattle.dia_read.specs.declared.document.RawTask.{RawTask}
-use Rattle.dia_check.specs.Diagrams.{link_number, links_of}
-use Rattle.dia_check.specs.Names.{task_names, port_names}
-use Rattle.dbp_plan.specs.NameLists.{index_of}
+use Rattle.std.proofs.Common.{◌≡◌, ℕ, [], ◌∷◌, ◌++◌, true, refl, sym, ap, ◌∙◌}
+use Rattle.std.proofs.lemmas.Option.{same_Some}
+use Rattle.dbp_plan.specs.NameLists.{index_of, is_among}
+use Rattle.dbp_plan.specs.declared.diagram.Link.{Link}
+use Rattle.dia_check.specs.Diagrams.{link_number, links_of, links_used}
+use Rattle.dia_check.specs.Names.{port_names, task_names}
+use Rattle.dia_check.proofs.ReadSteps.{kept-number}
 use Rattle.dia_check.proofs.reads.read_of.Goals as goal
 
-pub returns-in-Read : goal.returns-in-Read
-returns-in-Read c =
-    let tasks : List RawTask = c.args.body.now.tasks in
-    let w : c.index_of.result ≡ index_of (task_names tasks) c.in-Read.task = rw (c.items.ensures.value, c.requires.tasks) at c.index_of.ensures in
-    let l : c.link_number.result ≡ link_number (links_of tasks) (record { writer = index_of (task_names tasks) c.in-Read.task; reader = c.args.reader; delay = c.in-Read.delay }) =
-    rw (c.items-in-Read.ensures.value, c.requires.links, w) at c.link_number.ensures in
-    let p : c.port_place.result ≡ index_of (port_names tasks c.in-Read.task) c.in-Read.port = rw c.items-in-Read-2.ensures.value at c.port_place.ensures in
-    rw (c.in-Read.is, l, p) refl
+pub returns-clause-read : goal.returns-clause-read
+returns-clause-read c used more is whole =
+    let tasks = c.args.body.now.tasks in
+    let a : ℕ = index_of (task_names tasks) c.in-Read.task in
+    let b : ℕ = index_of (port_names tasks c.in-Read.task) c.in-Read.port in
+    let known : is_among (port_names tasks c.in-Read.task) c.in-Read.port ≡ true = rw c.in-Read.is at c.requires.known in
+    let both : (c.in-Some.writer, c.in-Some.port) ≡ (a, b) = same_Some (c.in-Some.writer, c.in-Some.port) (a, b) (sym c.in-Some.is ∙ c.port_index.ensures ∙ rw known refl) in
+    let l : Link = record { writer = c.in-Some.writer; reader = c.args.reader; delay = c.in-Read.delay } in
+    let m : Link = record { writer = a; reader = c.args.reader; delay = c.in-Read.delay } in
+    let same : l ≡ m = λ j. record { writer = (both j).0; reader = c.args.reader; delay = c.in-Read.delay } in
+    let parted : links_used tasks 0 tasks ≡ (used ++ m ∷ []) ++ more = rw c.in-Read.is at whole in
+    let number : c.in_ok-link.link ≡ link_number (links_of tasks) m =
+    c.in_ok-link.ensures.number ∙ kept-number tasks used more c.number_of.new.links l m same (c.in_ok-link.ensures.added used is) c.in_ok-link.ensures.there parted in
+    let port : c.in-Some.port ≡ b = λ j. (both j).1 in
+    rw (c.in-Read.is, number, port) refl
+
+pub returns-clause-lines : goal.returns-clause-lines
+returns-clause-lines c used more is whole =
+    let tasks = c.args.body.now.tasks in
+    let a : ℕ = index_of (task_names tasks) c.in-Read.task in
+    let b : ℕ = index_of (port_names tasks c.in-Read.task) c.in-Read.port in
+    let known : is_among (port_names tasks c.in-Read.task) c.in-Read.port ≡ true = rw c.in-Read.is at c.requires.known in
+    let both : (c.in-Some.writer, c.in-Some.port) ≡ (a, b) = same_Some (c.in-Some.writer, c.in-Some.port) (a, b) (sym c.in-Some.is ∙ c.port_index.ensures ∙ rw known refl) in
+    let l : Link = record { writer = c.in-Some.writer; reader = c.args.reader; delay = c.in-Read.delay } in
+    let m : Link = record { writer = a; reader = c.args.reader; delay = c.in-Read.delay } in
+    let same : l ≡ m = λ j. record { writer = (both j).0; reader = c.args.reader; delay = c.in-Read.delay } in
+    let parted : links_used tasks 0 tasks ≡ (used ++ m ∷ []) ++ more = rw c.in-Read.is at whole in
+    let number : c.in_ok-link.link ≡ link_number (links_of tasks) m =
+    c.in_ok-link.ensures.number ∙ kept-number tasks used more c.number_of.new.links l m same (c.in_ok-link.ensures.added used is) c.in_ok-link.ensures.there parted in
+    rw c.in-Read.is (c.in_ok-push.ensures.ok ∙ ap (λ (n : ℕ). c.args.found.now.lines ++ record { line = c.args.line; link = n } ∷ []) number)

@@ -4,6 +4,6 @@ use Rattle.dia_check.proofs.TaskParts.{assembled}
 use Rattle.dia_check.proofs.tasks.task_of.Goals as goal
 
 pub returns-clause-task : goal.returns-clause-task
-returns-clause-task c =
-    assembled c.args.body.now c.args.number c.args.raw.now c.in_ok-work.work c.in_ok-given.given c.clock_of.result c.in_ok-work.ensures.work (rw c.items.ensures.value at c.in_ok-given.ensures)
+returns-clause-task c number reads =
+    assembled c.args.body.now number c.args.raw.now c.in_ok-work.work c.in_ok-given.given c.args.reads c.clock_of.result c.in_ok-work.ensures.work (rw c.items.ensures.value at c.in_ok-given.ensures) reads
     (c.clock_of.ensures ∙ ap (λ events. clock_of events c.args.raw.now.clock) c.requires.scope.events)
