@@ -1,4 +1,4 @@
--- The counts behind one more line are those of the statements.
+-- The counts after one more line are those of the statements.
 use Rattle.std.proofs.Common.{◌≡◌, ℕ, ℤ, Bool, true, false, List, ◌∷◌, length, filter, Option, Ok, refl, arith, ◌⊎◌, inl, inr}
 use Rattle.std.specs.Prelude.{nat_lt, nat_le}
 use Rattle.std.proofs.lemmas.Bool.Decides.{nat_tests}

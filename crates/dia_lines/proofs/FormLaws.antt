@@ -72,7 +72,7 @@ Inverts-shape ts s st.an_end = refl
 
 -- ---- building
 
--- what the tokens are where they have the form
+-- what the tokens are if they have the form
 abbrev pub Builds : List Token → Option Shape → Type 0
 Builds ts None = Unit {0}
 Builds ts (Some (plain u)) = IsStatement ts u

@@ -1,4 +1,4 @@
--- Where a line leads is told by what is held of it.
+-- What is held of a line says where it leads.
 use Rattle.std.proofs.Common.{◌≡◌, true, Some, refl, sym}
 use Rattle.std.proofs.lemmas.Option.{same_Some}
 use Rattle.dia_lines.specs.declared.item.Line.{Line}

@@ -1,4 +1,4 @@
--- A statement can be printed where its tokens can.
+-- A statement can be printed if its tokens can.
 use Rattle.std.proofs.Common.{All, List, [], ◌∷◌, ◌++◌}
 use Rattle.std.specs.List.{AllByRecursion}
 use Rattle.std.proofs.lemmas.List.Elements.{recursion_from_All}

@@ -72,7 +72,7 @@ module _ (text kept : List ℕ) (ts : List Token) (spelled : SpellsTokens text t
 -- ---- lines of the diagram
 
 module _ (before : List Said) (position : Position) (behind : IsBehind before position) (text : List ℕ) (ts : List Token) (spelled : SpellsTokens text ts) where
-  -- where the tokens have no fault but for their form
+  -- if the tokens have no fault except in their form
   module _ (free : token_fault position.place ts ≡ None) where
     faultless : token_fault (place_behind before) ts ≡ None
     faultless = rw (← behind.place) free
@@ -159,7 +159,7 @@ module _ (before : List Said) (position : Position) (behind : IsBehind before po
   pub trace-refused : (code : ReadCode) → position.place ≡ Trace → (code ≡ BadByte) × (list_all is_trace_byte text ≡ false) → HasFault before text code
   trace-refused code here (is, bad) = rw is (in_the_trace (sym behind.place ∙ here) bad)
 
-  -- the place behind a line that was read
+  -- the place after a line that was read
   pub behind-found : (l : Line) (counts : Counts) (place : Place) → place ≡ place_behind_line position.place l
       → (said : Said) × Reads before text said × IsHeld said l × AreCounts (statements (said ∷ before)) counts
       → (said : Said) × Reads before text said × IsHeld said l × IsBehind (said ∷ before) (record { place = place; counts = counts })

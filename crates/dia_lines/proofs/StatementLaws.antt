@@ -1,4 +1,4 @@
--- What an answer on a form says of the tokens of a line.
+-- What is returned for a form says this of the tokens of a line.
 use Rattle.std.proofs.Common.{◌≡◌, true, false, List, Option, Some, None, refl, sym, ap, subst, ◌∙◌}
 use Rattle.std.specs.Option.{is_some}
 use Rattle.dia_tokens.specs.declared.token.Token.{Token}
@@ -60,7 +60,7 @@ refused-stands place ts (of_next name us) e same h r =
 refused-stands place ts (of_out name first us) e same h r =
     none-spelled place ts us e r (λ s m none. let c = inverted ts (of_out name first us) (sym same) s m.form in none c.0 c.2)
 
--- where the form may not stand no statement of the tokens may
+-- if the form may not stand there, no statement of the tokens may
 pub none-stands : (place : Place) (ts : List Token) (f : Shape) → Some f ≡ shape_at ts → is_some (leads place (example_of f)) ≡ false → (s : Statement) → MayStand place ts s → ⊥
 none-stands place ts f e h s m =
     let led : leads place (example_of f) ≡ Some m.next = sym (leads-example place f s (inverted ts f (sym e) s m.form)) ∙ m.stands in

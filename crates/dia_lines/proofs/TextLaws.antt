@@ -1,4 +1,4 @@
--- The first line of a text, and the lines behind it.
+-- The first line of a text, and the lines after it.
 use Rattle.std.proofs.Common.{◌≡◌, ◌≢◌, ℕ, zero, suc, ◌-◌, ◌<◌, ◌≤◌, true, false, not, List, [], ◌∷◌, ◌++◌, length, refl, sym, ap, ◌∙◌, arith, length-drop, inl, inr, eqb, eq-eqb}
 use Rattle.std.specs.Prelude.{slice_index_or}
 use Rattle.std.proofs.lemmas.Bool.Decides.{nat_tests}
@@ -10,7 +10,7 @@ use Rattle.std.proofs.lemmas.Bool.{cases_Bool, both_ways, and_parts, eqb-true}
 use Rattle.dia_lines.specs.Text.{is_end, is_inside, without_return, lines_of_parts, lines_of}
 use Rattle.dia_lines.specs.FirstLine.{cut_line}
 
--- where no byte ends a line, there is one part
+-- if no byte ends a line, there is one part
 one_part : (bs : List ℕ) → position_or_len is_end bs ≡ length bs → slice_split is_end bs ≡ bs ∷ []
 one_part bs e = slice_split_none is_end bs (All-from_get_or (λ b. is_end b ≡ false) bs 0 (λ k within. fails_before_first is_end bs k 0 (omega arith)))
 
@@ -52,7 +52,7 @@ lines_of-cut_line bytes h =
           ∙ ap (λ (ps : List (List ℕ)). without_return (before_first is_end bytes) ∷ lines_of_parts ps) (sym r.2))
     ]
 
--- the lines are the first one and those of the bytes behind it
+-- the lines are the first one and those of the bytes after it
 pub lines_of-first : (bytes line rest : List ℕ) → 0 < length bytes → (line, rest) ≡ cut_line bytes → lines_of bytes ≡ line ∷ lines_of rest
 lines_of-first bytes line rest h e = lines_of-cut_line bytes h ∙ ap (λ (p : List ℕ × List ℕ). p.0 ∷ lines_of p.1) (sym e)
 
@@ -76,7 +76,7 @@ fewer (suc n) (b ∷ bs) h =
 pub length-lines_of : (bytes : List ℕ) → length (lines_of bytes) ≤ length bytes
 length-lines_of bytes = fewer (length bytes) bytes (omega arith)
 
--- ---- a line behind which a line feed stands
+-- ---- a line after which a line feed stands
 
 split-inside : (text after : List ℕ) → list_all is_inside text ≡ true → slice_split is_end (text ++ 10 ∷ after) ≡ text ∷ slice_split is_end after
 split-inside [] after h = slice_split-cons_yes is_end 10 after refl

@@ -30,7 +30,7 @@ passes_reversed p (x ∷ xs) h =
 passes_forward : (p : ℕ → Bool) (xs : List ℕ) → list_all p (reverse xs) ≡ true → list_all p xs ≡ true
 passes_forward p xs h = subst (λ (ys : List ℕ). list_all p ys ≡ true) (reverse-reverse xs) (passes_reversed p (reverse xs) h)
 
--- behind elements that pass stand those that begin with one that doesn't
+-- after elements that pass stand those that begin with one that doesn't
 length_before : (p : ℕ → Bool) (xs ys : List ℕ) → list_all p xs ≡ true → prefix_len p ys ≡ 0 → prefix_len p (xs ++ ys) ≡ length xs
 length_before p [] ys h e = e
 length_before p (x ∷ xs) ys h e =

@@ -1,4 +1,4 @@
--- What holds where a line is refused. Where memory ran out nothing is said.
+-- What holds if a line is refused. If memory ran out, nothing is said.
 use Rattle.std.specs.Prelude.{◌≡◌, ℕ, true, false, List, Option, Some, None}
 use Rattle.dia_tokens.specs.declared.line.LineFail.{LineFail}
 use Rattle.dia_tokens.specs.declared.token.Token.{Token}

@@ -1,4 +1,4 @@
--- The counts behind one more line.
+-- The counts after one more line.
 use Rattle.std.specs.Prelude.{◌≡◌, ℕ, ◌+◌, nat_lt, List, ◌∷◌, Some, None, Result, Ok, Err, if◌then◌else◌}
 use Rattle.dbp_plan.specs.declared.limits.TheConstants.{MAX_TASKS, MAX_INPUTS, MAX_EVENTS, MAX_READS, MAX_READ_LINES, MAX_OUTS, MAX_BODY}
 use Rattle.dia_lines.specs.declared.fault.Limit.{Limit}
@@ -13,7 +13,7 @@ use Rattle.dia_lines.specs.Statements.{Statement}
 use Rattle.dia_lines.specs.Limits.{passed_count}
 use Rattle.dia_lines.specs.Positions.{AreCounts}
 
--- behind a statement the counts are these, or it is one past the limit
+-- after a statement the counts are these, or it is one past the limit
 abbrev pub Counted : List Statement → Statement → Result Counts Limit → Type 0
 Counted before s (Ok counts) = (passed_count before s ≡ None) × AreCounts (s ∷ before) counts
 Counted before s (Err limit) = passed_count before s ≡ Some limit

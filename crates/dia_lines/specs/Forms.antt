@@ -14,7 +14,7 @@ use Rattle.dia_exprs.specs.Grammar.{Spells}
 use Rattle.dia_lines.specs.Delays.{delay_at}
 use Rattle.dia_lines.specs.Statements.{Statement, Clock, every, on, nothing, header, policy, until, input, event, task, state, sense, read, a_let, a_next, out, trace, script, done}
 
--- a statement, but for the tokens of its expression
+-- a statement, except for the tokens of its expression
 pub data Shape : Type 0 where
   plain : Statement → Shape
   of_let : List ℕ → List Token → Shape
@@ -42,7 +42,7 @@ example_of (of_let name ts) = a_let name (number (pos 0))
 example_of (of_next name ts) = a_next name (number (pos 0))
 example_of (of_out name first ts) = out name first (number (pos 0))
 
--- ---- what stands in front, and the tokens behind it
+-- ---- what stands in front, and the tokens after it
 
 -- `NAME =`
 abbrev pub assigned_at : List Token → Option (List ℕ × List Token)
@@ -101,7 +101,7 @@ tick_alone [] = Some (pos 0)
 tick_alone (Word word.At ∷ Number value ∷ []) = Some value
 tick_alone _ = None
 
--- ---- behind the first word of a line
+-- ---- after the first word of a line
 
 unfoldable pub header_at : List Token → Option Shape
 header_at ts = option_and_then (λ value. if int_eq value (pos 1) then Some (plain header) else None) (number_alone ts)
@@ -120,7 +120,7 @@ input_at ts = option_and_then (λ p. option_map (λ first. plain (input p.0 firs
 unfoldable pub event_at : List Token → Option Shape
 event_at ts = option_map (λ name. plain (event name)) (name_alone ts)
 
--- behind a task's name and its clock
+-- after a task's name and its clock
 unfoldable pub options_at : List ℕ → Clock → List Token → Option Shape
 options_at name clock ts =
     option_map (λ cost. plain (task (record { name = name; clock = clock; prio = (prio_at ts).0; deadline = (deadline_at (prio_at ts).1).0; cost = cost }))) (cost_alone (deadline_at (prio_at ts).1).1)
@@ -135,7 +135,7 @@ state_at ts = option_and_then (λ p. option_map (λ first. plain (state p.0 firs
 unfoldable pub sense_at : List Token → Option Shape
 sense_at ts = option_and_then (λ p. option_map (λ from. plain (sense p.0 from)) (name_alone p.1)) (assigned_at ts)
 
--- behind a read value's name and its delay
+-- after a read value's name and its delay
 unfoldable pub port_read_at : List ℕ → Option ℤ → List Token → Option Shape
 port_read_at name delay ts = option_and_then (λ w. option_map (λ at. plain (read name delay w.0 w.1 at)) (tick_alone w.2)) (port_at ts)
 
@@ -162,7 +162,7 @@ abbrev pub ending_at : words.Word → List Token → Option Shape
 ending_at w [] = word_alone w
 ending_at w (t ∷ ts) = None
 
--- behind the word that a line before the tasks begins with
+-- after the word that a line before the tasks begins with
 unfoldable pub declared_at : words.Word → List Token → Option Shape
 declared_at word.Dbp ts = header_at ts
 declared_at word.Policy ts = policy_at ts
@@ -171,7 +171,7 @@ declared_at word.Input ts = input_at ts
 declared_at word.Event ts = event_at ts
 declared_at _ ts = None
 
--- behind the first word of a line
+-- after the first word of a line
 unfoldable pub line_at : words.Word → List Token → Option Shape
 line_at word.Task ts = task_at ts
 line_at word.State ts = state_at ts

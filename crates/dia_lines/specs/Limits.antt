@@ -50,7 +50,7 @@ abbrev pub is_out : Statement → Bool
 is_out (out n v x) = true
 is_out _ = false
 
--- the statements of the task that stands above, where the latest is the first
+-- the statements of the task that stands above; the latest is the first
 abbrev pub of_this_task : List Statement → List Statement
 of_this_task [] = []
 of_this_task (s ∷ before) = if is_task s then [] else s ∷ of_this_task before
@@ -59,7 +59,7 @@ of_this_task (s ∷ before) = if is_task s then [] else s ∷ of_this_task befor
 abbrev pub are_full : (Statement → Bool) → List Statement → ℕ → Bool
 are_full kind before limit = nat_le limit (length (filter kind before))
 
--- The count that the statement would pass behind those before it, of which the latest is the first. It is the first in
+-- The count that the statement would pass after those before it, of which the latest is the first. It is the first in
 -- the order inputs, events, tasks, body, reads, links, outs.
 abbrev pub passed_count : List Statement → Statement → Option Limit
 passed_count before s =

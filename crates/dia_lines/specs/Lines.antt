@@ -1,4 +1,4 @@
--- What a line says behind the lines before it, and its first fault.
+-- What a line says after the lines before it, and its first fault.
 use Rattle.std.specs.Prelude.{◌≡◌, ◌≢◌, ℕ, pos, codes, Bool, true, false, nat_lt, not, List, [], ◌∷◌, Option, Some, None, if◌then◌else◌}
 use Rattle.std.specs.List.{list_all}
 use Rattle.std.specs.Option.{option_map}
@@ -63,13 +63,13 @@ lacks_header place [] = false
 lacks_header Header (t ∷ ts) = not (is_header (t ∷ ts))
 lacks_header _ _ = false
 
--- the tokens behind the first `=`
+-- the tokens after the first `=`
 abbrev pub behind_assign : List Token → List Token
 behind_assign [] = []
 behind_assign (token.Symbol symbol.Assign ∷ ts) = ts
 behind_assign (_ ∷ ts) = behind_assign ts
 
--- the tokens behind the first `then`
+-- the tokens after the first `then`
 abbrev pub behind_then : List Token → List Token
 behind_then [] = []
 behind_then (token.Word word.Then ∷ ts) = ts
@@ -82,7 +82,7 @@ expression_of (token.Word word.Next ∷ ts) = behind_assign ts
 expression_of (token.Word word.Out ∷ ts) = behind_then ts
 expression_of _ = []
 
--- the first fault of the tokens, but for their form
+-- the first fault of the tokens, except for their form
 abbrev pub token_fault : Place → List Token → Option ReadCode
 token_fault place ts =
     if lacks_header place ts then Some MissingHeader else
@@ -97,7 +97,7 @@ code_of line_fail.NumberTooWide = Some NumberTooWide
 code_of line_fail.NameTooLong = Some NameTooLong
 code_of line_fail.NoMemory = None
 
--- the first of its limits that a statement passes behind those before it: those of its numbers, then the counts
+-- the first of its limits that a statement passes after those before it: those of its numbers, then the counts
 abbrev pub limit_fault : List Statement → Statement → Option ReadCode
 limit_fault before s = if numbers_fit s then option_map LimitHit (passed_count before s) else Some (LimitHit NumberLimit)
 
@@ -107,7 +107,7 @@ pub record MayStand (place : Place) (ts : List Token) (s : Statement) : Type 0 w
   pub next : Place
   pub stands : leads place s ≡ Some next
 
--- behind those before it, the line of the diagram is without fault and says the statement
+-- after those before it, the line of the diagram is without fault and says the statement
 pub record SaysStatement (before : List Said) (line : List ℕ) (s : Statement) : Type 0 where
   pub tokens : List Token
   pub spelled : SpellsTokens line tokens
@@ -129,7 +129,7 @@ pub data SaysInScript : List ℕ → Said → Type 0 where
   a_step : (line kept : List ℕ) (ts : List Token) → SpellsTokens line ts → ts ≢ [] → ts ≢ token.Word word.Done ∷ [] → IsSpelling line kept
       → SaysInScript line (step kept)
 
--- behind those before it the line is without fault, and says this
+-- after those before it the line is without fault, and says this
 pub data Reads (before : List Said) : List ℕ → Said → Type 0 where
   of_the_diagram : (line : List ℕ) (s : Statement) → keeps_lines (place_behind before) ≡ false → SaysStatement before line s → Reads before line (says s)
   of_the_trace : (line : List ℕ) (said : Said) → place_behind before ≡ Trace → SaysInTrace line said → Reads before line said
@@ -139,7 +139,7 @@ pub data Reads (before : List Said) : List ℕ → Said → Type 0 where
 abbrev pub HasTextFault : List ℕ → ReadCode → Type 0
 HasTextFault line code = (fault : LineFail) × HasTokenFault line fault × (code_of fault ≡ Some code)
 
--- the first fault of a line of the diagram behind those before it
+-- the first fault of a line of the diagram after those before it
 pub data HasDiagramFault (before : List Said) (line : List ℕ) : ReadCode → Type 0 where
   of_the_text : (code : ReadCode) → HasTextFault line code → HasDiagramFault before line code
   of_the_tokens : (ts : List Token) (code : ReadCode) → SpellsTokens line ts → token_fault (place_behind before) ts ≡ Some code → HasDiagramFault before line code
@@ -148,7 +148,7 @@ pub data HasDiagramFault (before : List Said) (line : List ℕ) : ReadCode → T
   past_a_limit : (ts : List Token) (s : Statement) (code : ReadCode) → SpellsTokens line ts → token_fault (place_behind before) ts ≡ None
       → MayStand (place_behind before) ts s → limit_fault (statements before) s ≡ Some code → HasDiagramFault before line code
 
--- the first fault of a line behind those before it
+-- the first fault of a line after those before it
 pub data HasFault (before : List Said) (line : List ℕ) : ReadCode → Type 0 where
   in_the_diagram : (code : ReadCode) → keeps_lines (place_behind before) ≡ false → HasDiagramFault before line code → HasFault before line code
   in_the_trace : place_behind before ≡ Trace → list_all is_trace_byte line ≡ false → HasFault before line BadByte

@@ -4,7 +4,7 @@ use Rattle.dia_lines.specs.declared.item.Line.TheVariants as line
 use Rattle.dia_lines.specs.declared.place.Place.{Place}
 use Rattle.dia_lines.specs.declared.place.Place.TheVariants.{Policy, Until, Declarations, Body, Trace, Script, Ended}
 
--- the place behind a line that may stand at the place
+-- the place after a line that may stand at the place
 abbrev pub place_behind_line : Place → Line → Place
 place_behind_line place line.Header = Policy
 place_behind_line place (line.Policy p) = Until

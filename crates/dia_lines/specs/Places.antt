@@ -28,7 +28,7 @@ behind_declarations script = Some Script
 behind_declarations done = Some Ended
 behind_declarations _ = None
 
--- where a line leads from a place, where it may stand there
+-- where a line leads from a place, if it may stand there
 abbrev pub leads : Place → Statement → Option Place
 leads place nothing = Some place
 leads Header header = Some Policy

@@ -1,4 +1,4 @@
--- Where a reader stands behind lines.
+-- Where a reader stands after lines.
 use Rattle.std.specs.Prelude.{◌≡◌, List, length, filter}
 use Rattle.dia_lines.specs.declared.position.Counts.{Counts}
 use Rattle.dia_lines.specs.declared.position.Position.{Position}
@@ -17,7 +17,7 @@ pub record AreCounts (before : List Statement) (counts : Counts) : Type 0 where
   pub reads : counts.reads ≡ length (filter is_read (of_this_task before))
   pub outs : counts.outs ≡ length (filter is_out (of_this_task before))
 
--- the position behind the lines before, of which the latest is the first
+-- the position after the lines before, of which the latest is the first
 pub record IsBehind (before : List Said) (position : Position) : Type 0 where
   pub place : position.place ≡ place_behind before
   pub counts : AreCounts (statements before) position.counts

@@ -14,7 +14,7 @@ is_inside b = not (b == 10 || b == 13)
 abbrev pub without_return : List ℕ → List ℕ
 without_return text = if slice_index_or text (length text - 1) 0 == 13 then take (length text - 1) text else text
 
--- of the parts between the line feeds each but the last has one behind it, and the last is a line where it isn't empty
+-- of the parts between the line feeds each but the last has one after it, and the last is a line if it isn't empty
 abbrev pub lines_of_parts : List (List ℕ) → List (List ℕ)
 lines_of_parts [] = []
 lines_of_parts ([] ∷ []) = []

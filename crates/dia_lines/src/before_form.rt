@@ -28,7 +28,7 @@ fn lacks_the_header(place: Place, tokens: &[Token]) -> bool
     }
 }
 
-/// The tokens behind the first `=`.
+/// The tokens after the first `=`.
 fn behind_assign(tokens: &[Token]) -> &[Token]
     ensures { result.now ≡ expression_behind_assign tokens.now }
 {
@@ -42,7 +42,7 @@ fn behind_assign(tokens: &[Token]) -> &[Token]
     rest
 }
 
-/// The tokens behind the first `then`.
+/// The tokens after the first `then`.
 fn behind_then(tokens: &[Token]) -> &[Token]
     ensures { result.now ≡ expression_behind_then tokens.now }
 {
@@ -67,7 +67,7 @@ fn expression_tokens(tokens: &[Token]) -> &[Token]
     }
 }
 
-/// The first fault of the tokens, but for their form.
+/// The first fault of the tokens, except for their form.
 pub(crate) fn token_code(place: Place, tokens: &[Token]) -> Option<ReadCode>
     ensures { result ≡ token_fault place tokens.now }
 {

@@ -1,4 +1,4 @@
-// What stands in front of tokens, and the tokens behind it; or what all that is left is.
+// What stands in front of tokens, and the tokens after it; or what all that is left is.
 
 ghost use Rattle.std.specs.Prelude.{◌≡◌};
 ghost use Rattle.std.specs.Option.{option_map};
@@ -100,7 +100,7 @@ pub(crate) fn port(tokens: &[Token]) -> Option<(Name, Name, &[Token])>
     }
 }
 
-/// A name, and nothing behind it.
+/// A name, and nothing after it.
 pub(crate) fn name_alone(tokens: &[Token]) -> Option<Name>
     ensures { result ≡ is_name_alone tokens.now }
 {
@@ -110,7 +110,7 @@ pub(crate) fn name_alone(tokens: &[Token]) -> Option<Name>
     }
 }
 
-/// A number, and nothing behind it.
+/// A number, and nothing after it.
 pub(crate) fn number_alone(tokens: &[Token]) -> Option<i64>
     ensures { result ≡ is_number_alone tokens.now }
 {
@@ -120,7 +120,7 @@ pub(crate) fn number_alone(tokens: &[Token]) -> Option<i64>
     }
 }
 
-/// `cost N`, and nothing behind it.
+/// `cost N`, and nothing after it.
 pub(crate) fn cost_alone(tokens: &[Token]) -> Option<i64>
     ensures { result ≡ is_cost_alone tokens.now }
 {
@@ -130,7 +130,7 @@ pub(crate) fn cost_alone(tokens: &[Token]) -> Option<i64>
     }
 }
 
-/// `at N` and nothing behind it, or 0 for nothing at all.
+/// `at N` and nothing after it, or 0 for nothing at all.
 pub(crate) fn tick_alone(tokens: &[Token]) -> Option<i64>
     ensures { result ≡ is_tick_alone tokens.now }
 {

@@ -1,4 +1,4 @@
-//! The lines of a document: what each says behind those before it, or its first fault.
+//! The lines of a document: what each says after those before it, or its first fault.
 #![tactic(auto)]
 
 mod before_form;

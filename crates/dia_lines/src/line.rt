@@ -1,4 +1,4 @@
-// What a line says behind those before it, or its first fault.
+// What a line says after those before it, or its first fault.
 
 ghost use Rattle.std.specs.Prelude.{◌≡◌, ◌≢◌, false, ◌∷◌, List, Err, IfOk, IfErr};
 ghost use Rattle.std.specs.List.{list_all};
@@ -30,7 +30,7 @@ fn line_tokens(alloc: Global, line: &[u8]) -> Result<Vec<Token>, LineError>
     Ok(tokens(alloc, line)?)
 }
 
-/// A line of the diagram, and the counts behind it.
+/// A line of the diagram, and the counts after it.
 fn diagram_line(alloc: Global, position: Position, line: &[u8]) -> Result<(Line, Counts), LineError>
     ensures found { (before : List Said) → IsBehind before position → IfOk result (λ r. (s : Statement) × SaysStatement before line.now s × IsKept s r.0 × AreCounts (s ∷ statements before) r.1) }
     ensures fault { (before : List Said) → IsBehind before position → IfErr result (λ e. RefusesInDiagram before line.now e) }
@@ -63,7 +63,7 @@ fn script_line(alloc: Global, line: &[u8]) -> Result<Line, LineError>
     }
 }
 
-/// The place behind a line that may stand at the place.
+/// The place after a line that may stand at the place.
 fn place_behind(place: Place, line: &Line) -> Place
     ensures { result ≡ place_behind_line place line.now }
 {
@@ -79,7 +79,7 @@ fn place_behind(place: Place, line: &Line) -> Place
     }
 }
 
-/// What the line says behind those before it, and the counts behind it.
+/// What the line says after those before it, and the counts after it.
 fn counted_line(alloc: Global, position: Position, line: &[u8]) -> Result<(Line, Counts), LineError>
     ensures found { (before : List Said) → IsBehind before position → IfOk result (λ r. (said : Said) × Reads before line.now said × IsHeld said r.0 × AreCounts (statements (said ∷ before)) r.1) }
     ensures fault { (before : List Said) → IsBehind before position → IfErr result (λ e. Refuses before line.now e) }
@@ -96,7 +96,7 @@ fn counted_line(alloc: Global, position: Position, line: &[u8]) -> Result<(Line,
     }
 }
 
-/// What the line says behind those before it, and the position behind it; or its first fault.
+/// What the line says after those before it, and the position after it; or its first fault.
 pub fn read_line(
     alloc: Global,
     position: Position,

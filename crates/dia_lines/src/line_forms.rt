@@ -1,4 +1,4 @@
-// The form of a line, by its first word: a function for each word, which takes the tokens behind it.
+// The form of a line, by its first word: a function for each word, which takes the tokens after it.
 
 ghost use Rattle.std.specs.Prelude.{◌≡◌};
 ghost use Rattle.std.specs.Option.{option_map};
@@ -61,7 +61,7 @@ fn event<'t>(tokens: &'t [Token]) -> Option<Form<'t>>
     Some(Form::Event(name))
 }
 
-// What is left of a task's line behind its clock.
+// What is left of a task's line after its clock.
 #[tactic(auto, unfolding(crate::specs::Forms::options_at))]
 fn options<'t>(name: Name, clock: ClockForm, tokens: &'t [Token]) -> Option<Form<'t>>
     ensures { option_map shape_of result ≡ options_at name (clock_of clock) tokens.now }
@@ -192,7 +192,7 @@ fn ending<'t>(word: Word, tokens: &'t [Token]) -> Option<Form<'t>>
     }
 }
 
-// The form of a line that begins with the word, where lines before the tasks do.
+// The form of a line that begins with the word, if lines before the tasks do.
 #[tactic(auto, unfolding(crate::specs::Forms::declared_at))]
 fn declared<'t>(word: Word, tokens: &'t [Token]) -> Option<Form<'t>>
     ensures { option_map shape_of result ≡ declared_at word tokens.now }

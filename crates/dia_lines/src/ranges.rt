@@ -12,7 +12,7 @@ use crate::form::{ClockForm, ReadForm, TaskForm};
 use crate::item::{Part, RawClock, TaskLine};
 use dbp_plan::{MAX_DELAY, MAX_PRIO, MAX_TIME};
 
-// The number, where it lies between the two.
+// The number, if it lies between the two.
 fn within(value: i64, least: u64, greatest: u64) -> Option<u64>
     ensures value { IfSome result (λ n. value ≡ pos n) }
     ensures range { IfSome result (λ n. n ≤ greatest) }
@@ -95,7 +95,7 @@ fn clock(form: ClockForm) -> Option<RawClock>
     }
 }
 
-/// The line that begins a task, where its numbers are within their limits.
+/// The line that begins a task, if its numbers are within their limits.
 pub(crate) fn task_line(form: &TaskForm) -> Option<TaskLine>
     ensures value { IfSome result (λ t. IsTaskLine (task_of form.now) t) }
     ensures exact { is_some result ≡ numbers_fit (task_of form.now) }

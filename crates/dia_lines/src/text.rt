@@ -36,11 +36,11 @@ fn split_line(bytes: &[u8]) -> (&[u8], &[u8])
     }
 }
 
-/// The first line without its end, and the bytes behind its end.
+/// The first line without its end, and the bytes after its end.
 pub fn next_line(bytes: &[u8]) -> (&[u8], &[u8])
     requires { 0 < length bytes.now }
     ensures cut { (result.0.now, result.1.now) ≡ cut_line bytes.now }
-    // The lines are the first one and those of the bytes behind it.
+    // The lines are the first one and those of the bytes after it.
     ensures value { lines_of bytes.now ≡ result.0.now ∷ lines_of result.1.now }
     ensures shorter { length result.1.now < length bytes.now }
     ensures within { length result.0.now + length result.1.now ≤ length bytes.now }

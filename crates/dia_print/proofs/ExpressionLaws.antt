@@ -138,7 +138,7 @@ spells-tokens x = (written x).tokens
 
 -- ---- negative numbers
 
--- the tokens behind are no number
+-- the tokens after are no number
 abbrev Follows : List Token → Type 0
 Follows rest = (s : Bool) → KeepsSigns s rest
 
@@ -297,7 +297,7 @@ each-printable (choice c x y) h = (
 
 -- ---- how deep parentheses stand
 
--- where so many parentheses are open before, no more than m are open at once in the tokens and what stands behind them
+-- if so many parentheses are open before, no more than m are open at once in the tokens and what stands after them
 abbrev Shallow : ℕ → List Token → Type 0
 Shallow size ts = (k m : ℕ) (rest : List Token) → k + size ≤ m + 1 → deepest k rest ≤ m → deepest k (ts ++ rest) ≤ m
 

@@ -152,11 +152,11 @@ pub record IsLine (place : Place) (ts : List Token) (s : Statement) : Type 0 whe
   pub signs : KeepsSigns true ts
   pub faultless : token_fault place ts ≡ None
 
--- a place behind the first line
+-- a place after the first line
 abbrev pub IsBehindHeader : Place → Type 0
 IsBehindHeader place = (ts : List Token) → lacks_header place ts ≡ false
 
--- the tokens behind are no number
+-- the tokens after are no number
 abbrev Follows : List Token → Type 0
 Follows rest = (s : Bool) → KeepsSigns s rest
 

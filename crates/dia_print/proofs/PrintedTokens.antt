@@ -1,4 +1,4 @@
--- Tokens behind tokens, and lines behind lines.
+-- Tokens after tokens, and lines after lines.
 use Rattle.std.proofs.Common.{◌≡◌, ℕ, List, [], ◌∷◌, ◌++◌, codes, refl, sym, ap, ◌∙◌, append_assoc}
 use Rattle.std.specs.Prelude.{Result, Ok, Err, OnOk}
 use Rattle.dia_tokens.specs.declared.token.Token.{Token}
@@ -18,7 +18,7 @@ behind p q r ts us e f = f ∙ ap (λ (k : Printed). with_tokens k us) e ∙ sym
 abbrev tight : List ℕ → Printed
 tight text = record { text = text; edge = Tight }
 
--- bytes behind bytes
+-- bytes after bytes
 pub with-more : (p : Printed) (xs ys : List ℕ) → with_bytes (with_bytes p xs) ys ≡ with_bytes p (xs ++ ys)
 with-more p xs ys = ap tight (append_assoc p.text xs ys)
 

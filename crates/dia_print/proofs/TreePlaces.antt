@@ -116,7 +116,7 @@ holds-behind all at n xs ys size h k x e =
 holds-one : {X : Type 0} (all : List X) (at place : ℕ) (x : X) → place ≡ at → Holds all at (x ∷ []) → slice_get all place ≡ Some x
 holds-one all at place x e h = let same : place ≡ at + 0 = omega (arith, e) in ap (λ j. slice_get all j) same ∙ h 0 x refl
 
--- the nodes of a tree, behind so many others, have its root as their last
+-- the nodes of a tree, after so many others, have its root as their last
 pub stands : {V : Type 0} (nodes : List (Node V)) (at : ℕ) (t : Tree V) → Holds nodes at (nodes_of at t) → Stands nodes (at + size_of t - 1) t
 stands nodes at (number z) h = holds-one nodes at (at + 1 - 1) (Num z) (omega arith) h
 stands nodes at (variable v) h = holds-one nodes at (at + 1 - 1) (Var v) (omega arith) h

@@ -58,7 +58,7 @@ call_tokens o xs ys = operator_token o ∷ Symbol symbol.Open ∷ (xs ++ Symbol 
 abbrev pub choice_tokens : List Token → List Token → List Token → List Token
 choice_tokens cs xs ys = Word word.If ∷ (cs ++ Word word.Then ∷ (xs ++ Word word.Else ∷ ys))
 
--- The tokens of an expression. Operands of operators and parts of an `if` stand in parentheses where they are compound;
+-- The tokens of an expression. Operands of operators and parts of an `if` stand in parentheses if they are compound;
 -- the arguments of `min` and `max` don't.
 abbrev pub tokens_of : Expression → List Token
 tokens_of (number z) = Number z ∷ []

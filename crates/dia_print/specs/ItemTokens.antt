@@ -41,7 +41,7 @@ abbrev pub clock_tokens : RawClock → List Token
 clock_tokens (Every period offset) = Word word.Every ∷ Number (pos period) ∷ Word word.From ∷ Number (pos offset) ∷ []
 clock_tokens (On n) = Word word.On ∷ Name n ∷ []
 
--- the word and its number, where it is there
+-- the word and its number, if it is there
 abbrev pub option_tokens : words.Word → Option ℕ → List Token
 option_tokens w None = []
 option_tokens w (Some n) = Word w ∷ Number (pos n) ∷ []

@@ -17,7 +17,7 @@ abbrev pub with_tokens : Printed → List Token → Printed
 with_tokens p [] = p
 with_tokens p (t ∷ ts) = with_tokens (with_token p t) ts
 
--- with bytes as they are, behind which a line begins
+-- with bytes as they are, after which a line begins
 abbrev pub with_bytes : Printed → List ℕ → Printed
 with_bytes p bytes = record { text = p.text ++ bytes; edge = Tight }
 

@@ -85,7 +85,7 @@ fn push_tree(printer: &mut Printer, nodes: &[Node<Name>], place: u32) -> Result<
     }
 }
 
-/// An operand of an operator or a part of an `if`: in parentheses where it is an operator or an `if` itself.
+/// An operand of an operator or a part of an `if`: in parentheses if it is an operator or an `if` itself.
 #[cycle(tree)]
 fn push_operand(printer: &mut Printer, nodes: &[Node<Name>], place: u32) -> Result<(), NoMemory>
     requires { (x : Tree (Items ℕ)) × Stands nodes.now place x }

@@ -12,7 +12,7 @@ use dbp_plan::{Name, NoMemory, Policy};
 use dia_lines::{Decl, Part, RawClock, TaskLine};
 use dia_tokens::{Symbol, Token, Word};
 
-/// The word and a number, where it is there.
+/// The word and a number, if it is there.
 fn push_option(printer: &mut Printer, word: Word, count: Option<u64>) -> Result<(), NoMemory>
     ensures { OnOk result (printer.new ≡ with_tokens printer.old (option_tokens word count)) }
 {

@@ -124,7 +124,7 @@ impl Printer {
         Ok(())
     }
 
-    /// Adds bytes as they are, behind which a line begins.
+    /// Adds bytes as they are, after which a line begins.
     pub fn push_bytes(&mut self, bytes: &[u8]) -> Result<(), NoMemory>
         ensures { OnOk result (self.new ≡ with_bytes self.old bytes.now) }
     {

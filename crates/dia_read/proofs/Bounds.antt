@@ -34,7 +34,7 @@ wider : (o : Option RawTask) (n : ℕ) → IfSome o (λ task. length task.parts 
 wider None n h = tt
 wider (Some t) n h = omega arith
 
--- the draft's lists and texts, but for those that are given anew
+-- the draft's lists and texts, except for those that are given anew
 still : (d : Draft) (lines bytes more : ℕ) → Bounded d lines bytes → Bounded d (lines + 1) (bytes + more)
 still d lines bytes more b = record {
   decls = omega (arith, b.decls);
@@ -84,7 +84,7 @@ below : (o : Option RawTask) (n number : ℕ) → IfSome o (λ task. length task
 below None n number h l = tt
 below (Some t) n number h l = omega arith
 
--- where so many bytes were read, there is room for a line of the bytes that are left
+-- if so many bytes were read, there is room for a line of the bytes that are left
 pub has-room : (d : Draft) (lines number bytes line : ℕ) → Bounded d lines (2 * bytes) → lines < number → bytes + line ≤ MAX_TEXT → HasRoom d number line
 has-room d lines number bytes line b l w = record {
   decls = omega (arith, b.decls);

@@ -16,7 +16,7 @@ pub fit-length : {A B : Type 0} (Is : A → B → Type 0) (xs : List A) (ys : Li
 fit-length Is xs ys none = refl
 fit-length Is xs ys (another x y us vs g f) = let e = fit-length Is us vs f in omega arith
 
--- a line that begins a task behind others
+-- a line that begins a task after others
 pub task-more : (ss : List Statement) (ts : List RawTask) (s : Statement) (t : RawTask) → AreTasks ss ts → IsTaskLine s (first_line t) → t.parts ≡ [] → AreTasks (ss ++ s ∷ []) (ts ++ t ∷ [])
 task-more ss ts s t no_task h e = a_task s [] [] t [] h (subst (Fit IsPart []) (sym e) none) no_task
 task-more ss ts s t (a_task u body rest v us g f d) h e =

@@ -1,4 +1,4 @@
--- Reading a text line by line, where each line is known.
+-- Reading a text line by line, if each line is known.
 use Rattle.std.proofs.Common.{◌≡◌, ℕ, ◌+◌, Bool, true, false, cond, List, [], ◌∷◌, ◌++◌, codes, length, filter, Some, None, refl, sym, ap, subst, ◌∙◌, arith, append_assoc, length-append}
 use Rattle.std.specs.List.{list_all}
 use Rattle.std.specs.Option.{option_map}
@@ -102,7 +102,7 @@ at-start bytes = record { number = 0; position = position_at []; draft = empty_d
 pub at-same : (bytes xs ys : List ℕ) (place : Place) (content : Draft) → xs ≡ ys → At bytes xs place content → At bytes ys place content
 at-same bytes xs ys place content e at = subst (λ rest. At bytes rest place content) e at
 
--- behind a line
+-- after a line
 pub next-line : (bytes text rest : List ℕ) (place q : Place) (content : Draft) (said : Said) (l : Line) → list_all is_inside text ≡ true → IsHeld said l
     → ((before : List Said) → place_behind before ≡ place → place_behind (said ∷ before) ≡ q)
     → ((before : List Said) (d : Draft) → place_behind before ≡ place → bare d ≡ content → PrintsAll (statements before) d → Reads before text said)
@@ -126,7 +126,7 @@ next-line bytes text rest place q content said l inside held stands reads at =
 within-limits : (ss : List Statement) (s : Statement) → numbers_fit s ≡ true → passed_count ss s ≡ None → cond (numbers_fit s) (option_map LimitHit (passed_count ss s)) (Some (LimitHit NumberLimit)) ≡ None
 within-limits ss s e f = rw (e, f) refl
 
--- behind a line of the diagram
+-- after a line of the diagram
 pub diagram-line : (bytes text rest : List ℕ) (place q : Place) (content : Draft) (ts : List Token) (s : Statement) (l : Line) → IsLine place ts s → SpellsTokens text ts
     → keeps_lines place ≡ false → leads place s ≡ Some q → numbers_fit s ≡ true
     → ((ss : List Statement) (d : Draft) → bare d ≡ content → Prints ss d → passed_count ss s ≡ None) → IsKept s l
@@ -143,7 +143,7 @@ diagram-line bytes text rest place q content ts s l is spelled diagram stands nu
     }))
     at
 
--- the same, where the line is that of its tokens
+-- the same, if the line is that of its tokens
 pub token-line : (bytes rest : List ℕ) (place q : Place) (content : Draft) (ts : List Token) (s : Statement) (l : Line) → IsLine place ts s
     → keeps_lines place ≡ false → leads place s ≡ Some q → numbers_fit s ≡ true
     → ((ss : List Statement) (d : Draft) → bare d ≡ content → Prints ss d → passed_count ss s ≡ None) → IsKept s l
@@ -152,7 +152,7 @@ token-line bytes rest place q content ts s l is diagram stands numbers room kept
     diagram-line bytes (line_text ts) rest place q content ts s l is (line-spells ts is.printable is.signs) diagram stands numbers room kept
     (at-same bytes _ _ place content (append_assoc (line_text ts) (10 ∷ []) rest) at)
 
--- behind two spaces
+-- after two spaces
 pub indented-line : (bytes rest : List ℕ) (place q : Place) (content : Draft) (ts : List Token) (s : Statement) (l : Line) → IsLine place ts s
     → keeps_lines place ≡ false → leads place s ≡ Some q → numbers_fit s ≡ true
     → ((ss : List Statement) (d : Draft) → bare d ≡ content → Prints ss d → passed_count ss s ≡ None) → IsKept s l

@@ -120,7 +120,7 @@ items-with said x d e h one two three four five six = record {
 
 -- ---- one more line
 
--- a line that is of no section, where the draft's sections stay
+-- a line that is of no section: the draft's sections stay
 sections-same : (said : List Said) (x : Said) (d e : Draft) → HoldsSections said d
     → is_statement_of is_trace x ≡ false → is_row x ≡ false → is_statement_of is_script x ≡ false → is_step x ≡ false
     → d.trace ≡ e.trace → d.script ≡ e.script → d.lines.trace ≡ e.lines.trace → d.lines.script ≡ e.lines.script → HoldsSections (said ++ x ∷ []) e

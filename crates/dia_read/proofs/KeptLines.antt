@@ -57,7 +57,7 @@ kept-short before bytes (says s) (line.Step kept) r h = absurd (no-step s kept h
 kept-short before bytes (row t) (line.Step kept) r h = absurd h
 kept-short before bytes said l r h = omega arith
 
--- so much is kept of a line of so many bytes, where more bytes than these or none at all were read
+-- so much is kept of a line of so many bytes, if more bytes than these or none at all were read
 some-joined : (bytes : List ℕ) (ps : List Piece) (ts : List Token) (used : ℕ) → Lexes true bytes ps → HaveValues ps ts → ts ≢ [] → length bytes ≤ used → length (joined ps) + 1 ≤ 2 * used
 some-joined bytes [] ts used d v n w = absurd (n (no-values ts v))
   where
@@ -83,7 +83,7 @@ pub kept-part : (s : Statement) (p : Part) → IsKept s (line.Part p) → IsPart
 kept-part nothing p h = h
 kept-part s p h = h
 
--- a line of a body stands behind a task
+-- a line of a body stands after a task
 pub in-body : (before : List Said) (bytes : List ℕ) (said : Said) (p : Part) → Once (reverse before) (place_behind before) → Reads before bytes said → IsHeld said (line.Part p)
     → 1 ≤ length (filter is_task (statements (reverse before)))
 in-body before bytes (says s) p o (of_the_diagram b t e i) h =

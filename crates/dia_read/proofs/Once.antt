@@ -1,4 +1,4 @@
--- Some lines come once: how many there are is told by the place that the lines have led to.
+-- Some lines come once: the place that the lines have led to says how many there are.
 use Rattle.std.proofs.Common.{◌≡◌, ℕ, ◌+◌, ◌≤◌, Bool, List, [], ◌∷◌, ◌++◌, length, filter, reverse, Some, refl, ap, ◌∙◌, subst, arith, length-append}
 use Rattle.std.specs.Option.{IfSome}
 use Rattle.dia_lines.specs.declared.place.Place.{Place}
@@ -71,7 +71,7 @@ one_more said x p q o one two three four five six =
           omega (arith, size, o.task_line, six);
     }
 
--- where a line may stand, one more such line keeps it
+-- if a line may stand there, one more such line keeps it
 once-at : (said : List Said) (p : Place) (s : Statement) → Once said p → IfSome (leads p s) (λ q. Once (said ++ says s ∷ []) q)
 once-at said Header header o = one_more said (says header) Header Policy o refl refl (λ n. refl) (λ n. refl) (λ n. omega arith) (omega arith)
 once-at said Policy (policy x) o = one_more said (says (policy x)) Policy Until o refl refl (λ n. refl) (λ n. refl) (λ n. omega arith) (omega arith)

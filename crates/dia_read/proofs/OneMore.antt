@@ -1,4 +1,4 @@
--- What is told of lines, and of one more behind them.
+-- What is said of lines, and of one more after them.
 use Rattle.std.proofs.Common.{◌≡◌, ℕ, ◌+◌, Bool, true, false, cond, List, [], ◌∷◌, ◌++◌, length, filter, reverse, refl, sym, ap, ◌∙◌, append_assoc, arith}
 use Rattle.std.specs.Prelude.{◌==◌}
 use Rattle.std.proofs.lemmas.Bool.Decides.{nat_tests}
@@ -47,7 +47,7 @@ lines_from-more n kind (y ∷ said) x =
     go true rest = ap (λ ns. n ∷ ns) rest
     go false rest = rest
 
--- the number of the line behind so many others
+-- the number of the line after so many others
 pub lines-more : (kind : Said → Bool) (said : List Said) (x : Said) → lines_with kind (said ++ x ∷ []) ≡ lines_with kind said ++ lines_from (length said + 1) kind (x ∷ [])
 lines-more kind said x = lines_from-more 1 kind said x ∙ ap (λ m. lines_with kind said ++ lines_from m kind (x ∷ [])) (omega arith)
 

@@ -38,7 +38,7 @@ pub record Paired (d : Draft) : Type 0 where
   pub no_trace : d.trace.begun ≡ false → d.trace.text ≡ []
   pub no_script : d.script.begun ≡ false → d.script.text ≡ []
 
--- a line of a body comes behind a task, and a kept line without line feeds behind the line that begins its section
+-- a line of a body comes after a task, and a kept line without line feeds after the line that begins its section
 abbrev pub PairsWith : Draft → List ℕ → Line → Type 0
 PairsWith d text (line.Part p) = (t : RawTask) × (d.tasks.latest ≡ Some t)
 PairsWith d text line.Row = (feeds text ≡ 0) × (d.trace.begun ≡ true)

@@ -58,7 +58,7 @@ below count most e = grind (arith, nat_tests)
 
 -- ---- what a line promises
 
--- the numbers and the counts of a statement behind those before it, and its names
+-- the numbers and the counts of a statement after those before it, and its names
 pub record IsSound (before : List Statement) (s : Statement) : Type 0 where
   pub free : IsPrintableStatement s
   pub numbers : numbers_fit s ≡ true
@@ -130,14 +130,14 @@ task-prints s t a f h = absurd a
 abbrev pub reads_of : RawTask → ℕ
 reads_of t = count_by is_read_part t.parts
 
--- the latest task can be printed, and its lines are those of the statements behind the line that begins it
+-- the latest task can be printed, and its lines are those of the statements after the line that begins it
 pub record IsLatest (ss : List Statement) (t : RawTask) : Type 0 where
   pub prints : IsPrintableTask t
   pub body : length t.parts ≡ length (filter is_body (of_this_task ss))
   pub reads : reads_of t ≡ length (filter is_read (of_this_task ss))
   pub outs : count_by is_out_part t.parts ≡ length (filter is_out (of_this_task ss))
 
--- behind the statements, of which the latest is the first, the draft can be printed
+-- after the statements, of which the latest is the first, the draft can be printed
 pub record Prints (ss : List Statement) (d : Draft) : Type 0 where
   pub until : d.until ≤ MAX_TIME
   pub decls : All IsPrintableDecl d.decls

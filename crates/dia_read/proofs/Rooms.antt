@@ -30,7 +30,7 @@ decl-room ss d (Event n) p few_inputs few_events = rw (open-count (length (filte
 pub task-room : (ss : List Statement) (d : Draft) (t : TaskLine) → Prints ss d → length (all_tasks d.tasks) + 1 ≤ MAX_TASKS → passed_count ss (task_statement t) ≡ None
 task-room ss d t p few = rw (open-count (length (filter is_task ss)) MAX_TASKS (omega (arith, p.tasks, few))) refl
 
--- a line of a body, behind these of its task
+-- a line of a body, after these of its task
 pub part-room : (ss : List Statement) (d : Draft) (t : RawTask) (x : Part) → Prints ss d → d.tasks.latest ≡ Some t → length t.parts + 1 ≤ MAX_BODY
     → (is_read_part x ≡ true → (reads_of t + 1 ≤ MAX_READS) × (sum_by reads_of (all_tasks d.tasks) + 1 ≤ MAX_READ_LINES)) → (is_out_part x ≡ true → count_by is_out_part t.parts + 1 ≤ MAX_OUTS)
     → passed_count ss (part_statement x) ≡ None

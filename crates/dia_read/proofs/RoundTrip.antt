@@ -244,7 +244,7 @@ task-follows bytes rest p end ds tr sc ts place t o h few links at =
     (at-same bytes _ _ place _ (append_assoc (line_of (task_tokens (first_line t))) (flat_map part_text t.parts) rest) at) in
     parts-follow bytes rest p end ds tr sc (all_tasks ts) t [] t.parts (recursion_from_All IsPrintablePart t.parts h.parts) h.body h.reads h.outs links next
 
--- behind tasks
+-- after tasks
 record BehindTasks (bytes rest : List ℕ) (p : Policy) (end : ℕ) (ds : List Decl) (tr sc : Section) (all : List RawTask) : Type 0 where
   place : Place
   open_there : IsOpen place

@@ -13,7 +13,7 @@ run-one before a b lines (a_line c x line ls s r run) (a_line d y line' ls' t q 
     let same : t ≡ s = one-reading c line t s q r in
     run-one (s ∷ c) a b ls run (subst (λ u. Run (u ∷ c) ls b) same other)
 
--- each line reads behind those before it
+-- each line reads after those before it
 run-reads : (before middle after : List Said) (lines : List (List ℕ)) (i : ℕ) (line : List ℕ) → Run before (take i lines) middle → Run before lines after → slice_get lines i ≡ Some line
     → (said : Said) × Reads middle line said
 run-reads before middle after lines i line front (no_line c) at = absurd cc

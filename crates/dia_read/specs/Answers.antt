@@ -1,4 +1,4 @@
--- What an answer says of a text. Where memory ran out nothing is said.
+-- What is returned says this of a text. If memory ran out, nothing is said.
 use Rattle.std.specs.Prelude.{◌≡◌, ℕ, List, Result, Ok, Err}
 use Rattle.dia_read.specs.declared.document.Body.{Body}
 use Rattle.dia_read.specs.declared.document.Doc.{Doc}

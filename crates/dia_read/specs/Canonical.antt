@@ -23,7 +23,7 @@ part_text p = codes "  " ++ line_of (part_tokens p)
 abbrev pub task_text : RawTask → List ℕ
 task_text t = line_of (task_tokens (first_line t)) ++ flat_map part_text t.parts
 
--- the word that begins a section, and the section's kept lines, where it is there
+-- the word that begins a section, and the section's kept lines, if it is there
 abbrev pub section_lines : Word → Option (List ℕ) → List ℕ
 section_lines w None = []
 section_lines w (Some kept) = line_of (token.Word w ∷ []) ++ kept

@@ -18,7 +18,7 @@ use Rattle.dia_lines.specs.Lines.{Said, says, row, step, Reads, HasFault, place_
 use Rattle.dia_lines.specs.Held.{IsDecl, IsTaskLine, IsPart}
 use Rattle.dia_lines.specs.Text.{lines_of}
 
--- Read behind those before them, the lines are without fault; the result is what all lines say. Both lists have the latest line first.
+-- Read after those before them, the lines are without fault; the result is what all lines say. Both lists have the latest line first.
 pub data Run : List Said → List (List ℕ) → List Said → Type 0 where
   no_line : (before : List Said) → Run before [] before
   a_line : (before after : List Said) (line : List ℕ) (lines : List (List ℕ)) (said : Said) → Reads before line said → Run (said ∷ before) lines after
@@ -47,7 +47,7 @@ pub data Fit {A B : Type 0} (Is : A → B → Type 0) : List A → List B → Ty
 abbrev pub first_line : RawTask → TaskLine
 first_line t = record { name = t.name; clock = t.clock; prio = t.prio; deadline = t.deadline; cost = t.cost }
 
--- task lines, each with the lines of its body behind it, are the tasks
+-- task lines, each with the lines of its body after it, are the tasks
 pub data AreTasks : List Statement → List RawTask → Type 0 where
   no_task : AreTasks [] []
   a_task : (s : Statement) (body rest : List Statement) (t : RawTask) (ts : List RawTask) → IsTaskLine s (first_line t) → Fit IsPart body t.parts
@@ -90,7 +90,7 @@ kept_text (row text) = text
 kept_text (step text) = text
 kept_text (says s) = []
 
--- the numbers of the lines of a kind, where the first line has this number
+-- the numbers of the lines of a kind, if the first line has this number
 abbrev pub lines_from : ℕ → (Said → Bool) → List Said → List ℕ
 lines_from number kind [] = []
 lines_from number kind (line ∷ lines) = if kind line then number ∷ lines_from (number + 1) kind lines else lines_from (number + 1) kind lines
@@ -104,7 +104,7 @@ abbrev pub kept : (Said → Bool) → List Said → List ℕ
 kept kind [] = []
 kept kind (line ∷ lines) = if kind line then kept_text line ++ 10 ∷ kept kind lines else kept kind lines
 
--- a section is there where the line that begins it is
+-- a section is there if the line that begins it is
 abbrev pub section : (Statement → Bool) → (Said → Bool) → List Said → Option (List ℕ)
 section begins kind lines = if list_any (is_statement_of begins) lines then Some (kept kind lines) else None
 
@@ -151,7 +151,7 @@ abbrev pub is_blank_text : List ℕ → Bool
 is_blank_text bytes = list_all is_blank_line (lines_of bytes)
 
 -- The text's first fault, and the number of its line. A text without any line with tokens lacks its header at line 1, even
--- where a later comment has a byte that isn't allowed; such a byte in line 1 itself comes first.
+-- if a later comment has a byte that isn't allowed; such a byte in line 1 itself comes first.
 pub data IsFirstFault (bytes : List ℕ) : ℕ → ReadCode → Type 0 where
   at_a_line : (index : ℕ) (code : ReadCode) → is_blank_text bytes ≡ false → IsFirstLine (lines_of bytes) index code
       → IsFirstFault bytes (index + 1) code

@@ -78,7 +78,7 @@ empty_draft = record {
   lines = record { until_at = 0; done_at = 0; trace_at = 0; decls = []; tasks = []; parts = []; trace = []; script = [] };
 }
 
--- the section's text, where it is there
+-- the section's text, if it is there
 abbrev pub section_text : Section → Option (List ℕ)
 section_text s = if s.begun then Some s.text else None
 

@@ -71,7 +71,7 @@ pub struct Body {
 pub struct DocLines {
     pub until_at: u32,
     pub done_at: u32,
-    /// 0 where there is no trace section.
+    /// 0 if there is no trace section.
     pub trace_at: u32,
     pub decls: List<u32>,
     pub tasks: List<u32>,

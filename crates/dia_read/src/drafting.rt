@@ -11,7 +11,7 @@ use dia_lines::{Line, Part, TaskLine};
 use std::alloc::Global;
 
 impl Tasks {
-    /// Begins a task behind the others.
+    /// Begins a task after the others.
     fn begin(&mut self, alloc: Global, line: TaskLine) -> Result<(), NoMemory>
         requires { length self.old.earlier + 1 < 2 ^ 32 }
         ensures { OnOk result (self.new ≡ begun self.old line) }
@@ -60,7 +60,7 @@ impl Section {
         }
     }
 
-    /// The section's text, where it is there.
+    /// The section's text, if it is there.
     fn into_text(self) -> Option<List<u8>>
         ensures { result ≡ section_text self }
     {

@@ -116,7 +116,7 @@ fn push_tasks(printer: &mut Printer, tasks: &List<RawTask>) -> Result<(), NoMemo
     Ok(())
 }
 
-// The line of the word and the kept lines, where the section is there.
+// The line of the word and the kept lines, if the section is there.
 fn push_section(
     printer: &mut Printer,
     word: Word,
@@ -148,10 +148,10 @@ fn print_body(alloc: Global, body: &Body) -> Result<Vec<u8>, NoMemory>
     Ok(printer.into_text())
 }
 
-/// The canonical text of the body: one space between tokens but round the point, behind `(`, before `)` and the
-/// comma and behind `min` and `max`; two spaces before the lines of a body; parentheses round each operand of an operator
+/// The canonical text of the body: one space between tokens except around the point, after `(`, before `)` and the
+/// comma and after `min` and `max`; two spaces before the lines of a body; parentheses around each operand of an operator
 /// and each part of an `if` that is an operator other than `min` and `max`, or an `if`; no comments and no blank lines.
-/// docs/LANGUAGE.md has the rules. Each body that `read_doc` answers can be printed. It takes memory for one text that
+/// docs/LANGUAGE.md has the rules. Each body that `read_doc` returns can be printed. It takes memory for one text that
 /// grows.
 pub fn print_doc(alloc: Global, body: &Body) -> Result<Vec<u8>, NoMemory>
     requires { IsPrintable body.now }
