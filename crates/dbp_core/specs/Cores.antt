@@ -6,7 +6,7 @@ use Rattle.dbp_rules.specs.declared.step.Count.{Count}
 use Rattle.dbp_rules.specs.declared.wiring.Wiring.{Wiring}
 
 abbrev pub plan_in : Core → Plan
-plan_in c = c.plan
+plan_in c = c.plan.value
 
 abbrev pub count_in : Core → Count
 count_in c = c.wiring.count

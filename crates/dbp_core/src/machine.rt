@@ -14,20 +14,21 @@ use crate::rank_mask::RankMask;
 use dbp_plan::{NoMemory, Plan, Row};
 use dbp_rules::{Count, Heard, Illegal, State, Step, Wiring, start_state, wire_plan};
 use std::alloc::Global;
+use std::rc::Rc;
 
 /// The protocol of a plan, from the first step on: the words that the releaser and the tasks share, and what each has
 /// for itself. It changes by steps alone, so its state is always sound.
 #[derive(Drop)]
 pub struct Core {
-    plan: Plan,
+    plan: Rc<Plan>,
     wiring: Wiring,
     state: State,
     // The ranks of the tasks that have an aimed instance which hasn't ended.
     unfinished: RankMask,
-    ghost wired: { wiring ≡ wiring_of plan wiring.count },
-    ghost shape: { IsShape plan wiring state },
+    ghost wired: { wiring ≡ wiring_of plan.value wiring.count },
+    ghost shape: { IsShape plan.value wiring state },
     ghost ranks: { HasUnfinished wiring state unfinished },
-    ghost sound: { ∥ Sound plan wiring (rows_in (meaning_of plan)) state ∥₁ },
+    ghost sound: { ∥ Sound plan.value wiring (rows_in (meaning_of plan.value)) state ∥₁ },
 }
 
 impl Core {
@@ -43,11 +44,21 @@ impl Core {
     ghost use Rattle.dbp_rules.specs.SoundParts.{last_shut};
     ghost use Rattle.dbp_rules.specs.Start.{start_of};
 
-    /// The core before the first step. Where memory runs out the plan is given up.
+    /// The core before the first step. If memory runs out the plan is given up.
     pub fn new(alloc: Global, plan: Plan, count: Count) -> Result<Core, NoMemory>
         ensures plan { IfOk result (λ core. plan_in core ≡ plan) }
         ensures count { IfOk result (λ core. count_in core ≡ count) }
         ensures start { IfOk result (λ core. state_in core ≡ start_of plan (wiring_of plan count)) }
+    {
+        Core::of_shared(alloc, Rc::new(alloc, plan)?, count)
+    }
+
+    /// The core before the first step, of a plan that others have too.
+    pub fn of_shared(alloc: Global, plan: Rc<Plan>, count: Count) -> Result<Core, NoMemory>
+        ensures plan { IfOk result (λ core. plan_in core ≡ plan.value) }
+        ensures count { IfOk result (λ core. count_in core ≡ count) }
+        ensures start { IfOk result (λ core.
+            state_in core ≡ start_of plan.value (wiring_of plan.value count)) }
     {
         let wiring = wire_plan(alloc, &plan, count)?;
         let state = start_state(alloc, &plan, &wiring)?;

@@ -5,6 +5,7 @@ ghost use Rattle.std.specs.Prelude.{◌≡◌, ◌+◌, ◌<◌, ◌^◌, IfOk, 
 use dbp_core::{Core, Count, Step};
 use dbp_plan::{List, NoMemory, Plan, Table};
 use std::alloc::Global;
+use std::rc::Rc;
 use sync_meaning::first_table;
 
 /// Which of its steps a recorder keeps.
@@ -51,21 +52,22 @@ impl Recorder {
     ghost use Rattle.instance_steps.specs.Recorders.{record_in, state_in, steps_in, table_in};
     ghost use Rattle.instance_steps.specs.Recorders.{wiring_in};
 
-    /// The recorder before the first step. If memory runs out the plan is given up.
+    /// The recorder before the first step.
     pub fn new(
         alloc: Global,
-        plan: Plan,
+        plan: Rc<Plan>,
         count: Count,
         keeping: Keeping,
     ) -> Result<Recorder, NoMemory>
-        ensures plan { IfOk result (λ r. plan_in r ≡ plan) }
+        ensures plan { IfOk result (λ r. plan_in r ≡ plan.value) }
         ensures count { IfOk result (λ r. count_in r ≡ count) }
-        ensures start { IfOk result (λ r. state_in r ≡ start_of plan (wiring_of plan count)) }
+        ensures start { IfOk result (λ r.
+            state_in r ≡ start_of plan.value (wiring_of plan.value count)) }
         ensures steps { IfOk result (λ r. record_in r ≡ first_record keeping) }
-        ensures rows { IfOk result (λ r. HasEndedRows plan (state_in r) (table_in r)) }
+        ensures rows { IfOk result (λ r. HasEndedRows plan.value (state_in r) (table_in r)) }
     {
         let table = first_table(alloc, plan.diagram.tasks.items())?;
-        let core = Core::new(alloc, plan, count)?;
+        let core = Core::of_shared(alloc, plan, count)?;
         Ok(Recorder {
             core,
             steps: keeping.first_record(alloc),

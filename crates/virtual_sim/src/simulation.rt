@@ -11,6 +11,7 @@ use dbp_core::Count;
 use dbp_plan::{NoMemory, Plan, Table, Task};
 use instance_steps::{Keeping, Recorder};
 use std::alloc::Global;
+use std::rc::Rc;
 
 // Its time, and the protocol that is taken through it.
 #[derive(Drop)]
@@ -34,13 +35,13 @@ impl Simulation {
     ghost use Rattle.virtual_sim.specs.State.{NoBatchBefore};
 
     // Nothing is released yet.
-    fn new(alloc: Global, plan: &Plan, keeping: Keeping) -> Result<Simulation, NoMemory>
-        ensures simulation { IfOk result (λ s. IsSimulation plan.now s) }
+    fn new(alloc: Global, plan: &Rc<Plan>, keeping: Keeping) -> Result<Simulation, NoMemory>
+        ensures simulation { IfOk result (λ s. IsSimulation plan.now.value s) }
         ensures released { IfOk result (λ s. s.run.released ≡ 0) }
         ensures keeps { IfOk result (λ s.
             is_some (record_in s.recorder) ≡ is_some (first_record keeping)) }
     {
-        let recorder = Recorder::new(alloc, plan.copy()?, Count::Ranked, keeping)?;
+        let recorder = Recorder::new(alloc, plan.clone()?, Count::Ranked, keeping)?;
         let run = Run::new(alloc, plan)?;
         Ok(Simulation { run, recorder })
     }
@@ -200,13 +201,18 @@ fn ticks_to_event(task: &Task, served: u64) -> u64
 }
 
 // The simulation of the plan at its end. Its steps are kept if they are asked for.
-fn finished_simulation(alloc: Global, plan: &Plan, keeping: Keeping) -> Result<Simulation, SimFail>
+fn finished_simulation(
+    alloc: Global,
+    shared: &Rc<Plan>,
+    keeping: Keeping,
+) -> Result<Simulation, SimFail>
     ensures { MatchResult result
-        (λ s. IsFinished plan.now keeping s) (λ why. IsSimFail plan.now why) }
+        (λ s. IsFinished shared.now.value keeping s) (λ why. IsSimFail shared.now.value why) }
 {
-    let Ok(mut simulation) = Simulation::new(alloc, plan, keeping) else {
+    let Ok(mut simulation) = Simulation::new(alloc, shared, keeping) else {
         return Err(SimFail::NoMemory);
     };
+    let plan: &Plan = shared;
     for _ in 0..plan.batches.len() {
         let Ok(()) = simulation.serve_until_batch(plan) else {
             return Err(SimFail::NoMemory);
@@ -219,12 +225,30 @@ fn finished_simulation(alloc: Global, plan: &Plan, keeping: Keeping) -> Result<S
     Ok(simulation)
 }
 
+// A copy of the plan that can be shared.
+fn shared_copy(alloc: Global, plan: &Plan) -> Result<Rc<Plan>, NoMemory>
+    ensures { IfOk result (λ shared. shared.value ≡ plan.now) }
+{
+    Ok(Rc::new(alloc, plan.copy()?)?)
+}
+
 /// The simulation of the plan in virtual time: on one processor tasks are served by their policy, by ticks, and their
 /// buffers step by the protocol under `Ranked`. It goes from one event to the next: the next batch, the next reads of the
 /// instance that is served, or its end. The table is the zero-time meaning's, the script is the one recorded list that
 /// the plan has, and each instance's end is that of the plan's service.
 pub fn simulate(alloc: Global, plan: &Plan) -> Result<SimRun, SimFail>
     ensures { MatchResult result (λ run. IsSimRun plan.now run) (λ why. IsSimFail plan.now why) }
+{
+    let Ok(shared) = shared_copy(alloc, plan) else {
+        return Err(SimFail::NoMemory);
+    };
+    simulate_shared(alloc, &shared)
+}
+
+/// The same, with no copy of the plan.
+pub fn simulate_shared(alloc: Global, plan: &Rc<Plan>) -> Result<SimRun, SimFail>
+    ensures { MatchResult result
+        (λ run. IsSimRun plan.now.value run) (λ why. IsSimFail plan.now.value why) }
 {
     let Simulation { run, recorder } = finished_simulation(alloc, plan, Keeping::Steps)?;
     let (steps, table) = recorder.finish();
@@ -240,6 +264,17 @@ pub fn simulate(alloc: Global, plan: &Plan) -> Result<SimRun, SimFail>
 pub fn simulate_table(alloc: Global, plan: &Plan) -> Result<Table, SimFail>
     ensures { MatchResult result
         (λ table. IsSimTable plan.now table) (λ why. IsSimFail plan.now why) }
+{
+    let Ok(shared) = shared_copy(alloc, plan) else {
+        return Err(SimFail::NoMemory);
+    };
+    simulate_table_shared(alloc, &shared)
+}
+
+/// The same, with no copy of the plan.
+pub fn simulate_table_shared(alloc: Global, plan: &Rc<Plan>) -> Result<Table, SimFail>
+    ensures { MatchResult result
+        (λ table. IsSimTable plan.now.value table) (λ why. IsSimFail plan.now.value why) }
 {
     let Simulation { recorder, .. } = finished_simulation(alloc, plan, Keeping::Nothing)?;
     let (_, table) = recorder.finish();

@@ -11,7 +11,7 @@ least_aim-requires-clause-task c =
     omega (arith, named, c.args.self.now.shape.wiring.tasks)
 
 pub least_aim-requires-clause-few : goal.least_aim-requires-clause-few
-least_aim-requires-clause-few c = omega (arith, ap length c.args.self.now.shape.wiring.links, c.args.self.now.plan.rules.ranked.closed.links)
+least_aim-requires-clause-few c = omega (arith, ap length c.args.self.now.shape.wiring.links, c.args.self.now.plan.value.rules.ranked.closed.links)
 
 pub least_aim-requires-clause-room : goal.least_aim-requires-clause-room
 least_aim-requires-clause-room c =
@@ -20,4 +20,4 @@ least_aim-requires-clause-room c =
     let named = (core.shape.wiring.releases.at_aim core.state.releaser.place task c.requires.next).named in
     let kept = (core.shape.each_entry task (omega (arith, named, core.shape.wiring.tasks))).kept in
     subst (λ (w : Wiring). HasFreeSlot w core.state task) (sym core.wired)
-    (has_free_slot core.plan core.wiring.count core.state.releaser task named (subst (λ (w : Wiring). length (task_entry core.state task).kept ≡ (wired w task).kept) core.wired kept))
+    (has_free_slot core.plan.value core.wiring.count core.state.releaser task named (subst (λ (w : Wiring). length (task_entry core.state task).kept ≡ (wired w task).kept) core.wired kept))

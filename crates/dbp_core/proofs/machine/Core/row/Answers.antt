@@ -16,13 +16,13 @@ use Rattle.dbp_core.proofs.machine.Core.row.Goals as goal
 pub returns-clause-meaning : goal.returns-clause-meaning
 returns-clause-meaning c = λ table meaning.
     let core = c.args.self.now in
-    let own : IsOwn core.plan core.wiring = subst (λ (x : Wiring). IsOwn core.plan x) (sym core.wired) (own_wiring core.plan core.wiring.count) in
+    let own : IsOwn core.plan.value core.wiring = subst (λ (x : Wiring). IsOwn core.plan.value x) (sym core.wired) (own_wiring core.plan.value core.wiring.count) in
     let below : c.args.task < length core.wiring.tasks = omega (arith, c.requires, core.shape.wiring.tasks) in
-    let few : last_shut (state_of core.state c.args.task) ≤ length (times_of core.plan.batches c.args.task) =
-    ∥∥₁_elim core.sound (hlevel props) (λ sound. shut_few core.plan core.wiring (rows_in (meaning_of core.plan)) core.state c.args.task own sound below) in
-    let is : (state_of core.state c.args.task).work.row ≡ rows_in (meaning_of core.plan) c.args.task (last_shut (state_of core.state c.args.task)) =
+    let few : last_shut (state_of core.state c.args.task) ≤ length (times_of core.plan.value.batches c.args.task) =
+    ∥∥₁_elim core.sound (hlevel props) (λ sound. shut_few core.plan.value core.wiring (rows_in (meaning_of core.plan.value)) core.state c.args.task own sound below) in
+    let is : (state_of core.state c.args.task).work.row ≡ rows_in (meaning_of core.plan.value) c.args.task (last_shut (state_of core.state c.args.task)) =
     ∥∥₁_elim core.sound (hlevel props) (λ sound. (sound.tasks c.args.task below).row) in
     let same : c.items.result.now ≡ core.state.tasks = c.items.ensures.value in
     let row_is : c.row.result.now ≡ (state_of core.state c.args.task).work.row =
     c.row.ensures ∙ ap (λ (ts : List TaskState). (get_or ts c.args.task c.index-items-task.result).work.row) same ∙ ap (λ (t : TaskState). t.work.row) (get_or_default core.state.tasks c.args.task c.index-items-task.result no_task (omega (arith, below, core.shape.tasks))) in
-    meaning_row core.plan table c.args.task (last_shut (state_of core.state c.args.task)) c.row.result.now meaning c.requires few (row_is ∙ is)
+    meaning_row core.plan.value table c.args.task (last_shut (state_of core.state c.args.task)) c.row.result.now meaning c.requires few (row_is ∙ is)

@@ -12,9 +12,12 @@ use Rattle.virtual_sim.proofs.simulation.Simulation.new.Goals as goal
 
 pub returns-clause-simulation : goal.returns-clause-simulation
 returns-clause-simulation c =
-    let e = c.in_ok-copy.ensures in
+    let e = c.in_ok-clone.ensures.cases in
     let r = c.in_ok-recorder.ensures in
-    starts c.args.plan.now _ c.args.keeping c.in_ok-run.ensures.run c.in_ok-run.ensures.time c.in_ok-run.ensures.released c.in_ok-run.ensures.rest c.in_ok-run.ensures.ends
+    let run = rw c.deref.ensures at c.in_ok-run.ensures.run in
+    let rest = rw c.deref.ensures at c.in_ok-run.ensures.rest in
+    let ends = rw c.deref.ensures at c.in_ok-run.ensures.ends in
+    starts c.args.plan.now.value _ c.args.keeping run c.in_ok-run.ensures.time c.in_ok-run.ensures.released rest ends
     (r.plan ∙ e) r.count (r.start ∙ ap (λ (q : Plan). start_of q (wiring_of q Ranked)) e) r.steps
     (subst (λ (q : Plan). HasEndedRows q (state_in c.in_ok-recorder.recorder) (table_in c.in_ok-recorder.recorder)) e r.rows)
 

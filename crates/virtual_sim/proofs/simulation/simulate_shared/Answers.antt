@@ -1,10 +1,10 @@
 use Rattle.std.proofs.Common.{◌∙◌, sym}
 use Rattle.virtual_sim.proofs.Finals.{are_ends, is_meaning, kept_record}
-use Rattle.virtual_sim.proofs.simulation.simulate.Goals as goal
+use Rattle.virtual_sim.proofs.simulation.simulate_shared.Goals as goal
 
 pub returns : goal.returns
 returns c =
-    let p = c.args.plan.now in
+    let p = c.args.plan.now.value in
     let s = c.in_ok-run.field-0 in
     let e = c.in_ok-run.ensures in
     record {

@@ -1,10 +1,10 @@
 use Rattle.std.proofs.Common.{◌∙◌}
 use Rattle.virtual_sim.proofs.Finals.{in_time, is_meaning}
-use Rattle.virtual_sim.proofs.simulation.simulate_table.Goals as goal
+use Rattle.virtual_sim.proofs.simulation.simulate_table_shared.Goals as goal
 
 pub returns : goal.returns
 returns c =
-    let p = c.args.plan.now in
+    let p = c.args.plan.now.value in
     let s = c.in_ok-recorder.field-0 in
     let e = c.in_ok-recorder.ensures in
     record {
