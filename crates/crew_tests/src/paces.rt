@@ -1,10 +1,15 @@
 // Paces that hold parties up.
 
-use crate::runs::{METER, is_meant, table_at};
+use crate::runs::{METER, makes_meaning_at};
+use dbp_plan::Plan;
 use party_exec::Pace;
+use std::alloc::Global;
+use std::process::Abort;
+use std::sync::Wait;
 use std::sync::atomic::{AtomicU64, Ordering};
 use std::test::Fail;
 use std::thread;
+use std::thread::Threads;
 use test_inputs::{THREE_RATES, plan_in};
 
 // How often a party looks for the others before it gives up: some 10 seconds, or 20 where the processors are busy.
@@ -65,15 +70,19 @@ impl Pace for &Meeting {
     }
 }
 
+// The parties of the plan meet.
+fn meet<R: Abort + Threads + Wait + Sync>(rt: &R, alloc: Global, plan: &Plan) -> Result<(), Fail> {
+    let meeting = Meeting::new();
+    assert!(rt; makes_meaning_at(rt, alloc, &meeting, plan)?);
+    assert_eq!(rt; meeting.given_up.load(Ordering::SeqCst), 0);
+    assert!(rt; meeting.all_came());
+    Ok(())
+}
+
 #[test]
 fn four_parties_work_at_once(rt: HostRuntime) -> Result<(), Fail> {
     let plan = plan_in(rt.alloc(), METER)?;
-    let meeting = Meeting::new();
-    let table = table_at(&rt, rt.alloc(), &meeting, &plan)?;
-    assert_eq!(rt; meeting.given_up.load(Ordering::SeqCst), 0);
-    assert!(rt; meeting.all_came());
-    assert!(rt; is_meant(rt.alloc(), &plan, &table)?);
-    Ok(())
+    meet(&rt, rt.alloc(), &plan)
 }
 
 // One party waits before each of its turns, whose numbers are counted beside it.
@@ -111,15 +120,33 @@ impl Pace for &Holding {
     }
 }
 
+// The task of this number is held up; the releaser's is the number of tasks.
+fn hold_up<R: Abort + Threads + Wait + Sync>(
+    rt: &R,
+    alloc: Global,
+    plan: &Plan,
+    task: u32,
+) -> Result<(), Fail> {
+    let pace = Holding::new(task, 1000);
+    assert!(rt; makes_meaning_at(rt, alloc, &pace, plan)?);
+    assert_eq!(rt; pace.miscounted.load(Ordering::SeqCst), 0);
+    assert!(rt; pace.turns.load(Ordering::SeqCst) > 0);
+    Ok(())
+}
+
+fn hold_up_each<R: Abort + Threads + Wait + Sync>(
+    rt: &R,
+    alloc: Global,
+    plan: &Plan,
+) -> Result<(), Fail> {
+    for task in 0..4 {
+        hold_up(rt, alloc, plan, task)?;
+    }
+    Ok(())
+}
+
 #[test]
 fn a_party_that_is_held_up_changes_nothing(rt: HostRuntime) -> Result<(), Fail> {
     let plan = plan_in(rt.alloc(), THREE_RATES)?;
-    for task in 0..4 {
-        let pace = Holding::new(task, 1000);
-        let table = table_at(&rt, rt.alloc(), &pace, &plan)?;
-        assert!(rt; is_meant(rt.alloc(), &plan, &table)?);
-        assert_eq!(rt; pace.miscounted.load(Ordering::SeqCst), 0);
-        assert!(rt; pace.turns.load(Ordering::SeqCst) > 0);
-    }
-    Ok(())
+    hold_up_each(&rt, rt.alloc(), &plan)
 }

@@ -1,12 +1,17 @@
 // What the tests do with a crew and a plan.
 
-use dbp_plan::{Plan, Table};
-use party_exec::{Crew, Pace, ThreadCrew, parties, table_of};
+ghost use Rattle.std.specs.Prelude.{◌≡◌, Some};
+ghost use Rattle.party_exec.specs.Crews.{thread_ready};
+ghost use Rattle.party_exec.specs.Parties.{AreFresh, HaveFinished};
+
+use dbp_plan::{List, Plan, Table};
+use party_exec::{Crew, Pace, Party, ThreadCrew, parties, table_of};
 use std::alloc::Global;
 use std::sync::Wait;
 use std::test::Fail;
 use std::thread::Threads;
 use sync_meaning::mean;
+use word_rule::SlotWords;
 
 /// A meter, a controller that it reads through a delay, and a log.
 pub(crate) const METER: &str = "dbp 1
@@ -36,39 +41,88 @@ time,speed,target
 done
 ";
 
-// The table that the crew makes of the plan.
-pub(crate) fn table_by<R: Threads + Wait + Sync, C: Crew>(
+// Whether the crew makes the meaning of the plan.
+pub(crate) fn makes_meaning<R: Threads + Wait + Sync, C: Crew>(
     rt: &R,
     alloc: Global,
     crew: &mut C,
     plan: &Plan,
-) -> Result<Table, Fail> {
+) -> Result<bool, Fail> {
     crew.prepare(plan)?;
     let (words, mut parties) = parties(alloc, plan)?;
-    crew.run(rt, &words, parties.items_mut());
-    Ok(table_of(alloc, &words, &parties)?)
+    run_parties(rt, alloc, crew, &words, &mut parties)
 }
 
-// The table that threads at this pace make of it.
-pub(crate) fn table_at<R: Threads + Wait + Sync, P: Pace + Drop>(
+// Whether these parties make it.
+fn run_parties<R: Threads + Wait + Sync, C: Crew>(
+    rt: &R,
+    alloc: Global,
+    crew: &mut C,
+    words: &SlotWords,
+    parties: &mut List<Party>,
+) -> Result<bool, Fail>
+    requires ready { C.ready crew.old ≡ Some words.now.plan }
+    requires fresh { AreFresh words.now parties.old }
+{
+    crew.run(rt, words, parties.items_mut());
+    have_meaning(alloc, words, parties)
+}
+
+// Whether threads at this pace make the meaning of the plan.
+pub(crate) fn makes_meaning_at<R: Threads + Wait + Sync, P: Pace + Drop>(
     rt: &R,
     alloc: Global,
     pace: P,
     plan: &Plan,
-) -> Result<Table, Fail> {
+) -> Result<bool, Fail> {
     let mut crew = ThreadCrew::new(alloc, pace);
-    crew.prepare_paced(plan)?;
-    let (words, mut parties) = parties(alloc, plan)?;
-    crew.run_paced(rt, &words, parties.items_mut());
-    Ok(table_of(alloc, &words, &parties)?)
+    run_plan_paced(rt, alloc, &mut crew, plan)
 }
 
-// Whether the table is the meaning of the plan.
-pub(crate) fn is_meant(alloc: Global, plan: &Plan, table: &Table) -> Result<bool, Fail> {
+// Whether this crew does.
+fn run_plan_paced<R: Threads + Wait + Sync, P: Pace>(
+    rt: &R,
+    alloc: Global,
+    crew: &mut ThreadCrew<P>,
+    plan: &Plan,
+) -> Result<bool, Fail> {
+    crew.prepare_paced(plan)?;
+    let (words, mut parties) = parties(alloc, plan)?;
+    run_parties_paced(rt, alloc, crew, &words, &mut parties)
+}
+
+// Whether these parties do.
+fn run_parties_paced<R: Threads + Wait + Sync, P: Pace>(
+    rt: &R,
+    alloc: Global,
+    crew: &mut ThreadCrew<P>,
+    words: &SlotWords,
+    parties: &mut List<Party>,
+) -> Result<bool, Fail>
+    requires ready { thread_ready crew.old ≡ Some words.now.plan }
+    requires fresh { AreFresh words.now parties.old }
+{
+    crew.run_paced(rt, words, parties.items_mut());
+    have_meaning(alloc, words, parties)
+}
+
+// Whether the rows of the parties are the meaning of their plan.
+fn have_meaning(alloc: Global, words: &SlotWords, parties: &List<Party>) -> Result<bool, Fail>
+    requires { HaveFinished words.now parties.now }
+{
+    let table = table_of(alloc, words, parties)?;
+    is_meaning(alloc, words.plan(), &table)
+}
+
+fn is_meaning(alloc: Global, plan: &Plan, table: &Table) -> Result<bool, Fail> {
     let meant = mean(alloc, plan)?;
-    if table.tasks.len() != meant.tasks.len() {
-        return Ok(false);
-    }
-    let rows = table.tasks.items().iter().zip(meant.tasks.items());
-    Ok(rows.into_iter().all(|(ours, theirs)| ours.words.items() == theirs.words.items()))
+    Ok(have_same_rows(table, &meant))
+}
+
+fn have_same_rows(left: &Table, right: &Table) -> bool {
+    left.tasks.len() == right.tasks.len()
+        && left.tasks.items().iter().zip(right.tasks.items()).all(|(ours, theirs)| ours
+            .words
+            .items()
+            == theirs.words.items())
 }
