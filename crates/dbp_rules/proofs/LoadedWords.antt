@@ -12,7 +12,6 @@ use Rattle.dbp_rules.specs.Shapes.{IsReadWired, IsShape, OrderFits, TaskShape, h
 use Rattle.dbp_rules.specs.SharedWords.{maker_part, order_value, value_in}
 use Rattle.dbp_rules.specs.WordRanges.{SlotWordsFit, slot_word}
 use Rattle.dbp_rules.specs.declared.parts.Order.{Order}
-use Rattle.dbp_rules.specs.declared.parts.Place.{Place}
 use Rattle.dbp_rules.specs.declared.parts.Place.TheVariants as place
 use Rattle.dbp_rules.specs.declared.state.State.{State}
 use Rattle.dbp_rules.specs.declared.step.Step.{Step}

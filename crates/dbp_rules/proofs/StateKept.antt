@@ -15,7 +15,6 @@ use Rattle.dbp_rules.specs.Places.{link, task, task_entry, wired}
 use Rattle.dbp_rules.specs.Rules as rule
 use Rattle.dbp_rules.specs.Shapes.{EntryShape, IsShape, IsTaskWired, TaskShape, heard_by, running_count}
 use Rattle.dbp_rules.specs.Work.{WorkWords}
-use Rattle.dbp_rules.specs.declared.parts.Place.{Place}
 use Rattle.dbp_rules.specs.declared.parts.Place.TheVariants as place
 use Rattle.dbp_rules.specs.declared.state.State.{State}
 use Rattle.dbp_rules.specs.declared.step.Broken.TheVariants as broken

@@ -15,8 +15,10 @@ pub returns-else-stays_kept : goal.returns-else-stays_kept
 returns-else-stays_kept c =
     let e = entry_in c.args.part.now c.args.i in
     let claims = claims_answer c.args.wiring.now c.args.part.now c.args.i c.args.slot c.claiming_link.result c.claiming_link.ensures in
-    let other = c.stays_kept.ensures ∙ ap (λ (t : TaskEntry). stays_kept t c.args.slot) c.entry.ensures in
-    (λ some. inl (claims.0 (sym c.is_some.ensures ∙ some)), λ taken. elim taken [
-      | inl claimed ↦ c.is_some.ensures ∙ claims.1 claimed
-      | inr keeps ↦ let stays : stays_kept e c.args.slot ≡ true = (kept_answer e c.args.slot).1 keeps in absurd (cc (stays, other, c.if-stays_kept.false))
-    ])
+    let other = c.stays_kept.ensures ∙ ap (λ (t : TaskEntry). stays_kept t c.args.slot) c.entry.ensures in (
+      λ some. inl (claims.0 (sym c.is_some.ensures ∙ some)),
+      λ taken. elim taken [
+        | inl claimed ↦ c.is_some.ensures ∙ claims.1 claimed
+        | inr keeps ↦ let stays : stays_kept e c.args.slot ≡ true = (kept_answer e c.args.slot).1 keeps in absurd (cc (stays, other, c.if-stays_kept.false))
+      ],
+    )

@@ -1,4 +1,4 @@
-use Rattle.std.proofs.Common.{◌<◌, ◌⊎◌, Contains, below_more, ap, arith}
+use Rattle.std.proofs.Common.{◌⊎◌, Contains, below_more, ap, arith}
 use Rattle.dbp_slots.proofs.FreeSlots.{one_free}
 use Rattle.dbp_rules.specs.PartyRules.{claimed_in, kept_after_aim}
 use Rattle.dbp_rules.specs.Places.{entry_in, wired}

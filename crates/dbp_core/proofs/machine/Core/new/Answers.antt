@@ -1,4 +1,3 @@
-use Rattle.std.proofs.Common.{ap}
 use Rattle.dbp_core.proofs.machine.Core.new.Goals as goal
 
 pub returns-clause-start : goal.returns-clause-start
