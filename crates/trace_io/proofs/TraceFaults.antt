@@ -65,10 +65,6 @@ no-marks : (names : List (List ℕ)) → event_times [] [] names ≡ replicate (
 no-marks [] = refl
 no-marks (name ∷ names) = ap (λ (ts : List (List ℕ)). [] ∷ ts) (no-marks names)
 
-pub all-none : (ts : List (List ℕ)) → All (λ t. t ≡ []) ts → ts ≡ replicate (length ts) []
-all-none [] none = refl
-all-none (t ∷ ts) none = rw (none 0 [] (omega arith), sym (all-none ts (λ k d below. none (suc k) d (omega arith)))) refl
-
 -- there is no section
 pub no-section : (doc : Doc) (d : Diagram) (events : List (List ℕ)) (samples : List Sample) → doc.body.trace ≡ None → events ≡ replicate (length d.events) [] → samples ≡ [] → IsTraceOf doc d events samples
 no-section doc d events samples none events_are samples_are = record {
