@@ -1,4 +1,4 @@
-use Rattle.std.proofs.Common.{◌≡◌, ◌∙◌, Err, ℕ, List, [], length, ap, arith, rules}
+use Rattle.std.proofs.Common.{◌≡◌, ◌∙◌, Err, ℕ, List, [], length, ap, arith}
 use Rattle.std.specs.Prelude.{replicate}
 use Rattle.std.proofs.lemmas.Result.{err_from_is_err_and}
 use Rattle.trace_rows.specs.declared.fail.TraceFail.TheVariants.{Refused}

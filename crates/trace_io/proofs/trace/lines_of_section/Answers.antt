@@ -7,7 +7,6 @@ use Rattle.trace_rows.specs.declared.fail.TraceFail.TheVariants.{Refused}
 use Rattle.trace_rows.specs.Headers.{is_header, kind_of_column}
 use Rattle.trace_rows.specs.Rows.{row_faults}
 use Rattle.trace_rows.specs.Records.{fields_of, records_of}
-use Rattle.trace_rows.proofs.Timetable.{few-rows}
 use Rattle.trace_io.proofs.TraceFaults.{rows-refused, whole-section}
 use Rattle.trace_io.proofs.TraceLines.{few-lines, rest-whole}
 use Rattle.trace_io.proofs.trace.lines_of_section.Goals as goal
