@@ -1,5 +1,5 @@
 -- The first fault of a trace, by what its section has.
-use Rattle.std.proofs.Common.{◌≡◌, ℕ, suc, ◌<◌, ◌≤◌, true, false, All, List, [], ◌∷◌, length, map, drop, Some, None, refl, sym, ap, ◌∙◌, arith}
+use Rattle.std.proofs.Common.{◌≡◌, ℕ, ◌<◌, ◌≤◌, true, false, List, [], ◌∷◌, length, map, drop, Some, None, refl, sym, ap, ◌∙◌, arith}
 use Rattle.std.specs.Prelude.{nat_lt, ◌==◌, slice_index_or, replicate}
 use Rattle.std.proofs.lemmas.Bool.{both_ways}
 use Rattle.std.proofs.lemmas.Bool.Decides.{nat_tests}
@@ -64,10 +64,6 @@ module _ (doc : Doc) (d : Diagram) (text : List ℕ) (header : List (List ℕ)) 
 no-marks : (names : List (List ℕ)) → event_times [] [] names ≡ replicate (length names) []
 no-marks [] = refl
 no-marks (name ∷ names) = ap (λ (ts : List (List ℕ)). [] ∷ ts) (no-marks names)
-
-pub all-none : (ts : List (List ℕ)) → All (λ t. t ≡ []) ts → ts ≡ replicate (length ts) []
-all-none [] none = refl
-all-none (t ∷ ts) none = rw (none 0 [] (omega arith), sym (all-none ts (λ k d below. none (suc k) d (omega arith)))) refl
 
 -- there is no section
 pub no-section : (doc : Doc) (d : Diagram) (events : List (List ℕ)) (samples : List Sample) → doc.body.trace ≡ None → events ≡ replicate (length d.events) [] → samples ≡ [] → IsTraceOf doc d events samples

@@ -13,7 +13,7 @@ use crate::batches::{merged, total};
 use dbp_plan::{Clock, Diagram, List, MAX_OCCURRENCES, NoMemory, Plan, Sample, Task};
 use dia_read::Doc;
 use std::alloc::Global;
-use trace_rows::{TraceCode, TraceFail, TraceFault, event_times, is_header, records, row_values};
+use trace_rows::{TraceCode, TraceFail, TraceFault, is_header, no_times, records, row_values};
 
 /// What a document's trace gives.
 #[derive(Drop)]
@@ -52,7 +52,7 @@ fn empty_trace(alloc: Global, diagram: &Diagram, doc: &Doc) -> Result<Trace, Tra
 {
     few_occurrences(diagram, doc, &[])?;
     Ok(Trace {
-        events: no_times(alloc, diagram.events.len())?,
+        events: no_times(alloc, diagram.events.items().len())?,
         samples: List::new(alloc),
     })
 }
@@ -81,9 +81,10 @@ fn lines_of_section(
     if !is_header(inputs, events, header) {
         return Err(bad_header(lines[0]));
     }
-    let said = row_values(alloc, diagram.until, inputs, header, rows, &lines[1..])?;
+    let rest = &lines[1..];
+    let said = row_values(alloc, diagram.until, inputs, events, header, rows, rest)?;
     Ok(Trace {
-        events: event_times(alloc, events, header, said.times.items(), rows)?,
+        events: said.events,
         samples: said.samples,
     })
 }
@@ -138,17 +139,6 @@ fn trace_of(alloc: Global, diagram: &Diagram, doc: &Doc) -> Result<Trace, TraceF
         None => empty_trace(alloc, diagram, doc),
         Some(text) => section_trace(alloc, diagram, doc, text.items()),
     }
-}
-
-/// The times of so many events, none of which occurs.
-fn no_times(alloc: Global, events: u32) -> Result<Vec<List<u64>>, NoMemory>
-    ensures { IfOk result (λ times. times.items ≡ replicate events []) }
-{
-    let mut times = Vec::new(alloc);
-    for _ in 0..events {
-        times.push(List::new(alloc))?;
-    }
-    Ok(times)
 }
 
 fn clocks_of(alloc: Global, tasks: &[Task]) -> Result<Vec<Clock>, NoMemory>

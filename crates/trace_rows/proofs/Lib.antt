@@ -1,6 +1,7 @@
 pub mod BareCells
 pub mod CellNumbers
 pub mod ColumnCells
+pub mod EventTimes
 pub mod HeaderColumns
 pub mod LineRecords
 pub mod ReadErrors

@@ -1,10 +1,11 @@
 -- What the rows hold in a column, by its index.
-use Rattle.std.specs.Prelude.{◌≡◌, ℕ, ℤ, pos, neg_ℤ, ◌+◌, ◌^◌, ◌<◌, ◌&&◌, nat_le, nat_lt, if◌then◌else◌, List, [], ◌∷◌, ◌++◌, drop, filter, length, map, slice_index_or, Option, Some, None}
+use Rattle.std.specs.Prelude.{◌≡◌, ℕ, ℤ, pos, neg_ℤ, ◌+◌, ◌^◌, ◌<◌, ◌&&◌, nat_le, nat_lt, false, if◌then◌else◌, List, [], ◌∷◌, ◌++◌, drop, length, slice_index_or, Option, Some, None}
 use Rattle.dia_tokens.specs.Values.{digits_value}
 use Rattle.dbp_plan.specs.declared.schedule.Sample.{Sample}
 use Rattle.trace_rows.specs.declared.cell.Kind.{Kind}
 use Rattle.trace_rows.specs.declared.cell.Kind.TheVariants.{Value, Mark}
-use Rattle.trace_rows.specs.Cells.{are_digits, is_one, value_in, time_of}
+use Rattle.trace_rows.specs.declared.cell.Said.{Said}
+use Rattle.trace_rows.specs.Cells.{are_digits, is_one, value_in}
 use Rattle.trace_rows.specs.Values.{sample_of}
 
 -- the number of digits, and the same with `-` before them, if it has 64 bits
@@ -18,22 +19,32 @@ negative_in digits = if are_digits digits && nat_le (digits_value digits) (2 ^ 6
 abbrev pub cell_at : ℕ → List (List ℕ) → List ℕ
 cell_at column row = slice_index_or (drop 1 row) column []
 
--- the times of the rows that have 1 in the column
-abbrev pub marked_times : ℕ → List (List (List ℕ)) → List ℕ
-marked_times column rows = map time_of (filter (λ row. is_one (cell_at column row)) rows)
-
 -- the value that a cell says in a column of this kind
 abbrev pub value_under : Kind → List ℕ → Option ℤ
 value_under Value cell = value_in cell
 value_under Mark cell = None
 
--- there is a value for each column: what the row's cell says there
-abbrev pub HasValues : List Kind → List (List ℕ) → List (Option ℤ) → Type 0
-HasValues kinds row values =
-    (k : ℕ) → k < length kinds → slice_index_or values k None ≡ value_under (slice_index_or kinds k Value) (cell_at k row)
+-- what a cell says in a column of this kind
+abbrev pub said_in : Kind → List ℕ → Said
+said_in kind cell = record { value = value_under kind cell; is_one = is_one cell }
+
+-- what is said in no column
+abbrev pub nothing : Said
+nothing = record { value = None; is_one = false }
+
+-- for each column there is what the row's cell says
+abbrev pub HasSaid : List Kind → List (List ℕ) → List Said → Type 0
+HasSaid kinds row said =
+    (k : ℕ) → k < length kinds → slice_index_or said k nothing ≡ said_in (slice_index_or kinds k Value) (cell_at k row)
 
 -- the samples at this time of the inputs whose columns these are, of which the first has this number
-abbrev pub value_samples : ℕ → ℕ → List ℕ → List (Option ℤ) → List Sample
-value_samples time number [] values = []
-value_samples time number (column ∷ columns) values =
-    sample_of time number (slice_index_or values column None) ++ value_samples time (number + 1) columns values
+abbrev pub said_samples : ℕ → ℕ → List ℕ → List Said → List Sample
+said_samples time number [] said = []
+said_samples time number (column ∷ columns) said =
+    sample_of time number (slice_index_or said column nothing).value ++ said_samples time (number + 1) columns said
+
+-- the times of the events whose columns these are, with this time after those of each event that occurs
+abbrev pub times_with : ℕ → List ℕ → List Said → List (List ℕ) → List (List ℕ)
+times_with time (column ∷ columns) said (times ∷ events) =
+    (if (slice_index_or said column nothing).is_one then times ++ time ∷ [] else times) ∷ times_with time columns said events
+times_with time _ said events = events

@@ -1,5 +1,5 @@
 -- The numbers and the names of the faults of a trace, as refusals have them.
-use Rattle.std.specs.Prelude.{ℕ, List, codes}
+use Rattle.std.specs.Prelude.{ℕ, List, ◌++◌, codes, decimal}
 use Rattle.trace_rows.specs.declared.fail.TraceCode.{TraceCode}
 use Rattle.trace_rows.specs.declared.fail.TraceCode.TheVariants.{BadHeader, BadRow, BadCell, TimeNotRising, TimePastEnd, TooManyOccurrences, TooManyRows}
 
@@ -20,3 +20,7 @@ trace_code_name TimeNotRising = codes "TimeNotRising"
 trace_code_name TimePastEnd = codes "TimePastEnd"
 trace_code_name TooManyOccurrences = codes "TooManyOccurrences"
 trace_code_name TooManyRows = codes "TooManyRows"
+
+-- the number and the name of a code
+abbrev pub trace_code_text : TraceCode → List ℕ
+trace_code_text code = decimal (trace_code_number code) ++ codes " " ++ trace_code_name code

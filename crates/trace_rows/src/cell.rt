@@ -5,7 +5,7 @@ ghost use Rattle.dia_tokens.specs.Kinds.{is_digit};
 ghost use Rattle.dia_tokens.specs.Values.{digits_value};
 ghost use Rattle.trace_rows.specs.Cells.{are_digits, cell_fits, is_time, value_in};
 ghost use Rattle.trace_rows.specs.declared.cell.Kind.TheVariants.{Mark, Value};
-ghost use Rattle.trace_rows.specs.Columns.{negative_in, positive_in, value_under};
+ghost use Rattle.trace_rows.specs.Columns.{negative_in, positive_in, said_in};
 
 /// What a column holds.
 #[derive(Clone, Copy, Debug, PartialEq, Eq)]
@@ -56,7 +56,7 @@ fn positive(digits: &[u8]) -> Option<i64>
     0i64.checked_add_unsigned(digits_number(digits)?)
 }
 
-/// The number of the digits behind a `-`.
+/// The number of the digits after a `-`.
 fn negative(digits: &[u8]) -> Option<i64>
     ensures { result ≡ negative_in digits.now }
 {
@@ -75,22 +75,28 @@ fn value_in(cell: &[u8]) -> Option<i64>
 
 /// The time in the cell, if one stands there.
 pub(crate) fn time_in(cell: &[u8]) -> Option<u64>
-    ensures { MatchOption result (is_time cell.now ≡ false) (λ time. (is_time cell.now ≡ true) × (time ≡ digits_value cell.now)) }
+    ensures { MatchOption result
+        (is_time cell.now ≡ false)
+        (λ time. (is_time cell.now ≡ true) × (time ≡ digits_value cell.now)) }
 {
     let time = digits_number(cell)?;
     if time < 1 << 63 { Some(time) } else { None }
 }
 
-/// Whether an event's cell is of its form.
-fn is_mark(cell: &[u8]) -> bool
-    ensures { result ≡ cell_fits Mark cell.now }
-{
-    cell.is_empty() || cell == b"0".as_slice() || cell == b"1".as_slice()
+/// What a cell says.
+#[derive(Clone, Copy)]
+pub(crate) struct Said {
+    /// The value, in an input's column.
+    pub(crate) value: Option<i64>,
+    /// Whether the cell is `1`, by which an event occurs.
+    pub(crate) is_one: bool,
 }
 
 /// The value in an input's cell, if the cell is of its form: none in an empty one.
 fn input_value(cell: &[u8]) -> Option<Option<i64>>
-    ensures { MatchOption result (cell_fits Value cell.now ≡ false) (λ value. (cell_fits Value cell.now ≡ true) × (value ≡ value_in cell.now)) }
+    ensures { MatchOption result
+        (cell_fits Value cell.now ≡ false)
+        (λ value. (cell_fits Value cell.now ≡ true) × (value ≡ value_in cell.now)) }
 {
     if cell.is_empty() {
         return Some(None);
@@ -99,12 +105,17 @@ fn input_value(cell: &[u8]) -> Option<Option<i64>>
     if value.is_some() { Some(value) } else { None }
 }
 
-/// The value that the cell says in a column of this kind, if it is of the column's form. A mark says none.
-pub(crate) fn value_under(kind: Kind, cell: &[u8]) -> Option<Option<i64>>
-    ensures { MatchOption result (cell_fits kind cell.now ≡ false) (λ value. (cell_fits kind cell.now ≡ true) × (value ≡ value_under kind cell.now)) }
+/// What the cell says in a column of this kind, if it is of the column's form. A mark says no value.
+pub(crate) fn said_in(kind: Kind, cell: &[u8]) -> Option<Said>
+    ensures { MatchOption result
+        (cell_fits kind cell.now ≡ false)
+        (λ said. (cell_fits kind cell.now ≡ true) × (said ≡ said_in kind cell.now)) }
 {
-    match kind {
-        Kind::Value => input_value(cell),
-        Kind::Mark => { if is_mark(cell) { Some(None) } else { None } }
-    }
+    let is_one = cell == b"1".as_slice();
+    let value = match kind {
+        Kind::Value => input_value(cell)?,
+        Kind::Mark if cell.is_empty() || cell == b"0".as_slice() || is_one => None,
+        Kind::Mark => return None,
+    };
+    Some(Said { value, is_one })
 }

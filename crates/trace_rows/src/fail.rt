@@ -4,6 +4,7 @@ ghost use Rattle.std.specs.Prelude.{◌≡◌};
 ghost use Rattle.trace_rows.specs.TraceCodes.{trace_code_name, trace_code_number};
 
 use dbp_plan::NoMemory;
+use std::fmt;
 
 /// What is wrong with a document's trace, in the order of their numbers, from 20 on.
 #[derive(Clone, Copy, Debug, PartialEq, Eq)]
@@ -53,6 +54,18 @@ impl TraceCode {
             TraceCode::TooManyOccurrences => "TooManyOccurrences",
             TraceCode::TooManyRows => "TooManyRows",
         }
+    }
+}
+
+/// The number and the name of the code, as a refusal has them after the number of its line.
+impl fmt::Display for TraceCode {
+    ghost use Rattle.std.specs.Prelude.{Some};
+    ghost use Rattle.trace_rows.specs.TraceCodes.{trace_code_text};
+
+    ghost output = { λ code. Some (trace_code_text code) };
+
+    fn fmt<W: fmt::Write>(&self, f: &mut fmt::Formatter<W>) -> fmt::Result {
+        write!(f, "{} {}", self.number(), self.name())
     }
 }
 

@@ -15,4 +15,4 @@ pub use header::{is_header, kinds};
 pub use laws::written_section_is_read_back;
 pub use rows::{MAX_ROWS, RowValues, row_values};
 pub use section::records;
-pub use values::event_times;
+pub use values::no_times;

@@ -1,4 +1,4 @@
-use Rattle.std.proofs.Common.{◌≡◌, ◌∙◌, Err, [], length, ap, arith, rules}
+use Rattle.std.proofs.Common.{◌≡◌, ◌∙◌, Err, ℕ, List, [], length, ap, arith}
 use Rattle.std.specs.Prelude.{replicate}
 use Rattle.std.proofs.lemmas.Result.{err_from_is_err_and}
 use Rattle.trace_rows.specs.declared.fail.TraceFail.TheVariants.{Refused}
@@ -22,7 +22,7 @@ returns-in_err-no_times-clause-many c many = absurd (omega (arith, many, c.in_ok
 
 pub returns-clause-trace : goal.returns-clause-trace
 returns-clause-trace c =
-    let count : c.len.result ≡ length c.args.diagram.now.events = search rules in
+    let count : length c.items.result.now ≡ length c.args.diagram.now.events = ap (λ (es : List (List ℕ)). length es) c.items.ensures.value in
     no-section c.args.doc.now c.args.diagram.now c.in_ok-no_times.field-0.items c.new.result c.requires.section (c.in_ok-no_times.ensures ∙ ap (λ n. replicate n []) count) c.new.ensures
 
 pub returns-clause-few : goal.returns-clause-few

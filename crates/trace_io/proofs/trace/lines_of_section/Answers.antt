@@ -7,7 +7,6 @@ use Rattle.trace_rows.specs.declared.fail.TraceFail.TheVariants.{Refused}
 use Rattle.trace_rows.specs.Headers.{is_header, kind_of_column}
 use Rattle.trace_rows.specs.Rows.{row_faults}
 use Rattle.trace_rows.specs.Records.{fields_of, records_of}
-use Rattle.trace_rows.proofs.Timetable.{few-rows}
 use Rattle.trace_io.proofs.TraceFaults.{rows-refused, whole-section}
 use Rattle.trace_io.proofs.TraceLines.{few-lines, rest-whole}
 use Rattle.trace_io.proofs.trace.lines_of_section.Goals as goal
@@ -21,16 +20,16 @@ bounds-lines-0 c =
     let some : 1 ≤ length c.items-lines.result.now = rw c.items-lines.ensures.value (omega (arith, count, first)) in
     search rules
 
-pub slice_bounds-row_values-count : goal.slice_bounds-row_values-count
-slice_bounds-row_values-count c =
+pub slice_bounds-rest-count : goal.slice_bounds-rest-count
+slice_bounds-rest-count c =
     let doc = c.args.doc.now in
     let count : length c.in_ok-records.records.items ≡ length doc.lines.trace =
     sym (length-map c.in_ok-records.records.items fields_of) ∙ few-lines doc c.args.text.now (map fields_of c.in_ok-records.records.items) c.requires.printable c.requires.lines c.requires.section c.in_ok-records.ensures in
     let first : length c.in-Some.rows.now + 1 ≡ length c.in_ok-records.records.items = search rules in
     rw c.items-lines.ensures.value (omega (arith, count, first))
 
-pub slice_bounds-row_values-start : goal.slice_bounds-row_values-start
-slice_bounds-row_values-start c =
+pub slice_bounds-rest-start : goal.slice_bounds-rest-start
+slice_bounds-rest-start c =
     let doc = c.args.doc.now in
     let count : length c.in_ok-records.records.items ≡ length doc.lines.trace =
     sym (length-map c.in_ok-records.records.items fields_of) ∙ few-lines doc c.args.text.now (map fields_of c.in_ok-records.records.items) c.requires.printable c.requires.lines c.requires.section c.in_ok-records.ensures in
@@ -64,20 +63,6 @@ returns-in_err-said-clause-fault c =
     λ line code is. rw (c.items-inputs.ensures.value, lines) at (c.in_err-said.ensures.fault line code (ap Err is)) in
     rw (p.1, p.2) (rows-refused doc d c.args.text.now header rows c.requires.section some good c.in_err-said.field-0.0 fault)
 
-pub event_times-requires-clause-few : goal.event_times-requires-clause-few
-event_times-requires-clause-few c =
-    let doc = c.args.doc.now in
-    let d = c.args.diagram.now in
-    let header = fields_of c.in-Some.header.now in
-    let rows = map fields_of c.in-Some.rows.now in
-    let count : length c.in_ok-records.records.items ≡ length doc.lines.trace =
-    sym (length-map c.in_ok-records.records.items fields_of) ∙ few-lines doc c.args.text.now (map fields_of c.in_ok-records.records.items) c.requires.printable c.requires.lines c.requires.section c.in_ok-records.ensures in
-    let first : length c.in-Some.rows.now + 1 ≡ length c.in_ok-records.records.items = search rules in
-    let lines : take (length c.items-lines.result.now - 1) (drop 1 c.items-lines.result.now) ≡ drop 1 doc.lines.trace = rw c.items-lines.ensures.value (rest-whole doc.lines.trace) in
-    let size : length rows ≡ length c.in-Some.rows.now = length-map c.in-Some.rows.now fields_of in
-    let fit : length rows ≤ length (drop 1 doc.lines.trace) = omega (arith, size, count, first, length-drop 1 doc.lines.trace) in
-    omega (arith, size, few-rows d.until (map (kind_of_column c.items-inputs.result.now) (drop 1 header)) rows (drop 1 doc.lines.trace) fit (rw lines at c.in_ok-said.ensures.faultless))
-
 pub returns-clause-trace : goal.returns-clause-trace
 returns-clause-trace c =
     let doc = c.args.doc.now in
@@ -88,5 +73,5 @@ returns-clause-trace c =
     let some : records_of (Some c.args.text.now) ≡ header ∷ rows = sym c.in_ok-records.ensures ∙ ap (map fields_of) first in
     let good : is_header d.inputs d.events header ≡ true = search rules in
     let lines : take (length c.items-lines.result.now - 1) (drop 1 c.items-lines.result.now) ≡ drop 1 doc.lines.trace = rw c.items-lines.ensures.value (rest-whole doc.lines.trace) in
-    whole-section doc d c.args.text.now header rows c.requires.section some good (rw (c.items-inputs.ensures.value, lines) at c.in_ok-said.ensures.faultless) c.in_ok-event_times.field-0.items c.in_ok-said.said.samples
-    (rw c.items-events.ensures.value at c.in_ok-event_times.ensures) (rw c.items-inputs.ensures.value at c.in_ok-said.ensures.samples)
+    whole-section doc d c.args.text.now header rows c.requires.section some good (rw (c.items-inputs.ensures.value, lines) at c.in_ok-said.ensures.faultless) c.in_ok-said.said.events.items c.in_ok-said.said.samples
+    (rw c.items-events.ensures.value at c.in_ok-said.ensures.events) (rw c.items-inputs.ensures.value at c.in_ok-said.ensures.samples)

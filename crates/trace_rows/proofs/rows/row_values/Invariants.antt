@@ -4,16 +4,17 @@ use Rattle.dbp_plan.specs.declared.limits.TheConstants.{MAX_INPUTS}
 use Rattle.dbp_plan.proofs.FirstFaults.{FirstFrom}
 use Rattle.trace_rows.specs.Cells.{time_of}
 use Rattle.trace_rows.specs.Rows.{fault_behind}
-use Rattle.trace_rows.specs.Values.{samples_of}
+use Rattle.trace_rows.specs.Values.{event_times, samples_of}
 use Rattle.trace_rows.specs.declared.rows.TheConstants.{MAX_ROWS}
 use Rattle.trace_rows.proofs.rows.row_values.Given as goal
 
 abbrev pub invariant-loop-place : goal.invariant-loop-place
 invariant-loop-place l = record {
-  from : FirstFrom (fault_behind l.until l.kinds.items) (map fields_of l.rows) l.lines l.place;
+  from : FirstFrom (fault_behind l.until l.columns.kinds.items) (map fields_of l.rows) l.lines l.place;
   timed : l.times ≡ map time_of (take l.place (map fields_of l.rows));
   sampled : l.samples ≡ samples_of (drop 1 (fields_of l.header)) (take l.place (map fields_of l.rows)) l.inputs;
-  places : length l.values.items ≡ length l.kinds.items;
+  marked : l.marked.items ≡ event_times (drop 1 (fields_of l.header)) (take l.place (map fields_of l.rows)) l.events;
+  places : length l.said.items ≡ length l.columns.kinds.items;
   room : l.place ≤ MAX_ROWS;
   few : length l.samples ≤ l.place * MAX_INPUTS;
 }

@@ -1,7 +1,7 @@
 use Rattle.std.proofs.Common.{◌≡◌, ◌∙◌, [], ap, arith}
 use Rattle.std.specs.Prelude.{replicate}
-use Rattle.trace_io.proofs.TraceFaults.{all-none}
-use Rattle.trace_io.proofs.trace.no_times.Goals as goal
+use Rattle.trace_rows.proofs.EventTimes.{all-none}
+use Rattle.trace_rows.proofs.values.no_times.Goals as goal
 
 pub returns : goal.returns
 returns c =
