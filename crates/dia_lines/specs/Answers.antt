@@ -1,5 +1,5 @@
 -- What holds if a line is refused. If memory ran out, nothing is said.
-use Rattle.std.specs.Prelude.{◌≡◌, ℕ, true, false, List, Option, Some, None}
+use Rattle.std.specs.Prelude.{◌≡◌, ℕ, true, false, List, ◌∷◌, Option, Some, None}
 use Rattle.dia_tokens.specs.declared.line.LineFail.{LineFail}
 use Rattle.dia_tokens.specs.declared.token.Token.{Token}
 use Rattle.dia_exprs.specs.declared.fail.ExpressionFail.{ExpressionFail}
@@ -10,7 +10,9 @@ use Rattle.dia_lines.specs.declared.item.Part.TheVariants as part
 use Rattle.dia_lines.specs.declared.item.Line.{Line}
 use Rattle.dia_lines.specs.declared.item.Line.TheVariants as line
 use Rattle.dia_lines.specs.Forms.{Shape, plain, of_let, of_next, of_out}
-use Rattle.dia_lines.specs.Held.{IsKept}
+use Rattle.dia_lines.specs.Held.{IsKept, IsHeld}
+use Rattle.dia_lines.specs.Positions.{IsBehind}
+use Rattle.dia_lines.specs.declared.position.Position.{Position}
 use Rattle.dia_lines.specs.declared.fault.LineError.{LineError}
 use Rattle.dia_lines.specs.declared.fault.LineError.TheVariants.{Refused, NoMemory}
 use Rattle.dia_lines.specs.declared.fault.ReadCode.{ReadCode}
@@ -18,7 +20,7 @@ use Rattle.dia_lines.specs.declared.fault.ReadCode.TheVariants.{BadLine, LimitHi
 use Rattle.dia_lines.specs.declared.place.Place.{Place}
 use Rattle.dia_lines.specs.Statements.{Statement}
 use Rattle.dia_lines.specs.Limits.{numbers_fit}
-use Rattle.dia_lines.specs.Lines.{Said, MayStand, code_of, HasTextFault, HasDiagramFault, HasFault}
+use Rattle.dia_lines.specs.Lines.{Said, Reads, MayStand, code_of, HasTextFault, HasDiagramFault, HasFault}
 
 -- the refusal with the code, or out of memory if there is none
 abbrev pub error_of : Option ReadCode → LineError
@@ -39,6 +41,16 @@ abbrev pub Refuses : List Said → List ℕ → LineError → Type 0
 Refuses before line (Refused code) = HasFault before line code
 Refuses before line NoMemory = Unit {0}
 
+-- after any lines that lead to the position, the line says something, this is held of it, and the next position is after it
+abbrev pub IsNextLine : Position → List ℕ → Line → Position → Type 0
+IsNextLine position line held next =
+    (before : List Said) → IsBehind before position
+    → (said : Said) × Reads before line said × IsHeld said held × IsBehind (said ∷ before) next
+
+-- after any lines that lead to the position, the line has the fault, as its first one
+abbrev pub RefusesAfter : Position → List ℕ → LineError → Type 0
+RefusesAfter position line e = (before : List Said) → IsBehind before position → Refuses before line e
+
 -- the line spells no tokens, and has the fault
 abbrev pub RefusesText : List ℕ → LineError → Type 0
 RefusesText line (Refused code) = HasTextFault line code
@@ -55,6 +67,10 @@ RefusesStatement place ts (Refused BadLine) = (s : Statement) → MayStand place
 RefusesStatement place ts (Refused (LimitHit Number)) = (s : Statement) × MayStand place ts s × (numbers_fit s ≡ false)
 RefusesStatement place ts (Refused _) = ⊥
 RefusesStatement place ts NoMemory = Unit {0}
+
+-- the tokens are a statement that may stand at the place, with its numbers within their limits, and this is kept of it
+abbrev pub KeepsStatement : Place → List Token → Line → Type 0
+KeepsStatement place ts l = (s : Statement) × MayStand place ts s × (numbers_fit s ≡ true) × IsKept s l
 
 -- ---- of a form
 

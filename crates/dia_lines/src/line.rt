@@ -4,7 +4,7 @@ ghost use Rattle.std.specs.Prelude.{◌≡◌, ◌≢◌, false, ◌∷◌, List
 ghost use Rattle.std.specs.List.{list_all};
 ghost use Rattle.dia_tokens.specs.Kinds.{is_allowed};
 ghost use Rattle.dia_tokens.specs.Line.{Spells as SpellsTokens};
-ghost use Rattle.dia_lines.specs.Answers.{Refuses, RefusesText, RefusesInDiagram};
+ghost use Rattle.dia_lines.specs.Answers.{Refuses, RefusesText, RefusesInDiagram, IsNextLine, RefusesAfter};
 ghost use Rattle.dia_lines.specs.Held.{IsHeld, IsKept};
 ghost use Rattle.dia_lines.specs.Lines.{Said, SaysStatement, SaysInScript, Reads, statements};
 ghost use Rattle.dia_lines.specs.Moves.{place_behind_line};
@@ -103,9 +103,9 @@ pub fn read_line(
     line: &[u8],
 ) -> Result<(Line, Position), LineError>
     // The line says what is held of it.
-    ensures found { (before : List Said) → IsBehind before position → IfOk result (λ r. (said : Said) × Reads before line.now said × IsHeld said r.0 × IsBehind (said ∷ before) r.1) }
+    ensures found { IfOk result (λ r. IsNextLine position line.now r.0 r.1) }
     // A refusal says the line's first fault, unless memory ran out.
-    ensures fault { (before : List Said) → IsBehind before position → IfErr result (λ e. Refuses before line.now e) }
+    ensures fault { IfErr result (λ e. RefusesAfter position line.now e) }
     // A line of the trace section takes no memory.
     ensures memory { position.place ≡ Trace → IfErr result (λ e. e ≢ OutOfMemory) }
     // A line with a byte that no section allows is refused before any memory is taken.

@@ -1,17 +1,15 @@
 // The tokens of a line of the diagram as what it says.
 
-ghost use Rattle.std.specs.Prelude.{◌≡◌, ◌≤◌, true, IfOk, IfErr};
+ghost use Rattle.std.specs.Prelude.{◌≡◌, ◌≤◌, IfOk, IfErr};
 ghost use Rattle.dbp_plan.specs.declared.limits.TheConstants.{MAX_NODES};
 ghost use Rattle.dia_exprs.specs.declared.counts.TheConstants.{MAX_DEPTH};
 ghost use Rattle.dia_exprs.specs.Counts.{node_count, depth_of};
 ghost use Rattle.dia_exprs.specs.Answers.{IsSpelled};
-ghost use Rattle.dia_lines.specs.Statements.{Statement, until as an_until};
-ghost use Rattle.dia_lines.specs.Limits.{numbers_fit};
-ghost use Rattle.dia_lines.specs.Lines.{MayStand, expression_of};
-ghost use Rattle.dia_lines.specs.Held.{IsKept};
+ghost use Rattle.dia_lines.specs.Statements.{until as an_until};
+ghost use Rattle.dia_lines.specs.Lines.{expression_of};
 ghost use Rattle.dia_lines.specs.Forms.{plain, tokens_of};
 ghost use Rattle.dia_lines.specs.FormShapes.{task_of, read_of, shape_of};
-ghost use Rattle.dia_lines.specs.Answers.{RefusesStatement, KeepsShape, RefusesExpression, RefusesNumbers, RefusesShape};
+ghost use Rattle.dia_lines.specs.Answers.{KeepsStatement, RefusesStatement, KeepsShape, RefusesExpression, RefusesNumbers, RefusesShape};
 
 use crate::fault::{Limit, LineError, ReadCode};
 use crate::form::{Form, ReadForm, TaskForm};
@@ -99,7 +97,7 @@ pub(crate) fn statement(alloc: Global, place: Place, tokens: &[Token]) -> Result
     requires nodes { node_count (expression_of tokens.now) ≤ MAX_NODES }
     requires depth { depth_of tokens.now ≤ MAX_DEPTH }
     // The tokens are a statement that may stand here, whose numbers are within their limits, and the line holds it.
-    ensures found { IfOk result (λ l. (s : Statement) × MayStand place tokens.now s × (numbers_fit s ≡ true) × IsKept s l) }
+    ensures found { IfOk result (λ l. KeepsStatement place tokens.now l) }
     // BadLine: no statement may stand here; LimitHit Number: one may, with a number past its limit; no other fault.
     ensures fault { IfErr result (λ e. RefusesStatement place tokens.now e) }
 {
