@@ -16,7 +16,7 @@ returns-then-have_finished-clause-same g c = same_parties c.args.parties.now c.l
 pub returns-then-have_finished-clause-finished : goal.returns-then-have_finished-clause-finished
 returns-then-have_finished-clause-finished g c = record {
   parties = places_stay c.args.words.now c.args.parties.now c.loop.parties c.loop.invariant.size c.loop.invariant.same (fresh_parties c.args.words.now c.args.parties.now c.requires);
-  finished = c.have_finished.ensures c.if-have_finished.true;
+  finished = c.have_finished.ensures.0 c.if-have_finished.true;
 }
 
 pub loop-preserved : goal.loop-preserved
