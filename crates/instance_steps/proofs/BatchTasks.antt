@@ -4,7 +4,7 @@ use Rattle.std.specs.Prelude.{◌==◌}
 use Rattle.std.specs.List.{flat_map}
 use Rattle.std.specs.List.Sorted.{IsStrictlyIncreasing}
 use Rattle.std.proofs.lemmas.Bool.{cases_Bool, eq-eqb}
-use Rattle.std.proofs.lemmas.List.{append-nil, take-append-drop, take_more, length-map}
+use Rattle.std.proofs.lemmas.List.{append-nil, take-append-drop, take_more, length-map, map-append}
 use Rattle.std.proofs.lemmas.List.Concat.{flat_map-append, flat_map-cons}
 use Rattle.std.proofs.lemmas.List.Folds.{list_any_at}
 use Rattle.std.proofs.lemmas.List.Kept.{AllPairs-from_increasing}
@@ -24,6 +24,10 @@ use Rattle.instance_steps.specs.Releases.{batch_at, no_batch}
 use Rattle.instance_steps.specs.declared.recorder.Recorder.{Recorder}
 
 -- ---- lists
+
+-- what a function makes of one item more
+pub map_more : {X : Type 0} (f : ℕ → X) (xs : List ℕ) (n : ℕ) → n < length xs → map f (take (n + 1) xs) ≡ map f (take n xs) ++ f (get_or xs n 0) ∷ []
+map_more f xs n below = ap (map f) (take_more xs n 0 below) ∙ map-append f (take n xs) (get_or xs n 0 ∷ [])
 
 -- a batch names each of its tasks, and no other
 pub names_task : (b : Batch) (n : ℕ) → n < length b.tasks → names (get_or b.tasks n 0) b ≡ true

@@ -1,7 +1,7 @@
 -- The claims of a batch, link by link and task by task.
-use Rattle.std.proofs.Common.{◌≡◌, ℕ, ◌+◌, ◌<◌, List, [], ◌∷◌, ◌++◌, length, map, get_or, slice_get, take, Some, refl, sym, ap, ◌∙◌, subst, arith, length-append}
+use Rattle.std.proofs.Common.{◌≡◌, ℕ, ◌+◌, ◌<◌, List, [], ◌∷◌, length, map, get_or, slice_get, take, Some, refl, sym, ap, ◌∙◌, subst, arith, length-append}
 use Rattle.std.specs.List.{flat_map}
-use Rattle.std.proofs.lemmas.List.{length-map, map-append, take_all, take_more}
+use Rattle.std.proofs.lemmas.List.{length-map, take_all}
 use Rattle.dbp_plan.specs.declared.diagram.Link.{Link}
 use Rattle.dbp_plan.specs.declared.plan.Plan.{Plan}
 use Rattle.release_list.specs.declared.release.Release.TheVariants as release
@@ -17,7 +17,7 @@ use Rattle.instance_steps.specs.Recorders.{AddsStep, plan_in, state_in, wiring_i
 use Rattle.instance_steps.specs.Releases.{AddsRelease, batch_at}
 use Rattle.instance_steps.specs.declared.recorder.Recorder.{Recorder}
 use Rattle.instance_steps.proofs.Adding.{own_in, wired_in}
-use Rattle.instance_steps.proofs.BatchTasks.{claim_listed, listed_more, task_named}
+use Rattle.instance_steps.proofs.BatchTasks.{claim_listed, listed_more, map_more, task_named}
 use Rattle.instance_steps.proofs.ReleaserMoves.{claim_may, claim_moves, release_as, release_none, release_on, release_step}
 
 -- the links into the task, and the claims of the first n of them
@@ -30,9 +30,6 @@ HasClaimed a i b n = AddsRelease a b (map (λ k. step_of (Claim k)) (take n (int
 -- the links that the code goes over
 pub into_is : (a : Recorder) (i : ℕ) (w : Wiring) (t : TaskWiring) → i < length (plan_in a).diagram.tasks → w ≡ wiring_in a → t ≡ wired w i → t.links ≡ into_of a i
 into_is a i w t named same there = ap (λ (x : TaskWiring). x.links) there ∙ ap (λ (x : Wiring). (wired x i).links) same ∙ ap (λ (x : TaskWiring). x.links) (wired_in a i named)
-
-map_more : (xs : List ℕ) (n : ℕ) → n < length xs → map (λ k. step_of (Claim k)) (take (n + 1) xs) ≡ map (λ k. step_of (Claim k)) (take n xs) ++ step_of (Claim (get_or xs n 0)) ∷ []
-map_more xs n below = ap (map (λ k. step_of (Claim k))) (take_more xs n 0 below) ∙ map-append (λ k. step_of (Claim k)) (take n xs) (get_or xs n 0 ∷ [])
 
 module _ (a : Recorder) (i : ℕ) (named : i < length (plan_in a).diagram.tasks)
     (next_ : (n : ℕ) → n < length (into_of a i) → slice_get (wiring_in a).releases ((state_in a).releaser.place + n) ≡ Some (release.Claim (get_or (into_of a i) n 0))) where
@@ -58,7 +55,7 @@ module _ (a : Recorder) (i : ℕ) (named : i < length (plan_in a).diagram.tasks)
       claimed_more =
           let one : AddsRelease b c (step_of (Claim (get_or (into_of a i) n 0)) ∷ []) ((state_in b).releaser.place + 1) =
           release_step b c _ _ _ step refl link_may (claim_moves (plan_in b) (wiring_in b) (state_in b) (get_or (into_of a i) n 0)) in
-          subst (λ (vs : List Event). AddsRelease a c vs ((state_in a).releaser.place + (n + 1))) (sym (map_more (into_of a i) n below))
+          subst (λ (vs : List Event). AddsRelease a c vs ((state_in a).releaser.place + (n + 1))) (sym (map_more (λ k. step_of (Claim k)) (into_of a i) n below))
           (release_on a b c _ _ _ _ adds (release_as b c _ _ _ (omega (arith, adds.moves.place)) one))
 
       pub claimed_entries : (state_in c).releaser.tasks ≡ (state_in b).releaser.tasks

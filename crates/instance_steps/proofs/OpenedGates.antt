@@ -1,6 +1,6 @@
 -- The gates of a batch, task by task.
-use Rattle.std.proofs.Common.{◌≡◌, ℕ, ◌+◌, ◌<◌, List, [], ◌∷◌, ◌++◌, length, map, get_or, slice_get, take, refl, sym, ap, ◌∙◌, subst, arith}
-use Rattle.std.proofs.lemmas.List.{map-append, take_all, take_more}
+use Rattle.std.proofs.Common.{◌≡◌, ℕ, ◌+◌, ◌<◌, List, [], ◌∷◌, length, map, get_or, slice_get, take, refl, sym, ap, ◌∙◌, subst, arith}
+use Rattle.std.proofs.lemmas.List.{take_all}
 use Rattle.dbp_plan.specs.declared.plan.Plan.{Plan}
 use Rattle.release_list.specs.Releases.{batch_start, claims_of}
 use Rattle.dbp_rules.specs.declared.state.State.{State}
@@ -12,14 +12,11 @@ use Rattle.instance_steps.specs.Recorders.{AddsStep, plan_in, state_in, wiring_i
 use Rattle.instance_steps.specs.Releases.{AddsRelease, batch_at}
 use Rattle.instance_steps.specs.declared.recorder.Recorder.{Recorder}
 use Rattle.instance_steps.proofs.Adding.{task_there}
-use Rattle.instance_steps.proofs.BatchTasks.{open_listed, task_named}
+use Rattle.instance_steps.proofs.BatchTasks.{map_more, open_listed, task_named}
 use Rattle.instance_steps.proofs.ReleaserMoves.{open_may, open_moves, release_as, release_none, release_on, release_step}
 
 abbrev pub HasOpened : Recorder → ℕ → Recorder → ℕ → Type 0
 HasOpened a number b n = AddsRelease a b (map (λ i. step_of (OpenGate i)) (take n (batch_at (plan_in a) number).tasks)) ((state_in a).releaser.place + n)
-
-map_more : (xs : List ℕ) (n : ℕ) → n < length xs → map (λ i. step_of (OpenGate i)) (take (n + 1) xs) ≡ map (λ i. step_of (OpenGate i)) (take n xs) ++ step_of (OpenGate (get_or xs n 0)) ∷ []
-map_more xs n below = ap (map (λ i. step_of (OpenGate i))) (take_more xs n 0 below) ∙ map-append (λ i. step_of (OpenGate i)) (take n xs) (get_or xs n 0 ∷ [])
 
 module _ (a : Recorder) (number : ℕ) (there : number < length (plan_in a).batches)
     (next_ : (state_in a).releaser.place ≡ batch_start (plan_in a).diagram.links (plan_in a).batches number + length (batch_at (plan_in a) number).tasks + length (claims_of (plan_in a).diagram.links (batch_at (plan_in a) number).tasks)) where
@@ -48,7 +45,7 @@ module _ (a : Recorder) (number : ℕ) (there : number < length (plan_in a).batc
       opened_more =
           let one : AddsRelease b c (step_of (OpenGate (get_or (batch_at (plan_in a) number).tasks n 0)) ∷ []) ((state_in b).releaser.place + 1) =
           release_step b c _ _ _ step refl gate_may (open_moves (plan_in b) (wiring_in b) (state_in b) (get_or (batch_at (plan_in a) number).tasks n 0) (task_there b _ named_b)) in
-          subst (λ (vs : List Event). AddsRelease a c vs ((state_in a).releaser.place + (n + 1))) (sym (map_more (batch_at (plan_in a) number).tasks n below))
+          subst (λ (vs : List Event). AddsRelease a c vs ((state_in a).releaser.place + (n + 1))) (sym (map_more (λ i. step_of (OpenGate i)) (batch_at (plan_in a) number).tasks n below))
           (release_on a b c _ _ _ _ adds (release_as b c _ _ _ (omega (arith, adds.moves.place)) one))
 
       pub opened_entries : (state_in c).releaser.tasks ≡ (state_in b).releaser.tasks

@@ -8,7 +8,7 @@ use Rattle.rank_order.specs.Service.{IsService, left_of, served_ticks}
 use Rattle.rank_order.specs.ServiceOf.{service}
 use Rattle.rank_order.proofs.Choices.{tick_cases, tick_of}
 use Rattle.rank_order.proofs.OneService.{serves_waiting}
-use Rattle.rank_order.proofs.ServedTicks.{ends_after, served_next}
+use Rattle.rank_order.proofs.ServedTicks.{ends_after, left_falls, served_next}
 use Rattle.rank_order.proofs.SomeService.{service_is}
 use Rattle.dbp_rules.specs.Lawful.{Leads}
 use Rattle.dbp_rules.specs.Start.{start_of}
@@ -20,7 +20,6 @@ use Rattle.instance_steps.specs.Events.{end_events}
 use Rattle.instance_steps.proofs.PlaysLaws.{plays_leads}
 use Rattle.virtual_sim.specs.Record.{IsRecord, end_events_at, end_events_of, events_before}
 use Rattle.virtual_sim.proofs.Recorded.{an_end, no_end}
-use Rattle.virtual_sim.proofs.Steps.{left_falls}
 
 module _ (p : Plan) (serve : ℕ → Option Instance) (is_service : IsService p serve) where
   -- a tick has no end, or that of the instance that ends then
@@ -65,7 +64,7 @@ end_stands p script record_is x e end =
     let same = still_left p (service p) (service_is p) x e none (record_is.last - e) in
     let reach = ap (served_ticks (service p) x) (let z : e + (record_is.last - e) ≡ record_is.last = omega (arith, lt) in z) in
     omega (arith, at_last, same, reach))
-    (λ (ge : record_is.last ≤ e). let falls = left_falls p (service p) (service_is p) x record_is.last e ge in omega (arith, at_last, falls))
+    (λ (ge : record_is.last ≤ e). let falls = left_falls p (service p) x record_is.last e ge in omega (arith, at_last, falls))
     (cases_lt e record_is.last) in
     let next : e ≡ suc end.last = let after = end.after in omega (arith, after) in
     ap (end_events_at p (service p)) next

@@ -12,6 +12,7 @@ use Rattle.dbp_rules.specs.Rules.{next}
 use Rattle.dbp_rules.specs.Start.{start_of}
 use Rattle.dbp_rules.specs.Wired.{wiring_of}
 use Rattle.dbp_rules.specs.declared.state.State.{State}
+use Rattle.rank_order.proofs.ServedTicks.{left_falls}
 use Rattle.dbp_rules.specs.declared.step.Count.TheVariants.{Ranked}
 use Rattle.dbp_rules.specs.declared.step.Step.{Step}
 use Rattle.dbp_rules.specs.declared.step.Step.TheVariants.{Aim}
@@ -20,7 +21,6 @@ use Rattle.instance_steps.specs.Events.{Event, aim_of, step_of}
 use Rattle.instance_steps.specs.Plays.{IsStepOf, Plays}
 use Rattle.virtual_sim.specs.Record.{IsRecord, end_events_of, events_at, events_before, release_events_at, service_events_of}
 use Rattle.virtual_sim.proofs.Recorded.{next_events, no_releases}
-use Rattle.virtual_sim.proofs.Steps.{left_falls}
 
 -- an event is one step
 one_step : (w : Wiring) (s : State) (v : Event) (e f : Step) → IsStepOf w s v e → IsStepOf w s v f → e ≡ f
@@ -50,7 +50,7 @@ module _ (p : Plan) (serve : ℕ → Option Instance) (service : IsService p ser
       none None is = is
       none (Some x) is =
           let waits = serves_waiting p serve service t x is in
-          let falls = left_falls p serve service x last t le in
+          let falls = left_falls p serve x last t le in
           absurd (omega (arith, ended x waits.instance, falls, waits.unfinished))
 
   -- nothing happens later

@@ -4,13 +4,13 @@ use Rattle.std.proofs.lemmas.List.{length_push, get_or_push, get_or_append_left}
 use Rattle.std.proofs.lemmas.Bool.{cases_lt, cases_eq}
 use Rattle.dbp_plan.specs.declared.plan.Plan.{Plan}
 use Rattle.rank_order.specs.Instances.{Instance, IsInstance, release_of}
-use Rattle.rank_order.specs.Service.{GoesBefore, IsFirst, IsService, Waits, left_of, served_ticks}
+use Rattle.rank_order.specs.Service.{GoesBefore, IsFirst, IsService, Waits, left_of}
 use Rattle.rank_order.specs.Ends.{IsEnd}
 use Rattle.instance_steps.specs.Releases.{no_batch}
 use Rattle.virtual_sim.specs.State.{release_count, instance, busy_count, EndsAt, IsSimulatedTo, NoBatchBefore, Sets}
 use Rattle.rank_order.proofs.Jump.{Ran, runs, serves}
 use Rattle.rank_order.proofs.OneService.{serves_waiting}
-use Rattle.rank_order.proofs.ServedTicks.{served_grows, unserved_after}
+use Rattle.rank_order.proofs.ServedTicks.{left_falls, unserved_after}
 use Rattle.dbp_plan.proofs.OccurrenceBatches.{IsOfBatch, batch_of}
 use Rattle.dbp_plan.proofs.TaskTimes.{more-named, some-of, some-rise}
 use Rattle.virtual_sim.proofs.Times.{when}
@@ -23,14 +23,6 @@ pub busy_count_none : (n : ℕ) → n ≡ 0 → busy_count n ≡ 0
 busy_count_none n e = ap busy_count e
 
 module _ (P : Plan) (serve : ℕ → Option Instance) (service : IsService P serve) where
-  -- what is left grows less
-  pub left_falls : (x : Instance) (t u : ℕ) → t ≤ u → left_of P serve x u ≤ left_of P serve x t
-  left_falls x t u le =
-      let same : t + (u - t) ≡ u = omega (arith, le) in
-      let grows = served_grows serve x t (u - t) in
-      let k = ap (λ (n : ℕ). served_ticks serve x n) same in
-      omega (arith, grows, k)
-
   pub is_end : (x : Instance) (e : ℕ) → EndsAt P serve x e → IsEnd serve x e
   is_end x e f = record {
     last = e - 1;
@@ -59,7 +51,7 @@ module _ (P : Plan) (serve : ℕ → Option Instance) (service : IsService P ser
         let past = at.past i (n - 1) small (omega (arith, above, le)) in
         let same : n - 1 + 1 ≡ n = omega (arith, above) in
         let done = subst (λ (m : ℕ). left_of P serve (instance i m) (get_or (get_or ends i []) (n - 1) 0) ≡ 0) same f.done in
-        let falls = left_falls (instance i n) (get_or (get_or ends i []) (n - 1) 0) now past in
+        let falls = left_falls P serve (instance i n) (get_or (get_or ends i []) (n - 1) 0) now past in
         omega (arith, done, falls)
 
     module _ (limit : ℕ) (until : NoBatchBefore P b limit) where
