@@ -23,9 +23,10 @@ use dbp_plan::{NoMemory, Plan};
 use dbp_replay::{print_script, read_script, replay_owned};
 use dia_read::{print_doc, read_doc};
 use std::alloc::Global;
+use std::rc::Rc;
 use sync_meaning::mean;
 use trace_io::lines;
-use virtual_sim::{SimFail, simulate, simulate_table};
+use virtual_sim::{SimFail, simulate_shared, simulate_table_shared};
 
 /// The status and the text that a command that runs no tasks gives to an input that isn't too large.
 pub(crate) fn answer(
@@ -90,22 +91,31 @@ fn simulation_of(alloc: Global, record_it: bool, input: &[u8]) -> Result<Vec<u8>
     ensures stop { IfErr result (λ stop. IsStopOf input.now (Sim record_it) stop) }
 {
     let plan = plan_of(alloc, input)?;
-    let text = simulation_text(alloc, record_it, &plan)?;
+    let shared = shared_plan(alloc, plan)?;
+    let text = simulation_text(alloc, record_it, &shared)?;
     Ok(text)
 }
 
-/// What the simulation of the plan writes: the steps of its record, or the lines of its table.
-fn simulation_text(alloc: Global, record_it: bool, plan: &Plan) -> Result<Vec<u8>, Stop>
-    ensures text { IfOk result (λ text. (doc : Document) → PlanText doc plan.now (Sim record_it) text.items) }
-    ensures stop { IfErr result (λ stop. (input : Items ℕ) → Accepts input plan.now → IsStopOf input (Sim record_it) stop) }
+/// The plan, so that it can be shared.
+fn shared_plan(alloc: Global, plan: Plan) -> Result<Rc<Plan>, NoMemory>
+    ensures { IfOk result (λ shared. shared.value ≡ plan) }
 {
+    Ok(Rc::new(alloc, plan)?)
+}
+
+/// What the simulation of the plan writes: the steps of its record, or the lines of its table.
+fn simulation_text(alloc: Global, record_it: bool, shared: &Rc<Plan>) -> Result<Vec<u8>, Stop>
+    ensures text { IfOk result (λ text. (doc : Document) → PlanText doc shared.now.value (Sim record_it) text.items) }
+    ensures stop { IfErr result (λ stop. (input : Items ℕ) → Accepts input shared.now.value → IsStopOf input (Sim record_it) stop) }
+{
+    let plan: &Plan = shared;
     if record_it {
-        match simulate(alloc, plan) {
+        match simulate_shared(alloc, shared) {
             Ok(run) => Ok(print_script(alloc, &plan.diagram, &run.script)?),
             Err(fail) => Err(stop_of(alloc, plan, fail)),
         }
     } else {
-        match simulate_table(alloc, plan) {
+        match simulate_table_shared(alloc, shared) {
             Ok(table) => Ok(lines(alloc, plan, &table)?),
             Err(fail) => Err(stop_of(alloc, plan, fail)),
         }

@@ -1,4 +1,4 @@
-use Rattle.std.proofs.Common.{refl}
+use Rattle.std.proofs.Common.{refl, sym}
 use Rattle.std.proofs.lemmas.Result.{err_from_is_err_and}
 use Rattle.dbp_top.specs.declared.command.Command.TheVariants.{Sim}
 use Rattle.dbp_top.proofs.StopLaws.{document-stop}
@@ -13,9 +13,9 @@ returns-in_err-plan-clause-stop c =
 pub returns-in_err-text-clause-stop : goal.returns-in_err-text-clause-stop
 returns-in_err-text-clause-stop c =
     let p = err_from_is_err_and c.from_residual-in_err-text.result c.from_residual-in_err-text.ensures.1 in
-    rw (p.1, p.2) (c.in_err-text.ensures.stop c.args.input.now c.in_ok-plan.ensures.plan)
+    rw (p.1, p.2) (c.in_err-text.ensures.stop c.args.input.now (rw (sym c.in_ok-shared.ensures) at c.in_ok-plan.ensures.plan))
 
 pub returns-clause-text : goal.returns-clause-text
 returns-clause-text c =
     let accepted = c.in_ok-plan.ensures.plan in
-    of_plan (Sim c.args.record_it) c.in_ok-plan.plan c.in_ok-text.text.items accepted (c.in_ok-text.ensures.text accepted.doc)
+    of_plan (Sim c.args.record_it) c.in_ok-plan.plan c.in_ok-text.text.items accepted (rw c.in_ok-shared.ensures at (c.in_ok-text.ensures.text accepted.doc))

@@ -9,28 +9,28 @@ use Rattle.dbp_top.proofs.MeantTables.{meant}
 use Rattle.dbp_top.proofs.answer.simulation_text.Goals as goal
 
 pub returns-in-Err-clause-stop : goal.returns-in-Err-clause-stop
-returns-in-Err-clause-stop c = λ input accepted. c.stop_of.ensures input c.args.record_it accepted
+returns-in-Err-clause-stop c = λ input accepted. c.stop_of.ensures input c.args.record_it (rw (sym c.deref.ensures) at accepted)
 
 pub print_script-requires : goal.print_script-requires
 print_script-requires c =
-    let leads = record_leads c.args.plan.now c.in-Ok.run'.script c.in-Ok.ensures.script in
-    all_there c.args.plan.now Ranked c.in-Ok.run'.script leads.0 leads.1
+    let leads = record_leads c.args.shared.now.value c.in-Ok.run'.script c.in-Ok.ensures.script in
+    rw c.deref.ensures (all_there c.args.shared.now.value Ranked c.in-Ok.run'.script leads.0 leads.1)
 
 pub returns-in_ok-print_script-in-Ok-clause-text : goal.returns-in_ok-print_script-in-Ok-clause-text
 returns-in_ok-print_script-in-Ok-clause-text c = λ doc.
-    rw c.if-record_it.true (subst (λ (text : List ℕ). PlanText doc c.args.plan.now (Sim true) text) (sym c.in_ok-print_script-in-Ok.ensures) (record_of c.in-Ok.run'.script c.in-Ok.ensures.script))
+    rw c.if-record_it.true (subst (λ (text : List ℕ). PlanText doc c.args.shared.now.value (Sim true) text) (sym (rw c.deref.ensures at c.in_ok-print_script-in-Ok.ensures)) (record_of c.in-Ok.run'.script c.in-Ok.ensures.script))
 
 pub lines-requires : goal.lines-requires
 lines-requires c =
-    let p = c.args.plan.now in
-    let table = c.in-Ok-simulate_table.table in
-    has_rows p.diagram.tasks p.batches table (meant p table c.in-Ok-simulate_table.ensures.meant).rows
+    let p = c.args.shared.now.value in
+    let table = c.in-Ok-simulate_table_shared.table in
+    rw c.deref.ensures (has_rows p.diagram.tasks p.batches table (meant p table c.in-Ok-simulate_table_shared.ensures.meant).rows)
 
-pub returns-in_ok-lines-in-Ok-simulate_table-clause-text : goal.returns-in_ok-lines-in-Ok-simulate_table-clause-text
-returns-in_ok-lines-in-Ok-simulate_table-clause-text c = λ doc.
-    let table = c.in-Ok-simulate_table.table in
-    rw c.if-record_it.false (subst (λ (text : List ℕ). PlanText doc c.args.plan.now (Sim false) text) (sym c.in_ok-lines-in-Ok-simulate_table.ensures)
-    (simulation table c.in-Ok-simulate_table.ensures.in_time (meant c.args.plan.now table c.in-Ok-simulate_table.ensures.meant)))
+pub returns-in_ok-lines-in-Ok-simulate_table_shared-clause-text : goal.returns-in_ok-lines-in-Ok-simulate_table_shared-clause-text
+returns-in_ok-lines-in-Ok-simulate_table_shared-clause-text c = λ doc.
+    let table = c.in-Ok-simulate_table_shared.table in
+    rw c.if-record_it.false (subst (λ (text : List ℕ). PlanText doc c.args.shared.now.value (Sim false) text) (sym (rw c.deref.ensures at c.in_ok-lines-in-Ok-simulate_table_shared.ensures))
+    (simulation table c.in-Ok-simulate_table_shared.ensures.in_time (meant c.args.shared.now.value table c.in-Ok-simulate_table_shared.ensures.meant)))
 
-pub returns-in-Err-simulate_table-clause-stop : goal.returns-in-Err-simulate_table-clause-stop
-returns-in-Err-simulate_table-clause-stop c = λ input accepted. c.stop_of-in-Err-simulate_table.ensures input c.args.record_it accepted
+pub returns-in-Err-simulate_table_shared-clause-stop : goal.returns-in-Err-simulate_table_shared-clause-stop
+returns-in-Err-simulate_table_shared-clause-stop c = λ input accepted. c.stop_of-in-Err-simulate_table_shared.ensures input c.args.record_it (rw (sym c.deref.ensures) at accepted)
