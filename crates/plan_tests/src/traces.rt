@@ -1,22 +1,16 @@
 // The records of trace sections, and what they give to the inputs a and b and to the events e and f.
 
-ghost use Rattle.std.specs.Prelude.{◌≡◌, ◌≤◌, length, map};
 ghost use Rattle.dia_read.specs.Printable.{IsPrintable};
-ghost use Rattle.trace_rows.specs.Cells.{time_of};
-ghost use Rattle.csv.specs.Records.{fields_of};
-ghost use Rattle.trace_rows.specs.declared.rows.TheConstants.{MAX_ROWS};
 
 use csv::ByteRecord;
-use dbp_plan::{Input, Name, Sample};
+use dbp_plan::{Input, List, Name, Sample};
 use dia_read::Doc;
 use std::alloc::Global;
 use std::process::Abort;
 use std::str::from_utf8;
 use std::test::Fail;
 use test_inputs::doc_in;
-use trace_rows::{
-    Kind, RowValues, TraceCode, TraceFail, event_times, is_header, kinds, records, row_values,
-};
+use trace_rows::{Kind, RowValues, TraceCode, TraceFail, is_header, kinds, records, row_values};
 
 // The records that the trace section of a document has.
 fn records_of(alloc: Global, doc: &Doc) -> Result<Vec<ByteRecord>, Fail>
@@ -194,7 +188,8 @@ fn said_by(
     if inputs.len() > 16 || rows.len() > numbers.len() {
         return Err(Fail::new("too much"));
     }
-    Ok(row_values(alloc, until, &inputs, &header, &rows, numbers))
+    let events = events(alloc, &["e", "f"])?;
+    Ok(row_values(alloc, until, &inputs, &events, &header, &rows, numbers))
 }
 
 const VALUE_AND_MARK: &str = "time,a,e";
@@ -217,18 +212,7 @@ fn rows_have_times_or_a_fault_at_a_line(rt: HostRuntime) -> Result<(), Fail> {
 }
 
 // Compares what the rows give to the events e and f.
-fn compare_events(
-    rt: &impl Abort,
-    alloc: Global,
-    header: &ByteRecord,
-    times: &[u64],
-    rows: &[ByteRecord],
-) -> Result<(), Fail>
-    requires times { times.now ≡ map time_of (map fields_of rows.now) }
-    requires few { length rows.now ≤ MAX_ROWS }
-{
-    let events = events(alloc, &["e", "f"])?;
-    let found = event_times(alloc, &events, header, times, rows)?;
+fn compare_events(rt: &impl Abort, found: &[List<u64>]) -> Result<(), Fail> {
     assert_eq!(rt; found.len(), 2);
     assert_eq!(rt; found[0].items(), [2, 6].as_slice());
     assert_eq!(rt; found[1].items(), [].as_slice());
@@ -260,12 +244,13 @@ fn compare_given(
     rows: &[ByteRecord],
 ) -> Result<(), Fail> {
     let inputs = inputs(alloc, &["a", "b"])?;
+    let events = events(alloc, &["e", "f"])?;
     if inputs.len() > 16 || rows.len() > 3 {
         return Err(Fail::new("too much"));
     }
-    let said = row_values(alloc, 9, &inputs, header, rows, &[4, 5, 6])?;
+    let said = row_values(alloc, 9, &inputs, &events, header, rows, &[4, 5, 6])?;
     assert_eq!(rt; said.samples.items(), GIVEN);
-    compare_events(rt, alloc, header, said.times.items(), rows)
+    compare_events(rt, &said.events)
 }
 
 #[test]
@@ -331,6 +316,25 @@ fn cells_that_no_document_has_are_checked(rt: HostRuntime) -> Result<(), Fail> {
     for (until, header, lines, want) in &ROWS {
         let found = fault(rt.alloc(), *until, *header, *lines)?;
         assert_eq!(rt; found, *want);
+    }
+    Ok(())
+}
+
+// Codes as a refusal prints them after the number of its line.
+static CODES: [(TraceCode, &str); 7] = [
+    (TraceCode::BadHeader, "20 BadHeader"),
+    (TraceCode::BadRow, "21 BadRow"),
+    (TraceCode::BadCell, "22 BadCell"),
+    (TraceCode::TimeNotRising, "23 TimeNotRising"),
+    (TraceCode::TimePastEnd, "24 TimePastEnd"),
+    (TraceCode::TooManyOccurrences, "25 TooManyOccurrences"),
+    (TraceCode::TooManyRows, "26 TooManyRows"),
+];
+
+#[test]
+fn codes_are_shown_with_number_and_name(rt: HostRuntime) -> Result<(), Fail> {
+    for (code, want) in &CODES {
+        assert_eq!(rt; format!(in rt.alloc(); "{code}")?.as_str(), *want);
     }
     Ok(())
 }
