@@ -119,6 +119,7 @@ gap-short edge t = space (is_apart edge t)
   where
     one : List ℕ
     one = 32 ∷ []
+
     space : (apart : Bool) → length (cond apart one []) ≤ 1
     space true = omega arith
     space false = omega arith
