@@ -1,6 +1,7 @@
 // The tasks of a generated document.
 
-ghost use Rattle.std.specs.Prelude.{◌≡◌, ◌+◌, ◌<◌, ◌≤◌, IfOk, OnOk};
+ghost use Rattle.std.specs.Prelude.{◌≡◌, ◌+◌, ◌<◌, ◌≤◌, codes, pos, IfOk, OnOk};
+ghost use Rattle.dia_lines.specs.declared.item.Part.TheVariants.{Out};
 ghost use Rattle.dbp_load.specs.Bodies.{body_of_task, early_count, generated_task, generated_tasks};
 ghost use Rattle.dbp_load.specs.Draws.{after_draws};
 
@@ -8,11 +9,18 @@ use crate::draws::draw;
 use crate::expressions::{next_value, out_value};
 use crate::names::{name, task_name};
 use crate::reads::{names_of_reads, push_early_reads, push_late_read};
-use dbp_plan::{List, NoMemory};
+use dbp_plan::{Expr, List, Name, NoMemory};
 use dia_read::{Part, RawClock, RawTask};
 use rand_core::SeedableRng;
 use rand_xoshiro::SplitMix64;
 use std::alloc::Global;
+
+/// The out of the task with the number.
+fn out_part(number: u32, value: Expr<Name>) -> Part
+    ensures { result ≡ Out (codes "y") (pos number) value }
+{
+    Part::Out(name(b"y"), i64::from(number), value)
+}
 
 /// The body of the task with the number.
 fn body_of_task(
@@ -29,14 +37,13 @@ fn body_of_task(
     let reads = names_of_reads(alloc, size, number)?;
     let value = out_value(alloc, reads.items())?;
     let next = next_value(alloc)?;
-    let first = i64::from(number);
     let mut parts = List::new(alloc);
     parts.push(Part::State(name(b"s"), 0))?;
     parts.push(Part::Sense(name(b"g0"), name(b"g")))?;
     push_early_reads(&mut parts, draws, number)?;
     push_late_read(&mut parts, draws, size, number)?;
     parts.push(Part::Next(name(b"s"), next))?;
-    parts.push(Part::Out(name(b"y"), first, value))?;
+    parts.push(out_part(number, value))?;
     Ok(parts)
 }
 

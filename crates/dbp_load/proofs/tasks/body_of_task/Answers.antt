@@ -100,14 +100,14 @@ returns-clause-parts c =
     let drawn_read : late_read size c.push_early_reads.new.draws n 0 ≡ late_read size start n early =
     ap (λ (d : ℕ). late_read size d n 0) c.in_ok-push_early_reads.ensures.draws in
     let next = Next c.name-4.result c.in_ok-next.next in
-    let last = Out c.name-5.result c.from-first.result c.in_ok-value.value in
+    let last = c.out_part.result in
     let read = late_reads late (late_read size c.push_early_reads.new.draws n 0) in
     c.in_ok-push-4.ensures.ok
     ∙ ap (λ (ps : List Part). ps ++ last ∷ []) c.in_ok-push-3.ensures.ok
     ∙ ap (λ (ps : List Part). (ps ++ next ∷ []) ++ last ∷ []) c.in_ok-push_late_read.ensures.parts
     ∙ ap (λ (ps : List Part). ((ps ++ read) ++ next ∷ []) ++ last ∷ []) c.in_ok-push_early_reads.ensures.parts
     ∙ ap (λ (ps : List Part). (((ps ++ reads) ++ read) ++ next ∷ []) ++ last ∷ []) two
-    ∙ (λ j. (((first ++ reads) ++ late_reads late (drawn_read j)) ++ Next (c.name-4.ensures j) (c.in_ok-next.ensures j) ∷ []) ++ Out (c.name-5.ensures j) (c.from-first.ensures j) (value j) ∷ [])
+    ∙ (λ j. (((first ++ reads) ++ late_reads late (drawn_read j)) ++ Next (c.name-4.ensures j) (c.in_ok-next.ensures j) ∷ []) ++ (c.out_part.ensures ∙ ap (Out (codes "y") (pos n)) value) j ∷ [])
     ∙ joined first reads (late_reads late (late_read size start n early)) (Next (codes "s") next_expr) (Out (codes "y") (pos n) out)
 
 pub returns-clause-draws : goal.returns-clause-draws
