@@ -4,14 +4,12 @@ use dbp_load::generate;
 use std::alloc::Global;
 use std::test::Fail;
 
-static DOCUMENTS: [(u64, u32, &[u8]); 3] = [
-    (5, 1, SMALLEST),
-    (0, 1, SMALLEST),
-    (5, 3, THREE_TASKS),
-];
-
-// No word that is drawn has an effect on it.
-static SMALLEST: &[u8] = b"dbp 1
+// Of the first one no word that is drawn has an effect.
+static DOCUMENTS: [(u64, u32, &[u8]); 2] = [
+    (
+        5,
+        1,
+        b"dbp 1
 policy fp
 until 500
 input g = 1
@@ -33,9 +31,12 @@ time,g
 400,296
 450,333
 done
-";
-
-static THREE_TASKS: &[u8] = b"dbp 1
+",
+    ),
+    (
+        5,
+        3,
+        b"dbp 1
 policy fp
 until 1500
 input g = 1
@@ -72,7 +73,9 @@ time,g
 1200,296
 1350,333
 done
-";
+",
+    ),
+];
 
 fn text_of(alloc: Global, seed: u64, size: u32) -> Result<Vec<u8>, Fail> {
     if size < 1 || size > 32 {
