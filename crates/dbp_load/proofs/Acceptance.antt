@@ -1,17 +1,15 @@
 -- A generated document is accepted.
-use Rattle.std.proofs.Common.{◌≡◌, ℕ, ◌+◌, ◌-◌, ◌*◌, ◌<◌, ◌≤◌, true, All, List, [], ◌∷◌, ◌++◌, length, map, take, drop, Some, None, refl, sym, ap, ◌∙◌, subst, arith}
-use Rattle.std.specs.Prelude.{codes, nat_lt, sum_by, slice_get}
-use Rattle.std.specs.List.{flat_map}
+use Rattle.std.proofs.Common.{◌≡◌, ℕ, ◌+◌, ◌-◌, ◌*◌, ◌≤◌, All, [], ◌∷◌, ◌++◌, map, take, drop, Some, None, refl, sym, ap, ◌∙◌, subst, arith}
+use Rattle.std.specs.Prelude.{codes, sum_by, slice_get}
 use Rattle.std.proofs.lemmas.Bool.{ltb-true}
 use Rattle.dbp_plan.specs.declared.diagram.Diagram.{Diagram}
 use Rattle.dbp_plan.specs.declared.diagram.Task.{Task}
 use Rattle.dbp_plan.specs.declared.limits.TheConstants.{MAX_OCCURRENCES}
 use Rattle.dbp_plan.specs.declared.plan.Plan.{Plan}
-use Rattle.dbp_plan.specs.Closed.{IsClosed}
 use Rattle.dbp_plan.specs.FirstFault.{first_fault}
 use Rattle.dbp_plan.specs.Ranked.{IsRanked}
 use Rattle.dbp_plan.proofs.FirstFaults.{first-append}
-use Rattle.dia_read.specs.Canonical.{canonical_text, SpellsBody}
+use Rattle.dia_read.specs.Canonical.{canonical_text}
 use Rattle.dia_read.specs.Documents.{Spells}
 use Rattle.dia_read.specs.Printable.{HasItemLines}
 use Rattle.dia_read.specs.declared.document.Body.{Body}
@@ -24,25 +22,24 @@ use Rattle.dia_lines.specs.declared.item.RawClock.TheVariants as raw_clock
 use Rattle.dia_check.specs.Faults.{decl_fault, line_faults, task_faults, HasNoShapeFault, IsWhole}
 use Rattle.dbp_plan.specs.FirstFault.{faults_behind}
 use Rattle.dia_check.specs.RankFaults.{ranked_diagram, HasNoRankFault}
-use Rattle.dia_check.specs.Shapes.{read_lines_of, HasLines, IsShapeOf}
+use Rattle.dia_check.specs.Shapes.{read_lines_of, IsShapeOf}
 use Rattle.dia_check.specs.declared.shaped.Shaped.{Shaped}
 use Rattle.dia_check.proofs.Closedness.{closed}
 use Rattle.dia_check.proofs.RankLaws.{is-ranked}
 use Rattle.dia_check.proofs.ReadLines.{lines-of-shape}
 use Rattle.trace_rows.specs.Written.{CanWrite, written_cells}
-use Rattle.dia_check.specs.Names.{env_names, task_names}
-use Rattle.dbp_plan.proofs.NameLaws.{among_append}
+use Rattle.dia_check.specs.Names.{env_names}
 use Rattle.trace_rows.specs.Values.{event_times, samples_of}
 use Rattle.trace_rows.specs.Headers.{kind_of_column}
 use Rattle.trace_rows.proofs.WrittenRows.{each-row, header-is, rows-faultless}
 use Rattle.trace_rows.proofs.WrittenText.{section-records}
 use Rattle.trace_io.specs.Batches.{IsClockOf, count_of, total_of}
 use Rattle.trace_io.specs.Texts.{Accepts}
-use Rattle.trace_io.specs.Traces.{clocks_of, events_of, columns_of, rows_of, IsPlanOf, IsTraceOf}
+use Rattle.trace_io.specs.Traces.{clocks_of, events_of, columns_of, rows_of, IsTraceOf}
 use Rattle.trace_io.proofs.Plans.{clocks_fit, plan_from}
 use Rattle.trace_io.proofs.Timetables.{events-count, named-samples, rising-samples, timetable}
 use Rattle.trace_io.proofs.TraceFaults.{columns-are, no-fault, rows-are, whole-section}
-use Rattle.dbp_load.specs.Bodies.{early_count, few_early, generated, has_late, task_name, trace_row, trace_text, words_before}
+use Rattle.dbp_load.specs.Bodies.{early_count, few_early, generated, has_late, trace_row, trace_text, words_before}
 use Rattle.dbp_load.specs.Draws.{after_draw, after_draws, drawn}
 use Rattle.dbp_load.specs.Listed.{listed}
 use Rattle.dbp_load.proofs.FaultlessLines.{fine-faults, tasks-fine, IsFineTask}
@@ -157,11 +154,13 @@ module _ (seed size : ℕ) (some : 1 ≤ size) (few : size ≤ 32) where
           samples = samples;
           batches = batches;
           rules = plan_from diagram events samples batches ranked made (rising-samples doc diagram events samples trace prints items) (named-samples doc diagram events samples trace);
-        } in
-        (plan, record {
-          doc = doc;
-          diagram = diagram;
-          spelled = spelled;
-          checked = checked;
-          planned = record { faultless = no-fault doc diagram trace.faultless few-occurrences; diagram = refl; samples = refl; batches = made };
-        })
+        } in (
+          plan,
+          record {
+            doc = doc;
+            diagram = diagram;
+            spelled = spelled;
+            checked = checked;
+            planned = record { faultless = no-fault doc diagram trace.faultless few-occurrences; diagram = refl; samples = refl; batches = made };
+          },
+        )

@@ -1,5 +1,5 @@
 -- What is drawn.
-use Rattle.std.proofs.Common.{◌≡◌, ℕ, zero, suc, ◌+◌, ◌<◌, refl, sym, ap, ◌∙◌, arith}
+use Rattle.std.proofs.Common.{◌≡◌, ℕ, zero, suc, ◌+◌, ◌<◌, sym, ap, ◌∙◌, arith}
 use Rattle.rand_xoshiro.specs.SplitMix64.{mix_u64}
 use Rattle.std.proofs.Math.Nat.{mod-lt}
 use Rattle.dbp_load.specs.Draws.{drawn, after_draw, after_draws}

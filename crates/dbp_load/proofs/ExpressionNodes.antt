@@ -1,9 +1,8 @@
 -- Expressions that are known by their trees.
-use Rattle.std.proofs.Common.{◌≡◌, ℕ, ◌+◌, List, [], ◌∷◌, ◌++◌, length, refl, sym, ap, ◌∙◌}
+use Rattle.std.proofs.Common.{◌≡◌, ℕ, List, [], ◌∷◌, ◌++◌, length, refl, sym, ap, ◌∙◌}
 use Rattle.std.specs.Prelude.{fold}
 use Rattle.dbp_plan.specs.declared.expr.Expr.{Expr}
 use Rattle.dbp_plan.specs.declared.node.BinOp.{BinOp}
-use Rattle.dbp_plan.specs.declared.node.Node.{Node}
 use Rattle.dbp_plan.specs.contracts.name.Name as name
 use Rattle.dbp_plan.specs.contracts.node.Node as node
 use Rattle.dbp_plan.specs.Expr.{IsExprOf, tree_of, same_expr}

@@ -1,6 +1,6 @@
 -- A generated document can be printed.
-use Rattle.std.proofs.Common.{◌≡◌, ℕ, pos, ◌+◌, ◌*◌, ◌<◌, ◌≤◌, true, All, List, [], ◌∷◌, length, map, refl, arith}
-use Rattle.std.specs.Prelude.{codes, count_by, sum_by, nat_lt}
+use Rattle.std.proofs.Common.{ℕ, pos, ◌+◌, ◌*◌, ◌<◌, ◌≤◌, [], map, arith}
+use Rattle.std.specs.Prelude.{codes, count_by}
 use Rattle.std.proofs.lemmas.Bool.{ltb-true}
 use Rattle.dia_lines.specs.declared.item.Decl.TheVariants.{Input}
 use Rattle.dia_lines.specs.Lines.{SaysInTrace, row}
@@ -9,8 +9,8 @@ use Rattle.dia_read.specs.Printable.{is_read_part, IsPrintable, IsPrintableDecl,
 use Rattle.trace_rows.specs.Headers.{kind_of_column}
 use Rattle.trace_rows.proofs.WrittenRows.{each-row}
 use Rattle.trace_rows.proofs.WrittenText.{section-kept}
-use Rattle.dbp_load.specs.Bodies.{early_count, few_early, generated, generated_task, generated_tasks, has_late, trace_row, trace_text, words_before}
-use Rattle.dbp_load.specs.Draws.{after_draw, after_draws, drawn}
+use Rattle.dbp_load.specs.Bodies.{early_count, few_early, generated, generated_task, has_late, trace_row, trace_text, words_before}
+use Rattle.dbp_load.specs.Draws.{after_draw, after_draws}
 use Rattle.dbp_load.specs.Listed.{listed}
 use Rattle.dbp_load.proofs.DrawLaws.{drawn-below}
 use Rattle.dbp_load.proofs.GeneratedParts.{few-lines, parts-print}
@@ -47,7 +47,7 @@ printable seed size some few =
     let draws : ℕ → ℕ = λ i. after_draws (words_before i) seed in
     let task : ℕ → RawTask = λ i. generated_task size (draws i) i in
     let reads = sum-listed task (λ (t : RawTask). count_by is_read_part t.parts) 4 size (λ i inside.
-        (few-lines size (after_draw (draws i)) i (early_count i) (has_late size i) (few_early i)).reads) in
+    (few-lines size (after_draw (draws i)) i (early_count i) (has_late size i) (few_early i)).reads) in
     record {
       until = omega arith;
       decls = only-one IsPrintableDecl (Input (codes "g") (pos 1)) (g-prints, omega arith);

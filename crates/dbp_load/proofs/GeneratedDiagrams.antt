@@ -1,47 +1,41 @@
 -- The diagram of a generated document, and its ranks.
-use Rattle.std.proofs.Common.{◌≡◌, ◌≢◌, ℕ, zero, suc, ◌+◌, ◌-◌, ◌<◌, ◌≤◌, Bool, true, false, All, List, [], ◌∷◌, ◌++◌, length, map, get_or, slice_get, Option, Some, None, refl, sym, ap, ◌∙◌, subst, inl, inr, arith}
+use Rattle.std.proofs.Common.{◌≡◌, ℕ, suc, ◌+◌, ◌-◌, ◌<◌, ◌≤◌, Bool, true, false, All, List, [], ◌∷◌, length, map, slice_get, Some, None, refl, sym, ap, ◌∙◌, subst, arith}
 use Rattle.std.specs.Prelude.{codes, nat_lt, slice_index}
-use Rattle.std.specs.List.{flat_map, list_any}
-use Rattle.std.specs.Option.{option_and_then}
+use Rattle.std.specs.List.{flat_map}
 use Rattle.std.specs.Str.{bytes_eq}
-use Rattle.std.proofs.lemmas.Bool.{both_ways, lt-ltb, le-leb}
+use Rattle.std.proofs.lemmas.Bool.{lt-ltb}
 use Rattle.std.proofs.lemmas.Bool.Decides.{nat_tests}
-use Rattle.std.proofs.lemmas.List.{get_or_default}
 use Rattle.std.proofs.lemmas.List.Elements.{All-append, All-from_recursion}
-use Rattle.std.proofs.lemmas.Option.{get_or_from_slice_get, none-some, slice_get_within}
+use Rattle.std.proofs.lemmas.Option.{get_or_from_slice_get, none-some}
 use Rattle.dbp_plan.specs.NameLists.{index_of, is_among}
 use Rattle.dbp_plan.specs.Places.{all_place}
-use Rattle.dbp_plan.specs.FirstFault.{faults_behind, first_fault}
 use Rattle.dbp_plan.specs.declared.diagram.Diagram.{Diagram}
-use Rattle.dbp_plan.specs.declared.diagram.Let.{Let}
 use Rattle.dbp_plan.specs.declared.diagram.Link.{Link}
 use Rattle.dbp_plan.specs.declared.diagram.Policy.TheVariants.{Fp}
 use Rattle.dbp_plan.specs.declared.diagram.Task.{Task}
-use Rattle.dbp_plan.specs.Ranks.{is_above, rank_among, ranks_of}
+use Rattle.dbp_plan.specs.Ranks.{is_above, ranks_of}
 use Rattle.dbp_plan.specs.Closed.{let_base}
 use Rattle.dbp_plan.proofs.NameLaws.{index-below, name-at-index}
 use Rattle.dbp_plan.proofs.RankLaws.{above-fewer, rank-index}
 use Rattle.dia_read.specs.declared.document.Body.{Body}
-use Rattle.dia_read.specs.declared.document.Doc.{Doc}
 use Rattle.dia_read.specs.declared.document.RawTask.{RawTask}
 use Rattle.expr_eval.specs.LetOrders.{IsFrontOrder, IsCycle}
-use Rattle.dia_check.specs.Diagrams.{firsts, link_of, links_of, links_used, lets_of, task_of, input_of, IsTaskOf, IsDiagramOf}
+use Rattle.dia_check.specs.Diagrams.{link_of, links_of, links_used, lets_of, task_of, input_of, IsTaskOf, IsDiagramOf}
 use Rattle.dia_check.specs.Faults.{IsWhole, base_of}
 use Rattle.dia_check.specs.Names.{env_names, event_name, out_name, task_names}
-use Rattle.dia_check.specs.RankFaults.{link_rank_fault, read_rank_fault, rank_faults, task_rank_fault, HasNoRankFault}
+use Rattle.dia_check.specs.RankFaults.{link_rank_fault, read_rank_fault, task_rank_fault, HasNoRankFault}
 use Rattle.dia_check.specs.declared.shaped.ReadLine.{ReadLine}
-use Rattle.dia_check.specs.declared.shaped.Shaped.{Shaped}
 use Rattle.dia_check.proofs.LinkLists.{all-firsts}
 use Rattle.dia_check.proofs.RankLaws.{no-rank-fault}
 use Rattle.dia_check.proofs.TaskParts.{first-there}
-use Rattle.dbp_load.specs.Bodies.{parts_of, task_name, early_count, early_read, late_read, generated_task, has_late, few_early, body_of_task}
+use Rattle.dbp_load.specs.Bodies.{parts_of, task_name, early_count, generated_task, has_late, few_early}
 use Rattle.dbp_load.specs.Draws.{after_draw, drawn, after_draws}
 use Rattle.dbp_load.specs.Listed.{listed}
 use Rattle.dbp_load.proofs.DrawLaws.{drawn-below}
 use Rattle.dbp_load.proofs.FaultlessLines.{each-fine, map-fine, then-fine}
 use Rattle.dbp_load.proofs.GeneratedParts.{by-reads}
 use Rattle.dbp_load.proofs.GeneratedShapes.{lets-none, outs-are}
-use Rattle.dbp_load.proofs.GeneratedNames.{task_at, all_tasks}
+use Rattle.dbp_load.proofs.GeneratedNames.{task_at}
 use Rattle.dbp_load.proofs.ListedItems.{length-listed, listed-at, listed-item, map-listed, some-listed}
 use Rattle.dbp_load.proofs.NameTexts.{one-task, same-task}
 
@@ -98,7 +92,6 @@ one-task-of body i u raw t none is_raw is_t =
     }
 
 pub is-diagram : (body : Body) (tasks : ℕ → RawTask) (size : ℕ) → body.tasks ≡ listed tasks size → ((i : ℕ) → lets_of (tasks i) ≡ []) → IsDiagramOf body (diagram_of body tasks size)
-
 is-diagram body tasks size are none = record {
   policy = refl;
   until = refl;
@@ -123,12 +116,12 @@ all-used P tasks number (t ∷ ts) each =
     All-append P (flat_map (link_of tasks number) t.parts) (links_used tasks (number + 1) ts)
     (subst (λ n. All P (flat_map (link_of tasks n) t.parts)) here (each 0 t refl))
     (all-used P tasks (number + 1) ts (λ i u at.
-        let later : number + suc i ≡ number + 1 + i = omega arith in
-        subst (λ n. All P (flat_map (link_of tasks n) u.parts)) later (each (suc i) u at)))
+    let later : number + suc i ≡ number + 1 + i = omega arith in
+    subst (λ n. All P (flat_map (link_of tasks n) u.parts)) later (each (suc i) u at)))
 
 module _ (P : Link → Type 0) (tasks : List RawTask) (size draws i : ℕ) (inside : i < size)
-  (early_link : (writer : ℕ) → writer < i → P (record { writer = index_of (task_names tasks) (task_name writer); reader = i; delay = 0 }))
-  (late_link : (writer : ℕ) → P (record { writer = index_of (task_names tasks) (task_name writer); reader = i; delay = 1 })) where
+    (early_link : (writer : ℕ) → writer < i → P (record { writer = index_of (task_names tasks) (task_name writer); reader = i; delay = 0 }))
+    (late_link : (writer : ℕ) → P (record { writer = index_of (task_names tasks) (task_name writer); reader = i; delay = 1 })) where
   early : (j : ℕ) → 0 < i → P (record { writer = index_of (task_names tasks) (task_name (drawn i (after_draws j draws))); reader = i; delay = 0 })
   early j some = early_link (drawn i (after_draws j draws)) (drawn-below i (after_draws j draws) some)
 
@@ -195,19 +188,18 @@ module _ (body : Body) (draws : ℕ → ℕ) (size : ℕ) (few_tasks : size ≤ 
       let P : Link → Type 0 = λ l. link_rank_fault ranks l ≡ None in
       all-firsts P (links_used body.tasks 0 body.tasks)
       (all-used P body.tasks 0 body.tasks (λ i t at_t.
-          let is = listed-item at size i t (ap (λ ts. slice_get ts i) (sym are) ∙ at_t) in
-          let number : i ≡ 0 + i = omega arith in
-          subst (λ n. All P (flat_map (link_of body.tasks n) t.parts)) number
-          (subst (λ u. All P (flat_map (link_of body.tasks i) u.parts)) (sym is.1)
-          (linked P body.tasks size (after_draw (draws i)) i is.0 (early-link i is.0) (late-link i) (early_count i) (has_late size i) (few_early i) (omega arith)))))
+      let is = listed-item at size i t (ap (λ ts. slice_get ts i) (sym are) ∙ at_t) in
+      let number : i ≡ 0 + i = omega arith in
+      subst (λ n. All P (flat_map (link_of body.tasks n) t.parts)) number
+      (subst (λ u. All P (flat_map (link_of body.tasks i) u.parts)) (sym is.1)
+      (linked P body.tasks size (after_draw (draws i)) i is.0 (early-link i is.0) (late-link i) (early_count i) (has_late size i) (few_early i) (omega arith)))))
 
   pub no-rank-faults : (task_lines : List ℕ) (read_lines : List ReadLine) → HasNoRankFault (record { diagram = diagram; task_lines = task_lines; read_lines = read_lines })
-
   no-rank-faults task_lines read_lines =
       no-rank-fault (record { diagram = diagram; task_lines = task_lines; read_lines = read_lines })
       (sym (each-fine (task_rank_fault body.policy) [] (listed (λ i. task_of body i (at i) []) size) task_lines (λ i t at_t.
-          let is = listed-item (λ k. task_of body k (at k) []) size i t at_t in
-          subst (λ p. task_rank_fault p t ≡ None) (sym policy) (subst (λ u. task_rank_fault Fp u ≡ None) (sym is.1) refl))))
+      let is = listed-item (λ k. task_of body k (at k) []) size i t at_t in
+      subst (λ p. task_rank_fault p t ≡ None) (sym policy) (subst (λ u. task_rank_fault Fp u ≡ None) (sym is.1) refl))))
       (sym (map-fine (λ (r : ReadLine). r.line) (read_rank_fault (ranks_of body.policy (listed (λ i. task_of body i (at i) []) size)) (links_of body.tasks)) read_lines (λ r.
-          rw policy (then-fine (link_rank_fault ranks) (slice_get (links_of body.tasks) r.link) (λ l at_l.
-              all_place (λ m. link_rank_fault ranks m ≡ None) (links_of body.tasks) r.link l all-links at_l)))))
+      rw policy (then-fine (link_rank_fault ranks) (slice_get (links_of body.tasks) r.link) (λ l at_l.
+      all_place (λ m. link_rank_fault ranks m ≡ None) (links_of body.tasks) r.link l all-links at_l)))))

@@ -1,20 +1,17 @@
 -- No line of a generated document has a fault of names.
-use Rattle.std.proofs.Common.{◌≡◌, ◌≢◌, ℕ, zero, suc, ◌+◌, ◌-◌, ◌<◌, ◌≤◌, Bool, true, false, List, [], ◌∷◌, ◌++◌, pos, length, map, take, slice_get, Option, Some, None, refl, sym, ap, ◌∙◌, subst, arith}
-use Rattle.std.specs.Prelude.{◌||◌, find, codes, nat_lt}
+use Rattle.std.proofs.Common.{◌≡◌, ◌≢◌, ℕ, ◌+◌, ◌-◌, ◌<◌, ◌≤◌, Bool, true, false, List, [], ◌∷◌, pos, Option, Some, None, refl, sym, ap, ◌∙◌, arith}
+use Rattle.std.specs.Prelude.{find, codes}
 use Rattle.std.specs.List.{flat_map}
 use Rattle.std.specs.Str.{bytes_eq}
 use Rattle.std.proofs.lemmas.Option.{none-some, same_Some}
 use Rattle.dbp_plan.specs.NameLists.{is_among}
-use Rattle.dbp_plan.proofs.NameLaws.{among_append}
-use Rattle.dia_lines.specs.declared.item.Decl.{Decl}
-use Rattle.dia_lines.specs.declared.item.Decl.TheVariants.{Input}
 use Rattle.dia_lines.specs.declared.item.Part.{Part}
 use Rattle.dia_lines.specs.declared.item.Part.TheVariants.{State, Sense}
 use Rattle.dia_lines.specs.declared.item.RawClock.{RawClock}
 use Rattle.dia_read.specs.declared.document.Body.{Body}
 use Rattle.dia_read.specs.declared.document.RawTask.{RawTask}
-use Rattle.dia_check.specs.Faults.{task_fault, part_fault}
-use Rattle.dia_check.specs.Names.{declared_name, decl_name, input_name, out_name, port_names, task_names}
+use Rattle.dia_check.specs.Faults.{part_fault}
+use Rattle.dia_check.specs.Names.{declared_name, input_name, out_name, port_names, task_names}
 use Rattle.dbp_load.specs.Bodies.{parts_of, read_of, read_name, task_name, early_count, early_read, few_early, has_late, late_read, generated_task}
 use Rattle.dbp_load.specs.Draws.{after_draw, drawn, after_draws}
 use Rattle.dbp_load.specs.Listed.{listed}
@@ -65,7 +62,7 @@ module _ (draws : ℕ → ℕ) (size : ℕ) (few_tasks : size ≤ 32) where
 -- ---- the lines of a body
 
 module _ (body : Body) (size : ℕ) (inputs : flat_map input_name body.decls ≡ codes "g" ∷ []) (known : (i : ℕ) → i < size → port_names body.tasks (task_name i) ≡ codes "y" ∷ [])
-  (draws i : ℕ) (clock : RawClock) (prio : Option ℕ) (few_tasks : size ≤ 32) (inside : i < size) where
+    (draws i : ℕ) (clock : RawClock) (prio : Option ℕ) (few_tasks : size ≤ 32) (inside : i < size) where
   abbrev task : (early : ℕ) → Bool → early ≤ 3 → RawTask
   task early late few = task_with size draws i clock prio early late few
 

@@ -1,9 +1,8 @@
 -- The trace of a generated document.
-use Rattle.std.proofs.Common.{◌≡◌, ℕ, ℤ, pos, zero, suc, ◌+◌, ◌-◌, ◌*◌, ◌/◌, ◌<◌, ◌≤◌, true, false, All, List, [], ◌∷◌, length, map, Some, None, refl, sym, ap, ◌∙◌, subst, inl, inr, arith, w64}
-use Rattle.std.specs.Prelude.{codes, nat_le, sum_by, if◌then◌else◌}
+use Rattle.std.proofs.Common.{ℕ, pos, ◌*◌, ◌<◌, ◌≤◌, List, [], ◌∷◌, map, refl, sym, subst, arith}
+use Rattle.std.specs.Prelude.{codes}
 use Rattle.std.specs.List.Sorted.{IsStrictlyIncreasing}
 use Rattle.std.proofs.Math.Nat.{mul-le-mul_left}
-use mir.Val.{SFits}
 use Rattle.dbp_plan.specs.Name.{IsName}
 use Rattle.dbp_plan.specs.declared.diagram.Input.{Input}
 use Rattle.trace_rows.specs.Headers.{kind_of_column}

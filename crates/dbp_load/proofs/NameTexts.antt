@@ -1,6 +1,6 @@
 -- The names of generated documents are names, and no reserved words.
-use Rattle.std.proofs.Common.{◌≡◌, ◌≢◌, ℕ, zero, suc, ◌+◌, ◌/◌, ◌%◌, ◌<◌, ◌≤◌, ◌^◌, true, false, All, List, [], ◌∷◌, ◌++◌, length, get_or, refl, sym, ap, ◌∙◌, subst, inl, inr, arith}
-use Rattle.std.specs.Prelude.{◌==◌, not, nat_le, IsTrue, codes, decimal}
+use Rattle.std.proofs.Common.{◌≡◌, ◌≢◌, ℕ, ◌+◌, ◌/◌, ◌%◌, ◌<◌, ◌≤◌, true, false, All, List, [], ◌∷◌, ◌++◌, length, get_or, refl, sym, ap, ◌∙◌, subst, inl, inr, arith}
+use Rattle.std.specs.Prelude.{◌==◌, not, IsTrue, codes, decimal}
 use Rattle.std.specs.Char.{is_ascii_digit}
 use Rattle.std.specs.Str.{bytes_eq}
 use Rattle.std.proofs.lemmas.Bool.{cases_Bool, cases_lt, le-leb, ne_eqb}
@@ -34,10 +34,10 @@ digits : (n : ℕ) → n < 100 → AreDigits (decimal n)
 digits n small = elim (cases_lt n 10) [
   | inl less ↦ subst AreDigits (sym (one-digit n less)) (record { some = omega arith; few = omega arith; each = only-one IsDigit (48 + n % 10) (omega arith, omega arith) })
   | inr more ↦ subst AreDigits (sym (two-digits n more small)) (record {
-      some = omega arith;
-      few = omega arith;
-      each = All-cons IsDigit (48 + n / 10) ((48 + n % 10) ∷ []) (omega arith, omega arith) (only-one IsDigit (48 + n % 10) (omega arith, omega arith));
-    })
+    some = omega arith;
+    few = omega arith;
+    each = All-cons IsDigit (48 + n / 10) ((48 + n % 10) ∷ []) (omega arith, omega arith) (only-one IsDigit (48 + n % 10) (omega arith, omega arith));
+  })
 ]
 
 -- ---- names of a letter and a number

@@ -1,7 +1,6 @@
 -- Clocks that don't occur too often have batches.
-use Rattle.std.proofs.Common.{◌≡◌, ◌≢◌, ℕ, zero, suc, ◌+◌, ◌*◌, ◌<◌, ◌≤◌, Bool, true, false, All, List, [], ◌∷◌, ◌++◌, length, replicate, get_or, set, sum, Option, Some, None, refl, sym, ap, ◌∙◌, subst, inl, inr, arith}
-use Rattle.std.specs.Prelude.{IfSome, nat_lt, slice_get, sum_by}
-use Rattle.std.specs.List.Sorted.{IsStrictlyIncreasing}
+use Rattle.std.proofs.Common.{◌≡◌, ℕ, zero, suc, ◌+◌, ◌*◌, ◌<◌, ◌≤◌, All, List, [], ◌∷◌, ◌++◌, length, replicate, get_or, set, Option, Some, None, refl, sym, ap, ◌∙◌, subst, inl, inr, arith}
+use Rattle.std.specs.Prelude.{IfSome, nat_lt, sum_by}
 use Rattle.std.proofs.lemmas.Bool.{cases_Bool, cases_lt, ltb-true}
 use Rattle.std.proofs.lemmas.List.{get_or_default}
 use Rattle.std.proofs.lemmas.Option.{cond_some, none-some, same_Some}
@@ -50,26 +49,43 @@ module _ (until : ℕ) (events : List (List ℕ)) (clocks : List Clock) (table :
 
     -- one clock more has no next occurrence
     least-pass : (n : ℕ) → n < length clocks → next n anyone ≡ None → Least n → Least (n + 1)
-    least-pass n inside none (None, before) = (None, λ i d below. elim (cases_lt i n) [
-      | inl less ↦ before i d less
-      | inr over ↦ let same : i ≡ n = omega arith in subst (λ k. next k d ≡ None) (sym same) (same-next n d inside ∙ none)
-    ])
-    least-pass n inside none (Some least, before) = (Some least, (before.0, (before.1.0, omega (arith, before.1.1), before.1.2), λ i d below. elim (cases_lt i n) [
-      | inl less ↦ before.2 i d less
-      | inr over ↦
-          let same : i ≡ n = omega arith in
-          subst (λ k. IfSome (next k d) (λ t. least ≤ t)) (sym same) (if-some (next n d) (λ t. least ≤ t) (λ t at. absurd (none-some t (sym none ∙ sym (same-next n d inside) ∙ at))))
-    ]))
+    least-pass n inside none (None, before) = (
+      None,
+      λ i d below. elim (cases_lt i n) [
+        | inl less ↦ before i d less
+        | inr over ↦ let same : i ≡ n = omega arith in subst (λ k. next k d ≡ None) (sym same) (same-next n d inside ∙ none)
+      ],
+    )
+    least-pass n inside none (Some least, before) = (
+      Some least,
+      (
+        before.0,
+        (before.1.0, omega (arith, before.1.1), before.1.2),
+        λ i d below. elim (cases_lt i n) [
+          | inl less ↦ before.2 i d less
+          | inr over ↦
+              let same : i ≡ n = omega arith in
+              subst (λ k. IfSome (next k d) (λ t. least ≤ t)) (sym same) (if-some (next n d) (λ t. least ≤ t) (λ t at. absurd (none-some t (sym none ∙ sym (same-next n d inside) ∙ at))))
+        ],
+      ),
+    )
 
     -- its next occurrence is the least
     least-here : (n t : ℕ) → n < length clocks → next n anyone ≡ Some t → ((i : ℕ) (d : Clock) → i < n → IfSome (next i d) (λ u. t ≤ u)) → Least (n + 1)
-    least-here n t inside at before = (Some t, (next-ends n t inside at, (n, omega arith, λ d. same-next n d inside ∙ at), λ i d below. elim (cases_lt i n) [
-      | inl less ↦ before i d less
-      | inr over ↦
-          let same : i ≡ n = omega arith in
-          subst (λ k. IfSome (next k d) (λ u. t ≤ u)) (sym same)
-          (if-some (next n d) (λ u. t ≤ u) (λ u here. let same_time : t ≡ u = same_Some t u (sym at ∙ sym (same-next n d inside) ∙ here) in omega (arith, same_time)))
-    ]))
+    least-here n t inside at before = (
+      Some t,
+      (
+        next-ends n t inside at,
+        (n, omega arith, λ d. same-next n d inside ∙ at),
+        λ i d below. elim (cases_lt i n) [
+          | inl less ↦ before i d less
+          | inr over ↦
+              let same : i ≡ n = omega arith in
+              subst (λ k. IfSome (next k d) (λ u. t ≤ u)) (sym same)
+              (if-some (next n d) (λ u. t ≤ u) (λ u here. let same_time : t ≡ u = same_Some t u (sym at ∙ sym (same-next n d inside) ∙ here) in omega (arith, same_time)))
+        ],
+      ),
+    )
 
     weaker : (o : Option ℕ) (low high : ℕ) → low ≤ high → IfSome o (λ u. high ≤ u) → IfSome o (λ u. low ≤ u)
     weaker None low high less is = tt
@@ -84,13 +100,20 @@ module _ (until : ℕ) (events : List (List ℕ)) (clocks : List Clock) (table :
     least-more n inside (Some t) at (None, before) = least-here n t inside at (λ i d less. none-at (next i d) t (before i d less))
     least-more n inside (Some t) at (Some least, before) = elim (cases_lt t least) [
       | inl less ↦ least-here n t inside at (λ i d below. weaker (next i d) t least (omega arith) (before.2 i d below))
-      | inr over ↦ (Some least, (before.0, (before.1.0, omega (arith, before.1.1), before.1.2), λ i d below. elim (cases_lt i n) [
-          | inl less ↦ before.2 i d less
-          | inr past ↦
-              let same : i ≡ n = omega arith in
-              subst (λ k. IfSome (next k d) (λ u. least ≤ u)) (sym same)
-              (if-some (next n d) (λ u. least ≤ u) (λ u here. let same_time : t ≡ u = same_Some t u (sym at ∙ sym (same-next n d inside) ∙ here) in omega (arith, same_time, over)))
-        ]))
+      | inr over ↦ (
+        Some least,
+        (
+          before.0,
+          (before.1.0, omega (arith, before.1.1), before.1.2),
+          λ i d below. elim (cases_lt i n) [
+            | inl less ↦ before.2 i d less
+            | inr past ↦
+                let same : i ≡ n = omega arith in
+                subst (λ k. IfSome (next k d) (λ u. least ≤ u)) (sym same)
+                (if-some (next n d) (λ u. least ≤ u) (λ u here. let same_time : t ≡ u = same_Some t u (sym at ∙ sym (same-next n d inside) ∙ here) in omega (arith, same_time, over)))
+          ],
+        ),
+      )
     ]
 
     least-of : (n : ℕ) → n ≤ length clocks → Least n
@@ -151,8 +174,8 @@ module _ (until : ℕ) (events : List (List ℕ)) (clocks : List Clock) (table :
     goes zero taken made merged room = one-batch taken made merged (λ time more tasks past inside next. absurd (omega (arith, past, inside, room))) (least-of taken (length clocks) (omega arith))
     goes (suc steps) taken made merged room =
         one-batch taken made merged (λ time more tasks past inside next.
-            goes steps more (made ++ record { time = time; tasks = tasks } ∷ []) next
-            (omega (arith, after-push made (record { time = time; tasks = tasks }) past, past, room)))
+        goes steps more (made ++ record { time = time; tasks = tasks } ∷ []) next
+        (omega (arith, after-push made (record { time = time; tasks = tasks }) past, past, room)))
         (least-of taken (length clocks) (omega arith))
 
     pub some-batches : Batches

@@ -12,6 +12,6 @@ pub returns : goal.returns
 returns c =
     IfOk-weaker c.binary.result (λ e. IsExprOf e (binary Add (tree_of c.in_ok-state.state) (tree_of c.in_ok-one.one))) (λ e. e ≡ next_expr)
     (λ e is. same-nodes e next_expr (
-        binary-known e c.in_ok-state.state c.in_ok-one.one Add (variable c.name.result) (number (pos 1)) is c.in_ok-state.ensures c.in_ok-one.ensures
-        ∙ λ j. nodes_of 0 (binary Add (variable (c.name.ensures j)) (number (pos 1)))))
+    binary-known e c.in_ok-state.state c.in_ok-one.one Add (variable c.name.result) (number (pos 1)) is c.in_ok-state.ensures c.in_ok-one.ensures
+    ∙ λ j. nodes_of 0 (binary Add (variable (c.name.ensures j)) (number (pos 1)))))
     c.binary.ensures

@@ -1,4 +1,4 @@
-use Rattle.std.proofs.Common.{◌≡◌, ◌+◌, ◌≤◌, List, [], ◌∷◌, ◌++◌, ℕ, take, length, arith, sym, ap, ◌∙◌}
+use Rattle.std.proofs.Common.{◌≡◌, ◌+◌, List, [], ◌∷◌, ◌++◌, ℕ, take, arith, sym, ap, ◌∙◌}
 use Rattle.std.specs.Prelude.{fold, pos}
 use Rattle.std.proofs.lemmas.List.{length-take, take_all}
 use Rattle.std.proofs.lemmas.Result.{IfOk-weaker}
@@ -39,5 +39,5 @@ returns c =
     let all : front ≡ reads = take_all c.loop-read.read-index reads (omega arith) in
     IfOk-weaker c.binary-2.result (λ e. IsExprOf e (binary Rem (tree_of c.loop-read.sum) (tree_of c.in_ok-thousand.thousand))) (λ e. IsExprOf e (out_tree reads))
     (λ e is. binary-known e c.loop-read.sum c.in_ok-thousand.thousand Rem (fold with_read first_sum front) (number (pos 1000)) is c.loop-read.invariant c.in_ok-thousand.ensures
-        ∙ ap (λ (rs : List (List ℕ)). nodes_of 0 (out_tree rs)) all)
+    ∙ ap (λ (rs : List (List ℕ)). nodes_of 0 (out_tree rs)) all)
     c.binary-2.ensures

@@ -1,4 +1,4 @@
-use Rattle.std.proofs.Common.{◌≡◌, ◌∷◌, ap, sym, ◌∙◌}
+use Rattle.std.proofs.Common.{◌∷◌, ap, sym, ◌∙◌}
 use Rattle.dbp_load.proofs.NameTexts.{one-digit, two-digits}
 use Rattle.dbp_load.proofs.names.numbered.Goals as goal
 

@@ -1,6 +1,6 @@
-use Rattle.std.proofs.Common.{◌≡◌, ◌++◌, ◌∷◌, [], ap, sym, ◌∙◌, arith, length}
+use Rattle.std.proofs.Common.{ap, arith, length}
 use Rattle.dbp_load.specs.Bodies.{read_name}
-use Rattle.dbp_load.proofs.ListedItems.{length-listed, listed-more}
+use Rattle.dbp_load.proofs.ListedItems.{length-listed}
 use Rattle.dbp_load.proofs.reads.names_of_reads.Goals as goal
 
 pub push-requires : goal.push-requires

@@ -1,5 +1,5 @@
-use Rattle.std.proofs.Common.{◌≡◌, ◌++◌, ◌∷◌, [], ap, sym, ◌∙◌, arith, length}
-use Rattle.std.proofs.lemmas.List.{append_assoc, length-append}
+use Rattle.std.proofs.Common.{ap, arith, length}
+use Rattle.std.proofs.lemmas.List.{length-append}
 use Rattle.dbp_load.specs.Bodies.{early_read}
 use Rattle.dbp_load.specs.Listed.{listed}
 use Rattle.dbp_load.proofs.ListedItems.{length-listed}

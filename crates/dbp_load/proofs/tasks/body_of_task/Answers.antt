@@ -1,4 +1,4 @@
-use Rattle.std.proofs.Common.{◌≡◌, ℕ, ◌+◌, ◌++◌, ◌∷◌, [], List, length, ap, sym, ◌∙◌, arith}
+use Rattle.std.proofs.Common.{◌≡◌, ℕ, ◌++◌, ◌∷◌, [], List, length, ap, ◌∙◌, arith}
 use Rattle.std.specs.Prelude.{codes, pos}
 use Rattle.std.proofs.lemmas.List.{length-append}
 use Rattle.dia_lines.specs.declared.item.Part.{Part}
