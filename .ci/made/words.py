@@ -4,6 +4,8 @@ NO_COMMANDS = (
     "", "Mean", "forms", "mea", "sim --fast", "sim --record --record", "sim mean", "--record", "-h", "--help", "--form", "mean mean", "mean form", "mean --ranked", "replay ranked",
     "replay --ranked --ranked", "run 9", "run --turns", "run --turns=", "run --turns N", "run --turns -1", "run --turns +1", "run --turns 0x9", "run --turns 9 9",
     "run --turns= 9", "run --turns=9 9", "run --turns 18446744073709551616", "run --turns 000000000000000000009", "run --turns=99999999999999999999", "--turns 9", "mean --turns 9",
+    "gen", "soak", "gen -1", "gen +1", "gen 18446744073709551616", "gen 1 0", "gen 1 33", "gen 1 -1", "gen 1 +1", "gen 1 8 8", "gen 1 000000000000000000008", "gen x", "gen 1 x",
+    "soak -1", "soak 18446744073709551616", "soak 1 0", "soak 1 33", "soak 1 8 8", "gen --seed 1", "soak 1 --turns 1",
 )
 
 

@@ -1,10 +1,12 @@
 -- A command has one status and one text at most for an input.
 use Rattle.std.proofs.Common.{◌≡◌, ℕ, List, true, refl, ap, subst, ◌∙◌}
+use Rattle.std.specs.Prelude.{codes}
 use Rattle.std.proofs.lemmas.Bool.{false≢true}
 use Rattle.dbp_rules.specs.declared.step.Step.{Step}
 use Rattle.dbp_plan.specs.declared.plan.Plan.{Plan}
 use Rattle.dbp_plan.specs.declared.table.Table.{Table}
 use Rattle.dbp_plan.specs.Lookups.{declared}
+use Rattle.dbp_load.specs.Texts.{generated_text}
 use Rattle.rank_order.specs.Ends.{IsOverrun}
 use Rattle.rank_order.specs.Instances.{Instance}
 use Rattle.rank_order.specs.Service.{left_of}
@@ -26,11 +28,13 @@ use Rattle.trace_io.specs.declared.code.Code.{Code}
 use Rattle.trace_io.specs.declared.code.Code.TheVariants.{Reading, Checking, Tracing}
 use Rattle.trace_io.specs.Lines.{lines_of}
 use Rattle.trace_io.specs.Texts.{Accepts, Refuses, IsSameCode}
-use Rattle.dbp_top.specs.Answer.{Answers, IsInTime, IsOverrunLine, IsRefused, Makes, Overruns, PlanOverrun, PlanRefusal, PlanText, canonical, count_of, illegal, line_of, made, meaning, needs_plan, no_plan, no_script, no_text, of_plan, of_plan_overrun, of_plan_refused, overran, overrun, record_of, refused, replay, run_of, simulation, slots}
-use Rattle.dbp_top.specs.OverrunLines.{overrun_line}
+use Rattle.dbp_top.specs.Answer.{Answers, IsInTime, IsOverrunLine, IsRefused, Makes, Overruns, PlanOverrun, PlanRefusal, PlanText, canonical, count_of, illegal, line_of, made, meaning, needs_plan, no_plan, no_script, no_text, of_generated, of_plan, of_plan_overrun, of_plan_refused, of_seed, overran, overrun, record_of, refused, replay, run_of, simulation, slots}
+use Rattle.dbp_top.specs.OverrunLines.{overrun_after, overrun_line}
 use Rattle.dbp_top.specs.Refusals.{code_text, refusal_line}
+use Rattle.dbp_top.specs.Summaries.{IsSimulationLine, IsSummary, of_table, summary}
+use Rattle.dbp_top.specs.Summaries as sim
 use Rattle.dbp_top.specs.declared.command.Command.{Command}
-use Rattle.dbp_top.specs.declared.command.Command.TheVariants.{Form}
+use Rattle.dbp_top.specs.declared.command.Command.TheVariants.{Form, Gen, Soak}
 use Rattle.dbp_top.specs.declared.refusal.Refusal.{Refusal}
 use Rattle.dbp_top.specs.declared.refusal.Refusal.TheVariants.{Document, Script, Illegal}
 use Rattle.dbp_top.specs.declared.status.Status.{Status}
@@ -124,6 +128,27 @@ not-refused-overrun : (doc : Doc) (p : Plan) (command : Command) (r : Refusal) (
 not-refused-overrun doc p command r x t (no_script ranked l c fault) late = elim late [ ]
 not-refused-overrun doc p command r x t (illegal ranked es k why script broken) late = elim late [ ]
 
+-- a plan's overrun stands in one line, after any words
+one-overrun-after : (words : List ℕ) (p : Plan) (x y : Instance) (t u : ℕ) → IsOverrun p (left_of p (service p)) t x → IsOverrun p (left_of p (service p)) u y
+    → overrun_after words (declared p x.task).name x.number t ≡ overrun_after words (declared p y.task).name y.number u
+one-overrun-after words p x y t u late again =
+    let times : t ≡ u = one_time p (left_of p (service p)) t u x y late again in
+    let same : x ≡ y = one_overrun p (left_of p (service p)) t u x y late again in
+    λ i. overrun_after words (declared p (same i).task).name (same i).number (times i)
+
+one-simulation-line : (p : Plan) (a b : List ℕ) → IsSimulationLine p a → IsSimulationLine p b → a ≡ b
+one-simulation-line p a b (sim.same none) (sim.same also) = refl
+one-simulation-line p a b (sim.same none) (sim.overran x t late) = absurd (in-time p t x none late)
+one-simulation-line p a b (sim.overran x t late) (sim.same none) = absurd (in-time p t x none late)
+one-simulation-line p a b (sim.overran x t late) (sim.overran y u again) = one-overrun-after (codes "sim overrun ") p x y t u late again
+
+one-summary : ((p : Plan) (y z : Table) → IsMeaning p.diagram p.samples p.batches y → IsMeaning p.diagram p.samples p.batches z → y ≡ z)
+    → (p : Plan) (a b : List ℕ) → IsSummary p a → IsSummary p b → a ≡ b
+one-summary one p a b (of_table y l is line) (of_table z m was also) =
+    let tables : y ≡ z = one p y z is was in
+    let lines : l ≡ m = one-simulation-line p l m line also in
+    λ i. summary p (tables i) (lines i)
+
 -- ---- what a command makes of an input
 
 module _
@@ -144,11 +169,23 @@ module _
     one-text input command text other (of_plan c p a x makes) (canonical e again) = absurd (false≢true (text-of-plan x.doc p Form text makes))
     one-text input command text other (of_plan c p a x here) (of_plan d q b y there) =
         one-plan-text one_meaning y.doc q command text other (same-accepted input p q x y (λ doc plan. PlanText doc plan command text) here) there
+    one-text input command text other (of_seed seed size) (of_seed seed' size') = refl
+    one-text input command text other (of_seed seed size) (of_plan c q b y makes) = absurd (false≢true (text-of-plan y.doc q (Gen seed size) other makes))
+    one-text input command text other (of_plan c p a x makes) (of_seed seed size) = absurd (false≢true (text-of-plan x.doc p (Gen seed size) text makes))
+    one-text input command text other (of_generated seed size p a accepted is) (of_generated seed' size' q b again was) =
+        let plans : p ≡ q = one_plan (generated_text seed' size') p q accepted again in
+        one-summary one_meaning q a b (subst (λ (r : Plan). IsSummary r a) plans is) was
+    one-text input command text other (of_generated seed size p a accepted is) (of_plan c q b z makes) = absurd (false≢true (text-of-plan z.doc q (Soak seed size) other makes))
+    one-text input command text other (of_plan c p a x makes) (of_generated seed size q b accepted is) = absurd (false≢true (text-of-plan x.doc p (Soak seed size) text makes))
 
     no-refusal : (input : List ℕ) (command : Command) (text : List ℕ) (r : Refusal) → Makes input command text → IsRefused input command r → ⊥
     no-refusal input command text r (canonical d spelled) (no_text l c fault) = no-fault-of-a-document input d l c spelled fault
     no-refusal input command text r (canonical d spelled) (no_plan e l c checks fault) = false≢true checks
     no-refusal input command text r (canonical d spelled) (of_plan_refused e q s y refuses) = false≢true (refusal-of-plan y.doc q Form r refuses)
+    no-refusal input command text r (of_seed seed size) (no_plan e l c checks fault) = false≢true checks
+    no-refusal input command text r (of_seed seed size) (of_plan_refused e q s y refuses) = false≢true (refusal-of-plan y.doc q (Gen seed size) r refuses)
+    no-refusal input command text r (of_generated seed size p a accepted is) (no_plan e k c checks fault) = false≢true checks
+    no-refusal input command text r (of_generated seed size p a accepted is) (of_plan_refused e q s z refuses) = false≢true (refusal-of-plan z.doc q (Soak seed size) r refuses)
     no-refusal input command text r (of_plan e p a x makes) (no_text l c fault) = false≢true (text-of-plan x.doc p Form text makes)
     no-refusal input command text r (of_plan e p a x makes) (no_plan f l c checks fault) = no_fault input p l c x fault
     no-refusal input command text r (of_plan e p a x makes) (of_plan_refused f q s y refuses) =
@@ -172,10 +209,7 @@ module _
 
     one-overrun-line : (p : Plan) (command : Command) (x y : Instance) (t u : ℕ) → PlanOverrun p command x t → PlanOverrun p command y u
         → overrun_line (declared p x.task).name x.number t ≡ overrun_line (declared p y.task).name y.number u
-    one-overrun-line p command x y t u (overrun record_it a b late) (overrun record_it' c d again) =
-        let times : t ≡ u = one_time p (left_of p (service p)) t u x y late again in
-        let same : x ≡ y = one_overrun p (left_of p (service p)) t u x y late again in
-        λ i. overrun_line (declared p (same i).task).name (same i).number (times i)
+    one-overrun-line p command x y t u (overrun record_it a b late) (overrun record_it' c d again) = one-overrun-after (codes "overrun: ") p x y t u late again
 
     one-overrun-of : (input : List ℕ) (command : Command) (a b : List ℕ) (m n t u : ℕ) → Overruns input command a m t → Overruns input command b n u → overrun_line a m t ≡ overrun_line b n u
     one-overrun-of input command a b m n t u (of_plan_overrun p x v accepted late) (of_plan_overrun q y w also again) =
@@ -188,6 +222,8 @@ module _
 
     text-or-overrun : (input : List ℕ) (command : Command) (text name : List ℕ) (n t : ℕ) → Makes input command text → Overruns input command name n t → ⊥
     text-or-overrun input command text name n t (canonical d spelled) (of_plan_overrun q y w also again) = false≢true (overrun-of-plan q Form y t again)
+    text-or-overrun input command text name n t (of_seed seed size) (of_plan_overrun q y w also again) = false≢true (overrun-of-plan q (Gen seed size) y t again)
+    text-or-overrun input command text name n t (of_generated seed size p a accepted is) (of_plan_overrun q y w also again) = false≢true (overrun-of-plan q (Soak seed size) y t again)
     text-or-overrun input command text name n t (of_plan c p a accepted makes) (of_plan_overrun q y w also again) =
         no-plan-overrun accepted.doc p command text y t makes (subst (λ (r : Plan). PlanOverrun r command y t) (one_plan input q p also accepted) again)
 

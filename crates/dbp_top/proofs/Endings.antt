@@ -5,8 +5,8 @@ use Rattle.std.proofs.lemmas.List.{append-nil}
 use Rattle.std.specs.Io.KnownBytes.{Appends, Consumes, IsAtEnd}
 use Rattle.dbp_plan.specs.Faults.{Rose}
 use Rattle.dbp_top.specs.Answer.{Answers, made, overran, refused}
-use Rattle.dbp_top.specs.Commands.{Names}
-use Rattle.dbp_top.specs.Ends.{Answered, Ends, EndsAs, WroteWhole, no_command, no_memory, overrun, refusal, text, too_large, whole}
+use Rattle.dbp_top.specs.Commands.{Names, reads_input}
+use Rattle.dbp_top.specs.Ends.{Answered, Ends, EndsAs, ReadWhole, WhereRead, WroteWhole, no_command, no_memory, overrun, refusal, text, too_large, whole}
 use Rattle.dbp_top.specs.declared.command.Command.{Command}
 use Rattle.dbp_top.specs.declared.status.Status.{Status}
 use Rattle.dbp_top.specs.declared.status.Status.TheVariants.{Ok, Overrun, Refused, Usage, ReadFault, WriteFault, NoMemory, TooLarge}
@@ -18,6 +18,10 @@ whole-input None new bytes P consumes end holds = tt
 whole-input (Some xs) (Some ys) bytes P consumes end holds = subst P (sym (consumes ∙ ap (λ (l : List ℕ). bytes ++ l) end ∙ append-nil bytes)) holds
 whole-input (Some xs) None bytes P consumes end holds = absurd consumes
 
+-- of a command that reads, and of one that doesn't
+pub where-read : (command : Command) (A B : Type 0) → reads_input command ≡ true → A → WhereRead (reads_input command) A B
+where-read command A B reads holds = subst (λ (r : Bool). WhereRead r A B) (sym reads) holds
+
 module _ {S K : Type 0} (left : S → Option (List ℕ)) (source_faults : S → ℕ) (written : K → Option (List ℕ)) (sink_faults : K → ℕ) where
   ends-whole : (command : Command) (source new_source : S) (sink new_sink : K) (input output : List ℕ) (status : Status) → Answers input command status output
       → WroteWhole left source_faults written sink_faults source new_source sink new_sink command status → EndsAs left source_faults written sink_faults command source new_source sink new_sink status
@@ -26,19 +30,20 @@ module _ {S K : Type 0} (left : S → Option (List ℕ)) (source_faults : S → 
   ends-whole command s t k l input written_text status (overran line is) wrote = wrote
 
   -- a call that read its input to the end, and wrote its answer whole, ends as its command's
-  pub ends-written : (command : Command) (source new_source : S) (sink new_sink : K) (input output : List ℕ) (status : Status)
+  pub ends-written : (command : Command) (source new_source : S) (sink new_sink : K) (input output : List ℕ) (status : Status) → reads_input command ≡ true
       → (length input ≤ MAX_DOCUMENT) × Consumes (left source) (left new_source) input → IsAtEnd (left new_source) × (source_faults new_source ≡ source_faults source)
       → Answers input command status output → Appends (written sink) (written new_sink) output × (sink_faults new_sink ≡ sink_faults sink)
       → EndsAs left source_faults written sink_faults command source new_source sink new_sink status
-  ends-written command source new_source sink new_sink input output status bytes end answered wrote =
+  ends-written command source new_source sink new_sink input output status reads bytes end answered wrote =
       ends-whole command source new_source sink new_sink input output status answered (record {
-        read = record {
+        read = where-read command (ReadWhole left source_faults written sink_faults source new_source) (new_source ≡ source) reads (record {
           end = end.0;
           taken = (input, bytes.1, bytes.0);
           fits = whole-input _ _ input (λ l. length l ≤ MAX_DOCUMENT) bytes.1 end.0 bytes.0;
           no_fault = end.1;
-        };
-        wrote = whole-input _ _ input (λ l. (x : List ℕ) × Answers l command status x × Appends (written sink) (written new_sink) x) bytes.1 end.0 (output, answered, wrote.0);
+        });
+        wrote = where-read command _ _ reads
+            (whole-input _ _ input (λ l. (x : List ℕ) × Answers l command status x × Appends (written sink) (written new_sink) x) bytes.1 end.0 (output, answered, wrote.0));
         no_fault = wrote.1;
       })
 

@@ -1,7 +1,9 @@
 pub mod CommandRows
 pub mod CrewRuns
 pub mod Endings
+pub mod GeneratedPlans
 pub mod MeantTables
+pub mod NamedSizes
 pub mod AnswerLaws
 pub mod StopLaws
 pub mod Streams

@@ -7,6 +7,7 @@ use Rattle.dbp_rules.specs.declared.step.Step.{Step}
 use Rattle.dbp_plan.specs.Lookups.{declared}
 use Rattle.dbp_plan.specs.declared.plan.Plan.{Plan}
 use Rattle.dbp_plan.specs.declared.table.Table.{Table}
+use Rattle.dbp_load.specs.Texts.{generated_text}
 use Rattle.dbp_replay.specs.Replays.{IsIllegal, IsReplay}
 use Rattle.dbp_replay.specs.Scripts.{IsScript, IsScriptFault}
 use Rattle.dbp_replay.specs.Texts.{script_text}
@@ -26,7 +27,7 @@ use Rattle.trace_io.specs.Lines.{lines_of}
 use Rattle.trace_io.specs.Texts.{Accepts, Refuses}
 use Rattle.virtual_sim.specs.Record.{IsRecord}
 use Rattle.dbp_top.specs.declared.command.Command.{Command}
-use Rattle.dbp_top.specs.declared.command.Command.TheVariants.{Mean, Form, Plan as Slots, Replay, Run, Sim}
+use Rattle.dbp_top.specs.declared.command.Command.TheVariants.{Gen, Mean, Form, Plan as Slots, Replay, Run, Sim, Soak}
 use Rattle.dbp_top.specs.declared.refusal.Refusal.{Refusal}
 use Rattle.dbp_top.specs.declared.refusal.Refusal.TheVariants.{Document, Script, Illegal}
 use Rattle.dbp_top.specs.declared.status.Status.{Status}
@@ -34,6 +35,7 @@ use Rattle.dbp_top.specs.declared.status.Status.TheVariants.{Ok, Overrun, Refuse
 use Rattle.dbp_top.specs.OverrunLines.{overrun_line}
 use Rattle.dbp_top.specs.Refusals.{refusal_line}
 use Rattle.dbp_top.specs.SlotLines.{slot_lines}
+use Rattle.dbp_top.specs.Summaries.{IsSummary}
 
 -- by which slots and in which order steps are taken
 abbrev pub count_of : Bool → Count
@@ -72,17 +74,22 @@ pub data PlanOverrun (plan : Plan) : Command → Instance → ℕ → Type 0 whe
   overrun : (record_it : Bool) (x : Instance) (time : ℕ) → IsOverrun plan (left_of plan (service plan)) time x
       → PlanOverrun plan (Sim record_it) x time
 
--- whether the command checks the whole document; `form` reads it alone
+-- whether the command checks the whole document; `form` reads it alone, and some read none
 abbrev pub needs_plan : Command → Bool
 needs_plan Form = false
+needs_plan (Gen seed size) = false
+needs_plan (Soak seed size) = false
 needs_plan _ = true
 
--- the text that a command makes of an input: for `form` the canonical text of its document, for all others what they make
--- of the plan of an accepted input
+-- the text that a command makes of an input: for `form` the canonical text of its document, for those that read none the
+-- generated document or its summary, for all others what they make of the plan of an accepted input
 pub data Makes (input : List ℕ) : Command → List ℕ → Type 0 where
   canonical : (doc : Doc) → Spells input doc → Makes input Form (canonical_text doc.body)
   of_plan : (command : Command) (plan : Plan) (text : List ℕ) (accepted : Accepts input plan)
       → PlanText accepted.doc plan command text → Makes input command text
+  of_seed : (seed size : ℕ) → Makes input (Gen seed size) (generated_text seed size)
+  of_generated : (seed size : ℕ) (plan : Plan) (text : List ℕ) → Accepts (generated_text seed size) plan → IsSummary plan text
+      → Makes input (Soak seed size) text
 
 -- why a command refuses an input: for `form` a fault of reading, for all others the first fault of the document, and of an
 -- accepted one what the command itself refuses

@@ -4,10 +4,10 @@ use Rattle.std.specs.List.{flat_map}
 use Rattle.std.specs.declared.alloc.Global.{Global}
 use Rattle.std.specs.declared.string.String.{String}
 use Rattle.dbp_top.specs.declared.command.Command.{Command}
-use Rattle.dbp_top.specs.declared.command.Command.TheVariants.{Mean, Form, Plan, Replay, Run, Sim}
+use Rattle.dbp_top.specs.declared.command.Command.TheVariants.{Gen, Mean, Form, Plan, Replay, Run, Sim, Soak}
 use Rattle.dbp_top.specs.declared.command.Numbers.{Numbers}
 use Rattle.dbp_top.specs.declared.table.Row.{Row}
-use Rattle.dbp_top.specs.Patterns.{AllFit, WordForm, form_of, listed_forms, number, word}
+use Rattle.dbp_top.specs.Patterns.{AllFit, WordForm, form_of, listed_forms, number, size, word}
 
 -- the forms of a command's words, and the command; the numbers of the words take the place of those that it has
 abbrev pub CommandRow : Type 0
@@ -26,11 +26,17 @@ command_table =
     ∷ (word (codes "plan") ∷ [], Plan)
     ∷ (word (codes "replay") ∷ [], Replay false)
     ∷ (word (codes "replay") ∷ word (codes "--ranked") ∷ [], Replay true)
+    ∷ (word (codes "gen") ∷ number [] ∷ [], Gen 0 8)
+    ∷ (word (codes "gen") ∷ number [] ∷ size ∷ [], Gen 0 8)
+    ∷ (word (codes "soak") ∷ number [] ∷ [], Soak 0 8)
+    ∷ (word (codes "soak") ∷ number [] ∷ size ∷ [], Soak 0 8)
     ∷ []
 
 -- the command with these numbers in the place of its own
 abbrev pub with_numbers : Command → Numbers → Command
 with_numbers (Run (Some turns)) given = Run (Some given.number)
+with_numbers (Gen seed size_of) given = Gen given.number given.size
+with_numbers (Soak seed size_of) given = Soak given.number given.size
 with_numbers command given = command
 
 -- what is given before the first word: a size that isn't said is 8
@@ -52,8 +58,10 @@ pub data Names (words : List (String Global)) : Command → Type 0 where
 
 -- ---- what is asked of a command
 
--- whether it reads the input
+-- whether it reads the input: not if it makes its document by itself
 abbrev pub reads_input : Command → Bool
+reads_input (Gen seed size_of) = false
+reads_input (Soak seed size_of) = false
 reads_input _ = true
 
 -- who runs the tasks: nobody, the crew at hand, or the crew of drawn turns, which draws from this number
@@ -65,6 +73,7 @@ pub data Runner : Type 0 where
 abbrev pub runner_of : Command → Runner
 runner_of (Run None) = the_crew
 runner_of (Run (Some seed)) = drawn_turns seed
+runner_of (Soak seed size_of) = the_crew
 runner_of _ = nobody
 
 -- whether a call that has these crews serves it: the whole program serves each command, and a call without crews those
@@ -74,6 +83,7 @@ serves_all _ = true
 
 abbrev pub serves_plain : Command → Bool
 serves_plain (Run turns) = false
+serves_plain (Soak seed size_of) = false
 serves_plain _ = true
 
 -- the words name no command that the call serves

@@ -9,3 +9,4 @@ pub mod Refusals
 pub mod Runs
 pub mod SlotLines
 pub mod Stops
+pub mod Summaries

@@ -3,6 +3,7 @@ use Rattle.std.specs.Prelude.{◌≡◌, ◌⊎◌, ℕ, List, [], ◌∷◌, �
 use Rattle.std.specs.declared.alloc.Global.{Global}
 use Rattle.std.specs.declared.string.String.{String}
 use Rattle.dbp_plan.specs.declared.plan.Plan.{Plan}
+use Rattle.dbp_load.specs.Texts.{generated_text}
 use Rattle.party_exec.specs.Crews.{seed_of, turn_runs}
 use Rattle.party_exec.specs.Entries.{entry_of}
 use Rattle.party_exec.specs.declared.crew_entry.CrewEntry.{CrewEntry}
@@ -11,6 +12,7 @@ use Rattle.trace_io.specs.declared.code.Code.{Code}
 use Rattle.trace_io.specs.Texts.{Accepts, Refuses}
 use Rattle.dbp_top.specs.Commands.{Names, Runner, drawn_turns, nobody, runner_of, the_crew}
 use Rattle.dbp_top.specs.declared.command.Command.{Command}
+use Rattle.dbp_top.specs.declared.command.Command.TheVariants.{Soak}
 use Rattle.dbp_top.specs.Stops.{status_of_stop}
 use Rattle.dbp_top.specs.declared.status.Status.{Status}
 use Rattle.dbp_top.specs.declared.status.Status.TheVariants.{Ok, Overrun, Refused, Usage, ReadFault, WriteFault, NoMemory, TooLarge}
@@ -39,6 +41,11 @@ RunsAfter WriteFault input old new = HasRefusedInput input old new ⊎ HasRunInp
 RunsAfter NoMemory input old new = (new ≡ old) ⊎ HasRunInput input old new
 RunsAfter TooLarge input old new = new ≡ old
 
+-- the text whose plan a command runs: the generated one, or the input
+abbrev pub text_to_run : Command → Option (List ℕ) → Option (List ℕ)
+text_to_run (Soak seed size) input = Some (generated_text seed size)
+text_to_run command input = input
+
 module _ {C : Type 0} (runs : C → List CrewEntry) where
   -- both crews after a call with this runner: a crew that doesn't run is as before; drawn turns begin at the command's number
   abbrev pub CrewsAfter : Runner → Status → Option (List ℕ) → C → C → TurnCrew → TurnCrew → Type 0
@@ -49,7 +56,7 @@ module _ {C : Type 0} (runs : C → List CrewEntry) where
 
   -- both crews after a call with these words
   pub record Crews (words : List (String Global)) (status : Status) (input : Option (List ℕ)) (crew new_crew : C) (turns new_turns : TurnCrew) : Type 0 where
-    pub named : (command : Command) → Names words command → CrewsAfter (runner_of command) status input crew new_crew turns new_turns
+    pub named : (command : Command) → Names words command → CrewsAfter (runner_of command) status (text_to_run command input) crew new_crew turns new_turns
     pub unnamed : ((command : Command) → Names words command → ⊥) → (new_crew ≡ crew) × (new_turns ≡ turns)
 
 -- one run of the plan was made, or memory ran out before or after it

@@ -6,14 +6,14 @@ ghost use Rattle.trace_io.specs.Texts.{Accepts};
 ghost use Rattle.virtual_sim.specs.Outcomes.{IsSimFail};
 ghost use Rattle.dia_read.specs.declared.document.Doc.{Doc as Document};
 ghost use Rattle.dbp_top.specs.Answer.{Answers, Makes, PlanText, count_of};
-ghost use Rattle.dbp_top.specs.Commands.{serves_plain};
+ghost use Rattle.dbp_top.specs.Commands.{reads_input, serves_plain};
 ghost use Rattle.dbp_top.specs.Stops.{IsStopOf, status_of_stop};
 ghost use Rattle.dbp_top.specs.declared.command.Command.{Command as Named};
 ghost use Rattle.dbp_top.specs.declared.command.Command.TheVariants.{Mean, Form, Plan as Slots, Replay, Sim};
 
 use crate::Status;
 use crate::command::Command;
-use crate::overrun_line::overrun_line;
+use crate::overrun_line::overrun_after;
 use crate::plan::{accepted, plan_of};
 use crate::refusal::refusal_line;
 use crate::slot_lines::slot_lines;
@@ -36,6 +36,7 @@ pub(crate) fn answer(
 ) -> Result<(Status, Vec<u8>), NoMemory>
     requires size { length input.now ≤ MAX_TEXT }
     requires plain { serves_plain command ≡ true }
+    requires reads { reads_input command ≡ true }
     ensures { IfOk result (λ (status, text). Answers input.now command status text.items) }
 {
     match text_of(alloc, command, input) {
@@ -60,13 +61,14 @@ pub(crate) fn stop_answer(alloc: Global, stop: Stop) -> Result<(Status, Vec<u8>)
 fn text_of(alloc: Global, command: Command, input: &[u8]) -> Result<Vec<u8>, Stop>
     requires size { length input.now ≤ MAX_TEXT }
     requires plain { serves_plain command ≡ true }
+    requires reads { reads_input command ≡ true }
     ensures text { IfOk result (λ text. Makes input.now command text.items) }
     ensures stop { IfErr result (λ stop. IsStopOf input.now command stop) }
 {
     match command {
         Command::Mean => meaning_of(alloc, input),
         Command::Sim { record_it } => simulation_of(alloc, record_it, input),
-        Command::Run { .. } => unreachable!(),
+        Command::Run { .. } | Command::Gen { .. } | Command::Soak { .. } => unreachable!(),
         Command::Form => form_of(alloc, input),
         Command::Plan => slots_of(alloc, input),
         Command::Replay { ranked } => replay_of(alloc, ranked, input),
@@ -134,7 +136,7 @@ fn stop_of(alloc: Global, plan: &Plan, fail: SimFail) -> Stop
             time,
         } => {
             let name = plan.diagram.tasks.items()[task as usize].name.bytes();
-            match overrun_line(alloc, name, instance, time) {
+            match overrun_after(alloc, b"overrun: ", name, instance, time) {
                 Ok(line) => Stop::Overrun(line),
                 Err(_) => Stop::NoMemory,
             }

@@ -1,23 +1,24 @@
-// The line that tells an overrun.
+// The lines of an overrun.
 
 ghost use Rattle.std.specs.Prelude.{◌≡◌, IfOk};
-ghost use Rattle.dbp_top.specs.OverrunLines.{overrun_line};
+ghost use Rattle.dbp_top.specs.OverrunLines.{overrun_after};
 
 use dbp_plan::NoMemory;
 use itoa::Buffer;
 use std::alloc::Global;
 
-/// The line `overrun: TASK N at T`. Instances are counted from 1, and times are ticks.
-pub(crate) fn overrun_line(
+/// These words, then `TASK N at T`. Instances are counted from 1, and times are ticks.
+pub(crate) fn overrun_after(
     alloc: Global,
+    words: &[u8],
     name: &[u8],
     instance: u32,
     time: u64,
 ) -> Result<Vec<u8>, NoMemory>
-    ensures { IfOk result (λ text. text.items ≡ overrun_line name.now instance time) }
+    ensures { IfOk result (λ text. text.items ≡ overrun_after words.now name.now instance time) }
 {
     let mut text = Vec::new(alloc);
-    text.extend_from_slice(b"overrun: ")?;
+    text.extend_from_slice(words)?;
     text.extend_from_slice(name)?;
     text.push(b' ')?;
     text.extend_from_slice(Buffer::new().format(instance).as_bytes())?;

@@ -58,8 +58,8 @@ fn run_text<R: Threads + Wait + Sync, C: Crew>(
     Ok(lines(alloc, &plan, &table)?)
 }
 
-// The table that the parties of the plan make. All memory of the run is taken before their first step.
-fn run_table<R: Threads + Wait + Sync, C: Crew>(
+/// The table that the parties of the plan make. All memory of the run is taken before their first step.
+pub(crate) fn run_table<R: Threads + Wait + Sync, C: Crew>(
     rt: &R,
     alloc: Global,
     plan: &Plan,

@@ -19,7 +19,7 @@ struct Row {
 
 // All commands. What a user is told of them is made of this table too. The numbers of a command's words stand in the
 // place of those that it has here.
-static ROWS: [Row; 10] = [
+static ROWS: [Row; 14] = [
     Row {
         patterns: &[Pattern::Word("mean")],
         command: Command::Mean,
@@ -64,6 +64,22 @@ static ROWS: [Row; 10] = [
         patterns: &[Pattern::Word("replay"), Pattern::Word("--ranked")],
         command: Command::Replay { ranked: true },
     },
+    Row {
+        patterns: &[Pattern::Word("gen"), Pattern::Number("")],
+        command: Command::Gen { seed: 0, size: 8 },
+    },
+    Row {
+        patterns: &[Pattern::Word("gen"), Pattern::Number(""), Pattern::Size],
+        command: Command::Gen { seed: 0, size: 8 },
+    },
+    Row {
+        patterns: &[Pattern::Word("soak"), Pattern::Number("")],
+        command: Command::Soak { seed: 0, size: 8 },
+    },
+    Row {
+        patterns: &[Pattern::Word("soak"), Pattern::Number(""), Pattern::Size],
+        command: Command::Soak { seed: 0, size: 8 },
+    },
 ];
 
 // The rows of the table.
@@ -73,8 +89,8 @@ fn rows() -> &'static [Row]
     &ROWS
 }
 
-/// The command that the words name.
-pub(crate) fn command_of(words: &[String]) -> Option<Command>
+/// The command that the words name. A size that isn't said is 8. It takes no memory.
+pub fn command_of(words: &[String]) -> Option<Command>
     ensures { (command : Named) → result ≡ Some command ↔ Names words.now command }
 {
     for row in rows() {

@@ -1,19 +1,22 @@
 // The whole program as one call.
 
-ghost use Rattle.std.specs.Prelude.{◌≡◌, ℕ, true, Option as Maybe};
+ghost use Rattle.std.specs.Prelude.{◌≡◌, ◌≤◌, ℕ, true, List as Items, Option as Maybe, Some};
 ghost use Rattle.dbp_plan.specs.Faults.{Rose};
-ghost use Rattle.dbp_top.specs.Commands.{serves_all, serves_plain};
+ghost use Rattle.dbp_load.specs.Texts.{generated_text};
+ghost use Rattle.dbp_top.specs.Commands.{reads_input, serves_all, serves_plain};
 ghost use Rattle.dbp_top.specs.Ends.{Answered, Ends, EndsAs};
 ghost use Rattle.dbp_top.specs.Outside.{status_of_read};
 ghost use Rattle.dbp_top.specs.Runs.{Crews, RunsAfter};
-ghost use Rattle.dbp_top.specs.declared.command.Command.TheVariants.{Run};
+ghost use Rattle.dbp_top.specs.declared.command.Command.TheVariants.{Gen, Run, Soak};
 
 use crate::Status;
 use crate::answer::answer;
 use crate::command::Command;
 use crate::outside::{ReadStop, read_all, write_all};
 use crate::run::run_answer;
+use crate::soak::soak_text;
 use crate::table::command_of;
+use dbp_load::generate;
 use dbp_plan::{Sink, Source};
 use party_exec::{Crew, TurnCrew};
 use std::alloc::Global;
@@ -86,6 +89,9 @@ fn ending<R: Threads + Wait + Sync, S: Source, K: Sink, C: Crew>(
             turns.seed(seed);
             run_ending(rt, alloc, source, sink, turns)
         }
+        Some(Command::Soak { seed, size }) => {
+            soak_ending(rt, alloc, seed, size, source, sink, crew)
+        }
         _ => plain_main(alloc, words, source, sink),
     }
 }
@@ -100,7 +106,8 @@ fn plain_ending<S: Source, K: Sink>(
     ensures { Ends S.left S.faults K.written K.faults serves_plain words.now source.old source.new sink.old sink.new result }
 {
     match command_of(words) {
-        None | Some(Command::Run { .. }) => Status::Usage,
+        None | Some(Command::Run { .. } | Command::Soak { .. }) => Status::Usage,
+        Some(Command::Gen { seed, size }) => gen_ending(alloc, seed, size, source, sink),
         Some(command) => command_ending(alloc, command, source, sink),
     }
 }
@@ -112,7 +119,8 @@ fn command_ending<S: Source, K: Sink>(
     source: &mut S,
     sink: &mut K,
 ) -> Status
-    requires { serves_plain command ≡ true }
+    requires plain { serves_plain command ≡ true }
+    requires reads { reads_input command ≡ true }
     ensures { EndsAs S.left S.faults K.written K.faults command source.old source.new sink.old sink.new result }
 {
     let input = match read_all(alloc, source, MAX_DOCUMENT) {
@@ -149,6 +157,49 @@ fn run_ending<R: Threads + Wait + Sync, S: Source, K: Sink, C: Crew>(
     };
     match write_all(sink, &text) {
         Ok(()) => status,
+        Err(_) => Status::WriteFault,
+    }
+}
+
+// How a call ends that writes the generated document. It leaves the source as it was.
+fn gen_ending<S: Source, K: Sink>(
+    alloc: Global,
+    seed: u64,
+    size: u32,
+    _source: &mut S,
+    sink: &mut K,
+) -> Status
+    requires { (1 ≤ size) × (size ≤ 32) }
+    ensures { EndsAs S.left S.faults K.written K.faults (Gen seed size) _source.old _source.new sink.old sink.new result }
+{
+    let Ok(text) = generate(alloc, seed, size) else {
+        return Status::NoMemory;
+    };
+    match write_all(sink, &text) {
+        Ok(()) => Status::Ok,
+        Err(_) => Status::WriteFault,
+    }
+}
+
+// How a call ends that writes the summary of the generated document, and what the crew ran.
+fn soak_ending<R: Threads + Wait + Sync, S: Source, K: Sink, C: Crew>(
+    rt: &R,
+    alloc: Global,
+    seed: u64,
+    size: u32,
+    _source: &mut S,
+    sink: &mut K,
+    crew: &mut C,
+) -> Status
+    requires { (1 ≤ size) × (size ≤ 32) }
+    ensures ends { EndsAs S.left S.faults K.written K.faults (Soak seed size) _source.old _source.new sink.old sink.new result }
+    ensures runs { RunsAfter result (Some (generated_text seed size)) (C.runs crew.old) (C.runs crew.new) }
+{
+    let Ok(text) = soak_text(rt, alloc, seed, size, crew) else {
+        return Status::NoMemory;
+    };
+    match write_all(sink, &text) {
+        Ok(()) => Status::Ok,
         Err(_) => Status::WriteFault,
     }
 }

@@ -1,11 +1,12 @@
-use Rattle.std.proofs.Common.{List, Some, None, refl, subst, ◌∙◌}
+use Rattle.std.proofs.Common.{rules, List, Some, None, refl, subst, ◌∙◌}
 use Rattle.party_exec.specs.Crews.{turn_runs}
 use Rattle.party_exec.specs.declared.crew_entry.CrewEntry.{CrewEntry}
 use Rattle.dbp_top.specs.Commands.{Names, runner_of, serves_all}
-use Rattle.dbp_top.specs.Runs.{CrewsAfter, RunsAfter}
+use Rattle.dbp_top.specs.Runs.{CrewsAfter, RunsAfter, text_to_run}
 use Rattle.dbp_top.specs.declared.command.Command.{Command}
-use Rattle.dbp_top.specs.declared.command.Command.TheVariants.{Run}
+use Rattle.dbp_top.specs.declared.command.Command.TheVariants.{Run, Soak}
 use Rattle.dbp_top.proofs.CommandRows.{one-command}
+use Rattle.dbp_top.proofs.NamedSizes.{named-size}
 use Rattle.dbp_top.proofs.Endings.{ends-named}
 use Rattle.dbp_top.proofs.top.ending.Goals as goal
 
@@ -20,7 +21,7 @@ returns-in-Some-Run-None-clause-crews g c =
     let named : Names c.args.words.now (Run None) = (c.command_of.ensures (Run None)).0 (let a = c.in-Some-Run-None.is in let b = c.in-Some-Run-None.field-0-is in let d = c.in-Some-Run-None.field-0-0-is in cc) in
     record {
       named = λ command other.
-          subst (λ (d : Command). CrewsAfter g.C.Crew.runs (runner_of d) c.run_ending.result (g.S.Source.left c.args.source.now) c.args.crew.now c.run_ending.new.crew c.args.turns.now c.args.turns.now)
+          subst (λ (d : Command). CrewsAfter g.C.Crew.runs (runner_of d) c.run_ending.result (text_to_run d (g.S.Source.left c.args.source.now)) c.args.crew.now c.run_ending.new.crew c.args.turns.now c.args.turns.now)
           (one-command c.args.words.now (Run None) command named other) (c.run_ending.ensures.runs, refl);
       unnamed = λ none. absurd (none (Run None) named);
     }
@@ -44,7 +45,31 @@ returns-in-Some-Run-Some-clause-crews g c =
     subst (λ (old : List CrewEntry). RunsAfter status input old (turn_runs new_turns)) c.seed.ensures.runs c.run_ending-in-Some-Run-Some.ensures.runs in
     record {
       named = λ command other.
-          subst (λ (d : Command). CrewsAfter g.C.Crew.runs (runner_of d) status input c.args.crew.now c.args.crew.now turns new_turns)
+          subst (λ (d : Command). CrewsAfter g.C.Crew.runs (runner_of d) status (text_to_run d input) c.args.crew.now c.args.crew.now turns new_turns)
           (one-command c.args.words.now (Run (Some seed)) command named other) (refl, runs, λ _. c.run_ending-in-Some-Run-Some.ensures.seed ∙ c.seed.ensures.seed);
       unnamed = λ none. absurd (none (Run (Some seed)) named);
+    }
+
+pub soak_ending-requires : goal.soak_ending-requires
+soak_ending-requires g c =
+    let command = Soak c.in-Some-Soak.seed c.in-Some-Soak.size in
+    let size = named-size c.args.words.now command ((c.command_of.ensures command).0 (let a = c.in-Some-Soak.is in let b = c.in-Some-Soak.field-0-is in cc)) in
+    search (rules, size)
+
+pub returns-in-Some-Soak-clause-ends : goal.returns-in-Some-Soak-clause-ends
+returns-in-Some-Soak-clause-ends g c =
+    let command = Soak c.in-Some-Soak.seed c.in-Some-Soak.size in
+    let named : Names c.args.words.now command = (c.command_of.ensures command).0 (let a = c.in-Some-Soak.is in let b = c.in-Some-Soak.field-0-is in cc) in
+    ends-named g.S.Source.left g.S.Source.faults g.K.Sink.written g.K.Sink.faults serves_all c.args.words.now command c.args.source.now c.soak_ending.new._source c.args.sink.now c.soak_ending.new.sink c.soak_ending.result named refl
+    c.soak_ending.ensures.ends
+
+pub returns-in-Some-Soak-clause-crews : goal.returns-in-Some-Soak-clause-crews
+returns-in-Some-Soak-clause-crews g c =
+    let command = Soak c.in-Some-Soak.seed c.in-Some-Soak.size in
+    let named : Names c.args.words.now command = (c.command_of.ensures command).0 (let a = c.in-Some-Soak.is in let b = c.in-Some-Soak.field-0-is in cc) in
+    record {
+      named = λ other is.
+          subst (λ (d : Command). CrewsAfter g.C.Crew.runs (runner_of d) c.soak_ending.result (text_to_run d (g.S.Source.left c.args.source.now)) c.args.crew.now c.soak_ending.new.crew c.args.turns.now c.args.turns.now)
+          (one-command c.args.words.now command other named is) (c.soak_ending.ensures.runs, refl);
+      unnamed = λ none. absurd (none command named);
     }

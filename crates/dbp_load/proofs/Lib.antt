@@ -1,0 +1,17 @@
+pub mod Acceptance
+pub mod DrawLaws
+pub mod ExpressionNodes
+pub mod FaultlessLines
+pub mod GeneratedBodies
+pub mod GeneratedClocks
+pub mod GeneratedDiagrams
+pub mod GeneratedNames
+pub mod GeneratedParts
+pub mod GeneratedShapes
+pub mod GeneratedTraces
+pub mod LateReads
+pub mod ListedItems
+pub mod NameTexts
+pub mod Schedules
+pub mod SectionText
+pub mod TextLengths

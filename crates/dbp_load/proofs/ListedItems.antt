@@ -1,0 +1,105 @@
+-- Lists of numbered items.
+use Rattle.std.proofs.Common.{◌≡◌, ◌≢◌, ℕ, zero, suc, ◌+◌, ◌*◌, ◌<◌, ◌≤◌, Bool, true, false, All, [], ◌∷◌, ◌++◌, length, map, take, get_or, slice_get, Some, None, refl, sym, ap, ◌∙◌, subst, inl, inr, arith}
+use Rattle.std.specs.Prelude.{sum_by, find}
+use Rattle.std.specs.List.{list_any}
+use Rattle.std.specs.List.Sorted.{IsStrictlyIncreasing}
+use Rattle.std.proofs.Math.Bool.{or-true}
+use Rattle.std.proofs.lemmas.Bool.{cases_lt}
+use Rattle.std.proofs.lemmas.List.{length_push, map-append, take_all, take-append-le}
+use Rattle.std.proofs.lemmas.List.Elements.{All-push}
+use Rattle.std.proofs.lemmas.List.Folds.{find-append, list_any-append}
+use Rattle.std.proofs.lemmas.List.Sums.{sum_by_push}
+use Rattle.std.proofs.lemmas.Option.{get_or_from_slice_get, same_Some, slice_get_within}
+use Rattle.dbp_plan.specs.Places.{front_place, last_place}
+use Rattle.dbp_load.specs.Listed.{listed}
+
+pub only-one : {A : Type 0} (P : A → Type 0) (x : A) → P x → All P (x ∷ [])
+only-one P x is = All-push P [] x (λ k d below. absurd (omega arith)) is
+
+module _ {A : Type 0} (f : ℕ → A) where
+  pub listed-more : (n : ℕ) → listed f (n + 1) ≡ listed f n ++ f n ∷ []
+  listed-more n = let next : n + 1 ≡ suc n = omega arith in ap (listed f) next
+
+  pub length-listed : (n : ℕ) → length (listed f n) ≡ n
+  length-listed zero = omega arith
+  length-listed (suc n) = omega (arith, length-listed n, length_push (listed f n) (f n))
+
+  pub listed-at : (n i : ℕ) → i < n → slice_get (listed f n) i ≡ Some (f i)
+  listed-at zero i below = absurd (omega arith)
+  listed-at (suc n) i below = elim (cases_lt i n) [
+    | inl less ↦ front_place (listed f n) (f n ∷ []) i (omega (arith, length-listed n, less)) ∙ listed-at n i less
+    | inr above ↦
+        let same : i ≡ n = omega arith in
+        subst (λ k. slice_get (listed f n ++ f n ∷ []) k ≡ Some (f k)) (sym same) (last_place (listed f n) (f n) n (sym (length-listed n)))
+  ]
+
+  -- an item that stands in the list
+  pub listed-item : (n i : ℕ) (x : A) → slice_get (listed f n) i ≡ Some x → (i < n) × (x ≡ f i)
+  listed-item n i x at =
+      let below : i < n = omega (arith, slice_get_within (listed f n) i x at, length-listed n) in
+      (below, same_Some x (f i) (sym at ∙ listed-at n i below))
+
+  pub take-listed : (n i : ℕ) → i ≤ n → take i (listed f n) ≡ listed f i
+  take-listed zero i below = let none : i ≡ 0 = omega arith in rw none refl
+  take-listed (suc n) i below = elim (cases_lt i (suc n)) [
+    | inl less ↦ take-append-le i (listed f n) (f n ∷ []) (omega (arith, less, length-listed n)) ∙ take-listed n i (omega (arith, less))
+    | inr above ↦
+        let same : i ≡ suc n = omega arith in
+        rw same (take_all (suc n) (listed f (suc n)) (omega (arith, length-listed (suc n))))
+  ]
+
+  pub all-listed : (P : A → Type 0) (n : ℕ) → ((i : ℕ) → i < n → P (f i)) → All P (listed f n)
+  all-listed P zero each = λ k d below. absurd (omega arith)
+  all-listed P (suc n) each = All-push P (listed f n) (f n) (all-listed P n (λ i below. each i (omega arith))) (each n (omega arith))
+
+  pub sum-listed : (count : A → ℕ) (most n : ℕ) → ((i : ℕ) → i < n → count (f i) ≤ most) → sum_by count (listed f n) ≤ n * most
+  sum-listed count most zero each = omega arith
+  sum-listed count most (suc n) each =
+      omega (arith, sum_by_push count (listed f n) (f n), sum-listed count most n (λ i below. each i (omega arith)), each n (omega arith))
+
+pub map-listed : {A B : Type 0} (g : A → B) (f : ℕ → A) (n : ℕ) → map g (listed f n) ≡ listed (λ i. g (f i)) n
+map-listed g f zero = refl
+map-listed g f (suc n) = map-append g (listed f n) (f n ∷ []) ∙ ap (λ xs. xs ++ g (f n) ∷ []) (map-listed g f n)
+
+-- no item passes
+pub none-listed : {A : Type 0} (test : A → Bool) (f : ℕ → A) (n : ℕ) → ((i : ℕ) → i < n → test (f i) ≡ false) → list_any test (listed f n) ≡ false
+none-listed test f zero each = refl
+none-listed test f (suc n) each =
+    list_any-append test (listed f n) (f n ∷ [])
+    ∙ rw (none-listed test f n (λ i below. each i (omega arith)), each n (omega arith)) refl
+
+pub some-listed : {A : Type 0} (test : A → Bool) (f : ℕ → A) (n i : ℕ) → i < n → test (f i) ≡ true → list_any test (listed f n) ≡ true
+some-listed test f zero i below passes = absurd (omega arith)
+some-listed test f (suc n) i below passes = elim (cases_lt i n) [
+  | inl less ↦ list_any-append test (listed f n) (f n ∷ []) ∙ rw (some-listed test f n i less passes) refl
+  | inr above ↦
+      let same : i ≡ n = omega arith in
+      let here : test (f n) ≡ true = subst (λ k. test (f k) ≡ true) same passes in
+      list_any-append test (listed f n) (f n ∷ []) ∙ rw here (or-true (list_any test (listed f n)))
+]
+
+none-found : {A : Type 0} (test : A → Bool) (f : ℕ → A) (n : ℕ) → ((i : ℕ) → i < n → test (f i) ≡ false) → find test (listed f n) ≡ None
+none-found test f zero each = refl
+none-found test f (suc n) each =
+    find-append test (listed f n) (f n ∷ [])
+    ∙ rw (none-found test f n (λ i below. each i (omega arith)), each n (omega arith)) refl
+
+-- the only item that passes is found
+pub find-listed : {A : Type 0} (test : A → Bool) (f : ℕ → A) (n i : ℕ) → i < n → test (f i) ≡ true → ((j : ℕ) → j < n → j ≢ i → test (f j) ≡ false) → find test (listed f n) ≡ Some (f i)
+find-listed test f zero i below passes others = absurd (omega arith)
+find-listed test f (suc n) i below passes others = elim (cases_lt i n) [
+  | inl less ↦ find-append test (listed f n) (f n ∷ []) ∙ rw (find-listed test f n i less passes (λ j under other. others j (omega arith) other)) refl
+  | inr above ↦
+      let same : i ≡ n = omega arith in
+      let here : test (f n) ≡ true = subst (λ k. test (f k) ≡ true) same passes in
+      find-append test (listed f n) (f n ∷ [])
+      ∙ rw (none-found test f n (λ j under. others j (omega arith) (λ e. absurd (omega arith))), here) (ap (λ k. Some (f k)) (sym same))
+]
+
+-- rising numbers
+pub rising-listed : (f : ℕ → ℕ) (n : ℕ) → ((i : ℕ) → i + 1 < n → f i < f (i + 1)) → IsStrictlyIncreasing (listed f n)
+rising-listed f n up k inside =
+    let below : k + 1 < n = omega (arith, inside, length-listed f n) in
+    let first : get_or (listed f n) k 0 ≡ f k = get_or_from_slice_get (listed f n) k (f k) 0 (listed-at f n k (omega arith)) in
+    let second : get_or (listed f n) (k + 1) 0 ≡ f (k + 1) = get_or_from_slice_get (listed f n) (k + 1) (f (k + 1)) 0 (listed-at f n (k + 1) below) in
+    rw (first, second) (up k below)

@@ -1,0 +1,6 @@
+-- Definitions that public clauses cite.
+pub mod Bodies
+pub mod Draws
+pub mod Expressions
+pub mod Listed
+pub mod Texts

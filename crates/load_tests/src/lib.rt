@@ -1,0 +1,5 @@
+//! Tests of generated documents.
+#![tactic(auto)]
+
+#[cfg(test)]
+mod documents;
