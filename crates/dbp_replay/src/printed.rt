@@ -42,7 +42,8 @@ pub(crate) fn push_step(text: &mut Vec<u8>, diagram: &Diagram, step: Step) -> Re
 // Adds the words after the task.
 fn push_operand(text: &mut Vec<u8>, diagram: &Diagram, step: Step) -> Result<(), NoMemory>
     requires { IsThere diagram.now step }
-    ensures { OnOk result (text.new.items ≡ text.old.items ++ spaced_words (operand_words diagram.now step)) }
+    ensures { OnOk result (text.new.items
+        ≡ text.old.items ++ spaced_words (operand_words diagram.now step)) }
 {
     match step {
         Step::Aim { slot, .. } => push_number(text, slot),

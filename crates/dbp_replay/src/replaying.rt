@@ -63,7 +63,8 @@ fn replay_in(
     requires empty { room.items ≡ [] }
     requires none { vec_len room ≡ 0 }
     requires room { length steps.now ≤ vec_capacity room }
-    ensures text { IfOk result (λ text. IsReplay (plan_in core) (count_in core) steps.now text.items) }
+    ensures text { IfOk result
+        (λ text. IsReplay (plan_in core) (count_in core) steps.now text.items) }
     ensures illegal { IfErr result
         (λ fail. IsReplayRefusal (plan_in core) (count_in core) steps.now fail) }
     // A step that isn't allowed is found before memory is taken, so it is never out of memory.

@@ -1,14 +1,18 @@
 // What a command makes of an input.
 
-ghost use Rattle.std.specs.Prelude.{◌≡◌, ◌≤◌, ℕ, Bool, true, List as Items, length, IfErr, IfOk};
+ghost use Rattle.std.specs.Prelude.{◌≡◌, ◌≤◌, ℕ, Bool, true, List as Items, length, Err, IfErr, IfOk, None};
 ghost use Rattle.dbp_plan.specs.declared.limits.TheConstants.{MAX_TEXT};
 ghost use Rattle.trace_io.specs.Texts.{Accepts};
 ghost use Rattle.virtual_sim.specs.Outcomes.{IsSimFail};
+ghost use Rattle.dbp_replay.specs.declared.fail.ScriptCode.TheVariants.{NoScript};
+ghost use Rattle.dia_read.specs.Printable.{HasItemLines, IsPrintable};
 ghost use Rattle.dia_read.specs.declared.document.Doc.{Doc as Document};
 ghost use Rattle.dbp_top.specs.Answer.{Answers, Makes, PlanText, count_of};
 ghost use Rattle.dbp_top.specs.Commands.{reads_input, serves_plain};
 ghost use Rattle.dbp_top.specs.Stops.{IsStopOf, status_of_stop};
 ghost use Rattle.dbp_top.specs.declared.command.Command.{Command as Named};
+ghost use Rattle.dbp_top.specs.declared.refusal.Refusal.TheVariants.{Script};
+ghost use Rattle.dbp_top.specs.declared.stop.Stop.TheVariants.{Refused};
 ghost use Rattle.dbp_top.specs.declared.command.Command.TheVariants.{Mean, Form, Plan as Slots, Replay, Sim};
 
 use crate::Status;
@@ -21,7 +25,7 @@ use crate::stop::Stop;
 use dbp_core::Count;
 use dbp_plan::{NoMemory, Plan};
 use dbp_replay::{print_script, read_script, replay_owned};
-use dia_read::{print_doc, read_doc};
+use dia_read::{Doc, print_doc, read_doc};
 use std::alloc::Global;
 use std::rc::Rc;
 use sync_meaning::mean;
@@ -47,7 +51,9 @@ pub(crate) fn answer(
 
 /// The status and the line of an input that has no text.
 pub(crate) fn stop_answer(alloc: Global, stop: Stop) -> Result<(Status, Vec<u8>), NoMemory>
-    ensures answer { IfOk result (λ (status, line). (input : Items ℕ) (command : Named) → IsStopOf input command stop → Answers input command status line.items) }
+    ensures answer { IfOk result
+        (λ (status, line). (input : Items ℕ) (command : Named) → IsStopOf input command stop
+        → Answers input command status line.items) }
     ensures status { IfOk result (λ (status, line). status ≡ status_of_stop stop) }
 {
     match stop {
@@ -107,8 +113,11 @@ fn shared_plan(alloc: Global, plan: Plan) -> Result<Rc<Plan>, NoMemory>
 
 /// What the simulation of the plan writes: the steps of its record, or the lines of its table.
 fn simulation_text(alloc: Global, record_it: bool, shared: &Rc<Plan>) -> Result<Vec<u8>, Stop>
-    ensures text { IfOk result (λ text. (doc : Document) → PlanText doc shared.now.value (Sim record_it) text.items) }
-    ensures stop { IfErr result (λ stop. (input : Items ℕ) → Accepts input shared.now.value → IsStopOf input (Sim record_it) stop) }
+    ensures text { IfOk result
+        (λ text. (doc : Document) → PlanText doc shared.now.value (Sim record_it) text.items) }
+    ensures stop { IfErr result
+        (λ stop. (input : Items ℕ) → Accepts input shared.now.value
+        → IsStopOf input (Sim record_it) stop) }
 {
     let plan: &Plan = shared;
     if record_it {
@@ -127,7 +136,8 @@ fn simulation_text(alloc: Global, record_it: bool, shared: &Rc<Plan>) -> Result<
 /// Why the simulation of the plan has no text.
 fn stop_of(alloc: Global, plan: &Plan, fail: SimFail) -> Stop
     requires { IsSimFail plan.now fail }
-    ensures { (input : Items ℕ) (record_it : Bool) → Accepts input plan.now → IsStopOf input (Sim record_it) result }
+    ensures { (input : Items ℕ) (record_it : Bool) → Accepts input plan.now
+        → IsStopOf input (Sim record_it) result }
 {
     match fail {
         SimFail::Overrun {
@@ -172,7 +182,22 @@ fn replay_of(alloc: Global, ranked: bool, input: &[u8]) -> Result<Vec<u8>, Stop>
     ensures stop { IfErr result (λ stop. IsStopOf input.now (Replay ranked) stop) }
 {
     let (doc, plan) = accepted(alloc, input)?;
-    let steps = read_script(alloc, &plan.diagram, &doc)?;
+    let text = replay_text(alloc, ranked, &doc, plan)?;
+    Ok(text)
+}
+
+/// The steps of the document's script, with what they hear on its plan.
+fn replay_text(alloc: Global, ranked: bool, doc: &Doc, plan: Plan) -> Result<Vec<u8>, Stop>
+    requires printable { IsPrintable doc.now.body }
+    requires lines { HasItemLines doc.now }
+    ensures text { IfOk result (λ text. PlanText doc.now plan (Replay ranked) text.items) }
+    ensures stop { IfErr result (λ stop. (input : Items ℕ) (accepted : Accepts input plan)
+        → accepted.doc ≡ doc.now → IsStopOf input (Replay ranked) stop) }
+    // A document without a script section is refused so whatever memory there is.
+    ensures no_script { doc.now.body.script ≡ None
+        → result ≡ Err (Refused (Script doc.now.lines.done_at NoScript)) }
+{
+    let steps = read_script(alloc, &plan.diagram, doc)?;
     let text = replay_owned(alloc, plan, count_of(ranked), &steps)?;
     Ok(text)
 }

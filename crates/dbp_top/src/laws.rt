@@ -29,7 +29,8 @@ pub fn one_command()
 
 /// A command has one status and one text at most for an input.
 pub fn one_answer()
-    ensures { (input : Items ℕ) (command : Named) (s t : Ending) (text other : Items ℕ) → Answers input command s text → Answers input command t other → (s ≡ t) × (text ≡ other) }
+    ensures { (input : Items ℕ) (command : Named) (s t : Ending) (text other : Items ℕ)
+        → Answers input command s text → Answers input command t other → (s ≡ t) × (text ≡ other) }
 {
     one_plan();
     one_meaning();
@@ -39,7 +40,8 @@ pub fn one_answer()
 /// same body, except that its script is that of the plan's recorded list. Each document that is read is printable, as
 /// `read_doc` says.
 pub fn a_recorded_script_is_replayed()
-    ensures { (input other : Items ℕ) (plan : AnyPlan) (steps : Items AnyStep) (accepted : Accepts input plan) (doc : AnyDocument)
+    ensures { (input other : Items ℕ) (plan : AnyPlan) (steps : Items AnyStep)
+        (accepted : Accepts input plan) (doc : AnyDocument)
         → IsPrintable accepted.doc.body → IsRecord plan steps → Spells other doc
         → doc.body ≡ with_script (Some (script_text plan.diagram steps)) accepted.doc.body
         → (text : Items ℕ) × Answers other (Replay true) Written text }

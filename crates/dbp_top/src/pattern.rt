@@ -19,7 +19,8 @@ pub(crate) enum Pattern {
 
 /// The numbers that are known after the word, if it fits the pattern.
 pub(crate) fn after_word(pattern: &Pattern, word: &str, numbers: Numbers) -> Option<Numbers>
-    ensures { (after : Given) → result ≡ Some after ↔ Fits (form_of pattern.now) word.now numbers after }
+    ensures { (after : Given) → result ≡ Some after
+        ↔ Fits (form_of pattern.now) word.now numbers after }
 {
     match pattern {
         Pattern::Word(text) => { if word == *text { Some(numbers) } else { None } }

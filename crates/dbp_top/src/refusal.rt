@@ -54,14 +54,16 @@ fn push_refusal(text: &mut Vec<u8>, refusal: &Refusal) -> Result<(), NoMemory>
 
 // Adds `refused: line L: `.
 fn push_line_number(text: &mut Vec<u8>, line: u32) -> Result<(), NoMemory>
-    ensures { OnOk result (text.new.items ≡ text.old.items ++ codes "refused: line " ++ decimal line ++ codes ": ") }
+    ensures { OnOk result (text.new.items
+        ≡ text.old.items ++ codes "refused: line " ++ decimal line ++ codes ": ") }
 {
     push_numbered(text, "refused: line ", line)
 }
 
 // Adds the words and the number behind them, and a colon and a space.
 fn push_numbered(text: &mut Vec<u8>, words: &str, number: u32) -> Result<(), NoMemory>
-    ensures { OnOk result (text.new.items ≡ text.old.items ++ words.now ++ decimal number ++ codes ": ") }
+    ensures { OnOk result (text.new.items
+        ≡ text.old.items ++ words.now ++ decimal number ++ codes ": ") }
 {
     text.extend_from_slice(words.as_bytes())?;
     text.extend_from_slice(Buffer::new().format(number).as_bytes())?;

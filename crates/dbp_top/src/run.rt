@@ -30,8 +30,11 @@ pub(crate) fn run_answer<R: Threads + Wait + Sync, C: Crew>(
     crew: &mut C,
 ) -> Result<(Status, Vec<u8>), NoMemory>
     requires { length input.now ≤ MAX_TEXT }
-    ensures answer { IfOk result (λ (status, text). (turns : Maybe ℕ) → Answers input.now (Run turns) status text.items) }
-    ensures runs { MatchResult result (λ (status, text). RunsAfter status (Some input.now) (C.runs crew.old) (C.runs crew.new)) (λ _. RunsAfter OutOfMemory (Some input.now) (C.runs crew.old) (C.runs crew.new)) }
+    ensures answer { IfOk result
+        (λ (status, text). (turns : Maybe ℕ) → Answers input.now (Run turns) status text.items) }
+    ensures runs { MatchResult result
+        (λ (status, text). RunsAfter status (Some input.now) (C.runs crew.old) (C.runs crew.new))
+        (λ _. RunsAfter OutOfMemory (Some input.now) (C.runs crew.old) (C.runs crew.new)) }
     ensures seed { C.seed crew.new ≡ C.seed crew.old }
 {
     match run_text(rt, alloc, input, crew) {
@@ -48,7 +51,8 @@ fn run_text<R: Threads + Wait + Sync, C: Crew>(
     crew: &mut C,
 ) -> Result<Vec<u8>, Stop>
     requires { length input.now ≤ MAX_TEXT }
-    ensures text { IfOk result (λ text. (turns : Maybe ℕ) → Makes input.now (Run turns) text.items) }
+    ensures text { IfOk result
+        (λ text. (turns : Maybe ℕ) → Makes input.now (Run turns) text.items) }
     ensures stop { IfErr result (λ stop. (turns : Maybe ℕ) → IsStopOf input.now (Run turns) stop) }
     ensures runs { RunsAfterText input.now (C.runs crew.old) (C.runs crew.new) result }
     ensures seed { C.seed crew.new ≡ C.seed crew.old }

@@ -35,8 +35,10 @@ pub(crate) fn soak_text<R: Threads + Wait + Sync, C: Crew>(
     crew: &mut C,
 ) -> Result<Vec<u8>, NoMemory>
     requires { (1 ≤ size) × (size ≤ 32) }
-    ensures text { IfOk result (λ text. (input : Items ℕ) → Makes input (Soak seed size) text.items) }
-    ensures runs { MatchResult result (λ _. HasRunInput (Some (generated_text seed size)) (C.runs crew.old) (C.runs crew.new))
+    ensures text { IfOk result
+        (λ text. (input : Items ℕ) → Makes input (Soak seed size) text.items) }
+    ensures runs { MatchResult result
+        (λ _. HasRunInput (Some (generated_text seed size)) (C.runs crew.old) (C.runs crew.new))
         (λ _. RunsAfter OutOfMemory (Some (generated_text seed size)) (C.runs crew.old) (C.runs crew.new)) }
 {
     let plan = generated_plan(alloc, seed, size)?;

@@ -103,7 +103,9 @@ pub fn command_of(words: &[String]) -> Option<Command>
 
 // The numbers in the words, if each fits its pattern.
 fn numbers_in(patterns: &[Pattern], words: &[String]) -> Option<Numbers>
-    ensures { (given : Given) → result ≡ Some given ↔ AllFit (map form_of patterns.now) (map (λ w. string_bytes w) words.now) first_numbers given }
+    ensures { (given : Given) → result ≡ Some given
+        ↔ AllFit (map form_of patterns.now)
+        (map (λ w. string_bytes w) words.now) first_numbers given }
 {
     if patterns.len() != words.len() {
         return None;
@@ -129,7 +131,8 @@ pub fn command_lines(alloc: Global) -> Result<String, NoMemory>
 
 // Adds the line of a command.
 fn push_patterns(text: &mut String, patterns: &[Pattern]) -> Result<(), NoMemory>
-    ensures { OnOk result (string_bytes text.new ≡ string_bytes text.old ++ listed_forms (map form_of patterns.now)) }
+    ensures { OnOk result (string_bytes text.new
+        ≡ string_bytes text.old ++ listed_forms (map form_of patterns.now)) }
 {
     text.push_str(" ")?;
     for pattern in patterns {
@@ -142,7 +145,8 @@ fn push_patterns(text: &mut String, patterns: &[Pattern]) -> Result<(), NoMemory
 
 // Adds what stands for a word.
 fn push_pattern(text: &mut String, pattern: &Pattern) -> Result<(), NoMemory>
-    ensures { OnOk result (string_bytes text.new ≡ string_bytes text.old ++ form_text (form_of pattern.now)) }
+    ensures { OnOk result (string_bytes text.new
+        ≡ string_bytes text.old ++ form_text (form_of pattern.now)) }
 {
     match pattern {
         Pattern::Word(word) => Ok(text.push_str(word)?),

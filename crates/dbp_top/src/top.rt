@@ -45,10 +45,12 @@ pub fn dbp_main<R: Threads + Wait + Sync, S: Source, K: Sink, C: Crew>(
     // What each status says.
     ensures ends { Ends S.left S.faults K.written K.faults serves_all words.now source.old source.new sink.old sink.new result }
     // Where no read and no write failed, the call was answered.
-    ensures answered { (Rose (S.faults source.old) (S.faults source.new) → ⊥) → (Rose (K.faults sink.old) (K.faults sink.new) → ⊥)
+    ensures answered { (Rose (S.faults source.old) (S.faults source.new) → ⊥)
+        → (Rose (K.faults sink.old) (K.faults sink.new) → ⊥)
         → Answered S.left S.faults K.written K.faults serves_all words.now source.old source.new sink.old sink.new result }
     // What the crews ran.
-    ensures crews { Crews C.runs words.now result (S.left source.old) crew.old crew.new turns.old turns.new }
+    ensures crews { Crews C.runs words.now result
+        (S.left source.old) crew.old crew.new turns.old turns.new }
 {
     ending(rt, alloc, words, source, sink, crew, turns)
 }
@@ -64,7 +66,8 @@ pub fn plain_main<S: Source, K: Sink>(
     // What each status says.
     ensures ends { Ends S.left S.faults K.written K.faults serves_plain words.now source.old source.new sink.old sink.new result }
     // Where no read and no write failed, the call was answered.
-    ensures answered { (Rose (S.faults source.old) (S.faults source.new) → ⊥) → (Rose (K.faults sink.old) (K.faults sink.new) → ⊥)
+    ensures answered { (Rose (S.faults source.old) (S.faults source.new) → ⊥)
+        → (Rose (K.faults sink.old) (K.faults sink.new) → ⊥)
         → Answered S.left S.faults K.written K.faults serves_plain words.now source.old source.new sink.old sink.new result }
 {
     plain_ending(alloc, words, source, sink)
@@ -81,7 +84,8 @@ fn ending<R: Threads + Wait + Sync, S: Source, K: Sink, C: Crew>(
     turns: &mut TurnCrew,
 ) -> Status
     ensures ends { Ends S.left S.faults K.written K.faults serves_all words.now source.old source.new sink.old sink.new result }
-    ensures crews { Crews C.runs words.now result (S.left source.old) crew.old crew.new turns.old turns.new }
+    ensures crews { Crews C.runs words.now result
+        (S.left source.old) crew.old crew.new turns.old turns.new }
 {
     match command_of(words) {
         Some(Command::Run { turns: None }) => run_ending(rt, alloc, source, sink, crew),
@@ -144,7 +148,9 @@ fn run_ending<R: Threads + Wait + Sync, S: Source, K: Sink, C: Crew>(
     sink: &mut K,
     crew: &mut C,
 ) -> Status
-    ensures ends { (turns : Maybe ℕ) → EndsAs S.left S.faults K.written K.faults (Run turns) source.old source.new sink.old sink.new result }
+    ensures ends { (turns : Maybe ℕ)
+        → EndsAs S.left S.faults K.written K.faults
+        (Run turns) source.old source.new sink.old sink.new result }
     ensures runs { RunsAfter result (S.left source.old) (C.runs crew.old) (C.runs crew.new) }
     ensures seed { C.seed crew.new ≡ C.seed crew.old }
 {
@@ -170,7 +176,8 @@ fn gen_ending<S: Source, K: Sink>(
     sink: &mut K,
 ) -> Status
     requires { (1 ≤ size) × (size ≤ 32) }
-    ensures { EndsAs S.left S.faults K.written K.faults (Gen seed size) _source.old _source.new sink.old sink.new result }
+    ensures { EndsAs S.left S.faults K.written K.faults
+        (Gen seed size) _source.old _source.new sink.old sink.new result }
 {
     let Ok(text) = generate(alloc, seed, size) else {
         return Status::NoMemory;
@@ -192,8 +199,10 @@ fn soak_ending<R: Threads + Wait + Sync, S: Source, K: Sink, C: Crew>(
     crew: &mut C,
 ) -> Status
     requires { (1 ≤ size) × (size ≤ 32) }
-    ensures ends { EndsAs S.left S.faults K.written K.faults (Soak seed size) _source.old _source.new sink.old sink.new result }
-    ensures runs { RunsAfter result (Some (generated_text seed size)) (C.runs crew.old) (C.runs crew.new) }
+    ensures ends { EndsAs S.left S.faults K.written K.faults
+        (Soak seed size) _source.old _source.new sink.old sink.new result }
+    ensures runs { RunsAfter result (Some (generated_text seed size)) (C.runs crew.old)
+        (C.runs crew.new) }
 {
     let Ok(text) = soak_text(rt, alloc, seed, size, crew) else {
         return Status::NoMemory;

@@ -68,7 +68,7 @@ any-same l m (k ∷ ks) apart = elim (cases_Bool (is_same_link l k)) [
   | inr differs ↦ rw differs (ap (λ b. is_same_link k m || b) (any-same l m ks apart))
 ]
 
--- the links kept, with one more link behind
+-- the links kept, with one more link after
 abbrev with_link : List Link → Link → List Link
 with_link links l = if list_any (λ k. is_same_link k l) links then links else links ++ l ∷ []
 

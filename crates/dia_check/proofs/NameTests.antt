@@ -75,7 +75,7 @@ among_declared n = among_flat_map declared_name n (is_declared n) (among-declare
 
 -- ---- the environment
 
--- one more name in front of the one or the other of four lists
+-- one more name at the front of the one or the other of four lists
 first : (x a b c d : Bool) → (x || a || b || c || d) ≡ (x || (a || b || c || d))
 first true a b c d = refl
 first false a b c d = refl

@@ -1,4 +1,4 @@
--- A document says one diagram at most, and none where it has a fault; its first fault is one but for the names of a cycle.
+-- A document says one diagram at most, and none where it has a fault; its first fault is one except for the names of a cycle.
 use Rattle.std.proofs.Common.{◌≡◌, ℕ, suc, ◌<◌, List, [], ◌∷◌, length, slice_get, Option, Some, None, refl, sym, ap, ◌∙◌, subst, arith, inl, inr}
 use Rattle.std.proofs.lemmas.Bool.{cases_order}
 use Rattle.std.proofs.lemmas.Option.{none-some, same_Some}
@@ -83,7 +83,7 @@ same-first-let base lets i j one other first second = elim (cases_order i j) [
   | inr (inr more) ↦ absurd (first.earliest j more (other, second.is))
 ]
 
--- the same line, and the same code but for the names of a cycle
+-- the same line, and the same code except for the names of a cycle
 abbrev pub AreAlike : ℕ → CheckCode → ℕ → CheckCode → Type 0
 AreAlike line code other another = (line ≡ other) × IsSameCode code another
 
@@ -110,7 +110,7 @@ same-first-task doc i k begins starts line other t u code another at_t before_t 
   | inr (inr more) ↦ absurd (whole-or-fault u starts (part_lines doc k) other another (before_t k u more at_u) fault_u)
 ]
 
--- of one task one fault is told
+-- of one task one fault is given
 told-of-one : (doc : Doc) (i k begins starts line other : ℕ) (t u : RawTask) (code another : CheckCode) → i ≡ k → slice_get doc.body.tasks i ≡ Some t → slice_get doc.lines.tasks i ≡ Some begins → HasTaskFault t begins (part_lines doc i) line code
     → slice_get doc.body.tasks k ≡ Some u → slice_get doc.lines.tasks k ≡ Some starts → HasTaskFault u starts (part_lines doc k) other another → AreAlike line code other another
 told-of-one doc i k begins starts line other t u code another one at_t line_t fault_t at_u line_u fault_u =

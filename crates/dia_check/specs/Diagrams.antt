@@ -122,7 +122,7 @@ abbrev pub input_of : Decl → List Input
 input_of (decl.Input n first) = record { name = n; first = first } ∷ []
 input_of (decl.Event n) = []
 
--- the diagram is what the document says, but for its ranks
+-- the diagram is what the document says, except for its ranks
 pub record IsDiagramOf (body : Body) (d : Diagram) : Type 0 where
   pub policy : d.policy ≡ body.policy
   pub until : d.until ≡ body.until

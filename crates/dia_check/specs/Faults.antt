@@ -72,17 +72,17 @@ is_unknown_clock decls (On event) = not (is_among (flat_map event_name decls) ev
 
 -- ---- the first fault of a line
 
--- of a declaration behind these
+-- of a declaration after these
 abbrev pub decl_fault : List Decl → Decl → Option LineFault
 decl_fault before d = if is_among (map decl_name before) (decl_name d) then Some Duplicate else None
 
--- of the line that begins a task, behind these tasks
+-- of the line that begins a task, after these tasks
 abbrev pub task_fault : Body → List RawTask → RawTask → Option LineFault
 task_fault body before t =
     if is_among (map decl_name body.decls ++ task_names before) t.name then Some Duplicate else
     if is_unknown_clock body.decls t.clock then Some Unknown else None
 
--- of a line of the task's body, behind these
+-- of a line of the task's body, after these
 abbrev pub part_fault : Body → RawTask → List Part → Part → Option LineFault
 part_fault body t before p =
     if is_repeated before p then Some Duplicate else
@@ -92,7 +92,7 @@ part_fault body t before p =
 
 -- ---- the first of the lines with a fault
 
--- each task with the number of its line and its first fault, and the lines of its body behind it
+-- each task with the number of its line and its first fault, and the lines of its body after it
 abbrev pub task_faults : Body → List RawTask → List RawTask → List ℕ → List ℕ → List (ℕ × Option LineFault)
 task_faults body before (t ∷ ts) (n ∷ ns) parts =
     (n, task_fault body before t) ∷ (faults_behind (part_fault body t) [] t.parts parts ++ task_faults body (before ++ t ∷ []) ts ns (drop (length t.parts) parts))
@@ -112,7 +112,7 @@ code_of ReadPastCost = code.ReadPastCost
 abbrev pub line_refusal : ℕ × LineFault → CheckFail
 line_refusal f = Refused f.0 (code_of f.1)
 
--- the same code, but for the names of a cycle
+-- the same code, except for the names of a cycle
 pub data IsSameCode : CheckCode → CheckCode → Type 0 where
   same : (code : CheckCode) → IsSameCode code code
   cycles : (names others : List (List ℕ)) → IsSameCode (LetCycle names) (LetCycle others)

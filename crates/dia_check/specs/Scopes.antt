@@ -72,7 +72,7 @@ let_refusal t parts (let_fail.Cycle first names) =
     check_fail.Refused (slice_index (let_lines t.parts parts) first) (LetCycle names)
 let_refusal t parts let_fail.NoMemory = check_fail.NoMemory
 
--- what a refusal tells of the task, whose first line and those of its body have these numbers
+-- what a refusal says of the task, whose first line and those of its body have these numbers
 abbrev pub IsTaskRefusal : RawTask → ℕ → List ℕ → CheckFail → Type 0
 IsTaskRefusal t begins parts (check_fail.Refused line code) = HasTaskFault t begins parts line code
 IsTaskRefusal t begins parts check_fail.NoMemory = Unit {0}

@@ -34,7 +34,7 @@ pub record IsShapeOf (doc : Doc) (s : Shaped) : Type 0 where
   pub task_lines : s.task_lines ≡ doc.lines.tasks
   pub read_lines : s.read_lines ≡ read_lines_of doc
 
--- what a refusal tells of the document; want of memory tells nothing
+-- what a refusal says of the document; out of memory says nothing
 abbrev pub IsShapeRefusal : Doc → CheckFail → Type 0
 IsShapeRefusal doc (Refused line code) = IsShapeFault doc line code
 IsShapeRefusal doc NoMemory = Unit {0}

@@ -26,7 +26,8 @@ fn decls_fault(decls: &[Decl], lines: &[u32]) -> Option<(u32, LineFault)>
 /// Of the task's body, whose lines have the first of these numbers.
 fn body_fault(body: &Body, task: &RawTask, lines: &[u32]) -> Option<(u32, LineFault)>
     requires { length task.now.parts ≤ length lines.now }
-    ensures { result ≡ first_fault (faults_behind (part_fault body.now task.now) [] task.now.parts lines.now) }
+    ensures { result ≡ first_fault
+        (faults_behind (part_fault body.now task.now) [] task.now.parts lines.now) }
 {
     let parts = task.parts.items();
     for (place, part) in parts.iter().enumerate() {
@@ -40,7 +41,8 @@ fn body_fault(body: &Body, task: &RawTask, lines: &[u32]) -> Option<(u32, LineFa
 /// Of the tasks and their bodies.
 fn tasks_fault(doc: &Doc) -> Option<(u32, LineFault)>
     requires { HasItemLines doc.now }
-    ensures { result ≡ first_fault (task_faults doc.now.body [] doc.now.body.tasks doc.now.lines.tasks doc.now.lines.parts) }
+    ensures { result ≡ first_fault
+        (task_faults doc.now.body [] doc.now.body.tasks doc.now.lines.tasks doc.now.lines.parts) }
 {
     let tasks = doc.body.tasks.items();
     let lines = doc.lines.tasks.items();

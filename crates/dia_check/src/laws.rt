@@ -21,11 +21,14 @@ pub fn one_shape()
     one_front_order();
 }
 
-/// A document that says a diagram has no fault of names and shape, and there is one first fault at most, but for the
+/// A document that says a diagram has no fault of names and shape, and there is one first fault at most, except for the
 /// names of a cycle.
 pub fn one_shape_fault()
-    ensures none { (doc : Doc) (s : Shaped) (line : ℕ) (code : CheckCode) → IsShapeOf doc s → IsShapeFault doc line code → ⊥ }
-    ensures one { (doc : Doc) (line other : ℕ) (code another : CheckCode) → IsShapeFault doc line code → IsShapeFault doc other another → (line ≡ other) × IsSameCode code another }
+    ensures none { (doc : Doc) (s : Shaped) (line : ℕ) (code : CheckCode) → IsShapeOf doc s
+        → IsShapeFault doc line code → ⊥ }
+    ensures one { (doc : Doc) (line other : ℕ) (code another : CheckCode)
+        → IsShapeFault doc line code → IsShapeFault doc other another
+        → (line ≡ other) × IsSameCode code another }
 {}
 
 /// A shape depends on the declarations and on the names, clocks, costs and parts of tasks alone. So documents that differ
@@ -43,12 +46,15 @@ pub fn bare_bodies_decide_shapes()
     one_front_order();
 }
 
-/// A document has one checked diagram at most, and none where it has a fault; it has one first fault at most, but for
+/// A document has one checked diagram at most, and none where it has a fault; it has one first fault at most, except for
 /// the names of a cycle.
 pub fn one_check()
     ensures one { (doc : Doc) (d e : Diagram) → IsCheckedOf doc d → IsCheckedOf doc e → d ≡ e }
-    ensures none { (doc : Doc) (d : Diagram) (line : ℕ) (code : CheckCode) → IsCheckedOf doc d → IsCheckFault doc line code → ⊥ }
-    ensures one_fault { (doc : Doc) (line other : ℕ) (code another : CheckCode) → IsCheckFault doc line code → IsCheckFault doc other another → (line ≡ other) × IsSameCode code another }
+    ensures none { (doc : Doc) (d : Diagram) (line : ℕ) (code : CheckCode) → IsCheckedOf doc d
+        → IsCheckFault doc line code → ⊥ }
+    ensures one_fault { (doc : Doc) (line other : ℕ) (code another : CheckCode)
+        → IsCheckFault doc line code → IsCheckFault doc other another
+        → (line ≡ other) × IsSameCode code another }
 {
     one_shape();
     one_shape_fault();

@@ -135,7 +135,7 @@ fn is_past_cost(task: &RawTask, part: &Part) -> bool
     matches!(part, Part::Read { at, .. } if task.cost <= *at)
 }
 
-/// The first fault of a line of the task's body, behind those before it.
+/// The first fault of a line of the task's body, after those before it.
 pub(crate) fn part_fault(
     body: &Body,
     task: &RawTask,
@@ -183,7 +183,7 @@ fn has_task(tasks: &[RawTask], name: &Name) -> bool
     task_index(tasks, name).is_some()
 }
 
-/// The fault of a declaration behind those before it.
+/// The fault of a declaration after those before it.
 #[tactic(auto, using(crate::proofs::NameTests::among_decls))]
 pub(crate) fn decl_fault(before: &[Decl], decl: &Decl) -> Option<LineFault>
     ensures { result ≡ decl_fault before.now decl.now }
@@ -204,7 +204,7 @@ fn is_unknown_clock(decls: &[Decl], clock: RawClock) -> bool
     }
 }
 
-/// The first fault of the line that begins a task, behind the tasks before it.
+/// The first fault of the line that begins a task, after the tasks before it.
 #[tactic(auto, using(crate::proofs::NameTests::among_both))]
 pub(crate) fn task_fault(body: &Body, before: &[RawTask], task: &RawTask) -> Option<LineFault>
     ensures { result ≡ task_fault body.now before.now task.now }

@@ -27,7 +27,9 @@ fn link_number(links: &[Link], link: &Link) -> u32
 /// The number of the link among these. A link that isn't there is added.
 pub(crate) fn number_of(links: &mut List<Link>, link: Link) -> Result<u32, NoMemory>
     requires { length links.old + 1 < 2 ^ 32 }
-    ensures added { OnOk result ((used : Items AnyLink) → links.old ≡ firsts used → links.new ≡ firsts (used ++ link ∷ [])) }
+    ensures added { OnOk result
+        ((used : Items AnyLink) → links.old ≡ firsts used
+        → links.new ≡ firsts (used ++ link ∷ [])) }
     ensures there { OnOk result (list_any (λ k. is_same_link k link) links.new ≡ true) }
     ensures number { IfOk result (λ number. number ≡ link_number links.new link) }
     ensures few { OnOk result (length links.new ≤ length links.old + 1) }

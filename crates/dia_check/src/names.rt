@@ -34,7 +34,7 @@ pub(crate) fn is_same_name(name: &Name, other: &Name) -> bool
     name == other
 }
 
-/// The place of the name, the first of them; behind all where it isn't among them.
+/// The place of the name, the first of them; after all where it isn't among them.
 pub(crate) fn index_of(names: &[Name], name: &Name) -> u32
     requires { length names.now < 2 ^ 32 }
     ensures { result ≡ index_of names.now name.now }

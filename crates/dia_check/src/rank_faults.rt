@@ -30,7 +30,8 @@ fn task_rank_fault(policy: Policy, task: &Task) -> Option<RankFault>
 /// The first fault of the tasks, whose lines have these numbers.
 fn tasks_rank_fault(policy: Policy, tasks: &[Task], lines: &[u32]) -> Option<(u32, RankFault)>
     requires { length tasks.now ≤ length lines.now }
-    ensures { result ≡ first_fault (faults_behind (λ before t. task_rank_fault policy t) [] tasks.now lines.now) }
+    ensures { result ≡ first_fault
+        (faults_behind (λ before t. task_rank_fault policy t) [] tasks.now lines.now) }
 {
     for (place, task) in tasks.iter().enumerate() {
         if let Some(fault) = task_rank_fault(policy, task) {

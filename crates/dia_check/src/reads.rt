@@ -92,14 +92,19 @@ pub(crate) fn reads_of(
     requires faultless { HasFaultlessParts body.now raw.now }
     requires lines { length raw.now.parts ≤ length lines.now }
     requires few { length raw.now.parts ≤ MAX_BODY }
-    requires links { found.old.links ≡ firsts (links_used body.now.tasks 0 (take reader body.now.tasks)) }
+    requires links { found.old.links
+        ≡ firsts (links_used body.now.tasks 0 (take reader body.now.tasks)) }
     requires links_room { length found.old.links + length raw.now.parts < 2 ^ 32 }
     requires lines_room { length found.old.lines + length raw.now.parts < 2 ^ 32 }
-    ensures reads { IfOk result (λ reads. reads ≡ flat_map (read_of body.now.tasks reader) raw.now.parts) }
-    ensures links { OnOk result (found.new.links ≡ firsts (links_used body.now.tasks 0 (take (reader + 1) body.now.tasks))) }
+    ensures reads { IfOk result
+        (λ reads. reads ≡ flat_map (read_of body.now.tasks reader) raw.now.parts) }
+    ensures links { OnOk result
+        (found.new.links ≡ firsts
+        (links_used body.now.tasks 0 (take (reader + 1) body.now.tasks))) }
     ensures lines { OnOk result (found.new.lines ≡ found.old.lines
         ++ body_read_lines body.now.tasks reader raw.now.parts lines.now) }
-    ensures few { OnOk result ((length found.new.links ≤ length found.old.links + length raw.now.parts)
+    ensures few { OnOk result ((length found.new.links
+        ≤ length found.old.links + length raw.now.parts)
         × (length found.new.lines ≤ length found.old.lines + length raw.now.parts)) }
 {
     let mut reads = List::new(alloc);

@@ -12,7 +12,7 @@ pub struct ReadLine {
 }
 
 /// The diagram of a document whose names and shape have no fault, still without ranks, and the lines that faults of
-/// ranks are told by.
+/// ranks are compared by.
 #[derive(Drop)]
 pub struct Shaped {
     /// Its `ranks` are empty.

@@ -124,7 +124,7 @@ fn shaped_of(alloc: Global, doc: &Doc) -> Result<Shaped, CheckFail>
 }
 
 /// The diagram that the document says, still without ranks. Its names are looked up where they are declared, before
-/// or behind their use; of two tasks with one name, which are refused at the second, a `read` means the first. A state
+/// or after their use; of two tasks with one name, which are refused at the second, a `read` means the first. A state
 /// without a `next` keeps its value.
 ///
 /// Refused is the first line with a fault, with the first of its faults in this order: `Duplicate`, `Unknown`,

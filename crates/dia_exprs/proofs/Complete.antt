@@ -32,7 +32,7 @@ strength (token.Symbol symbol.Slash) = 5
 strength (token.Symbol symbol.Percent) = 5
 strength _ = 0
 
--- the tightest operator that may come behind an expression of the level
+-- the tightest operator that may come after an expression of the level
 abbrev pub limit : Level → ℕ
 limit Whole = 0
 limit Disjunction = 1

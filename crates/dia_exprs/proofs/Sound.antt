@@ -45,7 +45,7 @@ pub cases : {A : Type 0} (o : Option A) → (o ≡ None) ⊎ ((x : A) × (o ≡ 
 cases None = inl refl
 cases (Some x) = inr (x, refl)
 
--- what was read of the tokens is spelled by those in front
+-- what was read of the tokens is spelled by those at the front
 pub record Reads (l : Level) (ts : List Token) (p : Place) : Type 0 where
   pub front : List Token
   pub parts : ts ≡ front ++ p.1

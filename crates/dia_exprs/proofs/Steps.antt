@@ -125,7 +125,7 @@ pub refused : (r s : Readers) (ts us : List Token) (e : ExpressionFail) → (Say
 refused r s ts us NoMemory f h = tt
 refused r s ts us NoExpression f h = f h
 
--- ---- what stands in front
+-- ---- what stands at the front
 
 module _ {O : Type 0} where
   abbrev behind : O → List Token → Option (O × List Token)
@@ -137,7 +137,7 @@ module _ {O : Type 0} where
   pair_is : (p q : O × List Token) → pair p ≡ pair q → p ≡ q
   pair_is p q e = cc
 
-  -- a token with this meaning stands in front
+  -- a token with this meaning stands at the front
   pub in_front : (m : Token → Option O) (t : Token) (ts : List Token) (o : O) (after : List Token) → (m t >>= λ o. behind o ts) ≡ behind o after → (m t ≡ Some o) × (ts ≡ after)
   in_front m t ts o after e =
       let b = bind_some (m t) (λ o. behind o ts) (o, after) e in
@@ -174,7 +174,7 @@ reader-joined Sum j n ts = refl
 reader-joined Product j n ts = refl
 reader-joined _ j n ts = absurd j
 
--- the tokens read so far give the expression, and reading goes on behind it
+-- the tokens read so far give the expression, and reading goes on after it
 abbrev pub GoesOn : Level → List Token → Expression → List Token → Type 0
 GoesOn l ts x rest = (n : ℕ) → length ts ≤ n → (k : ℕ) × (length rest ≤ k) × (reader n l ts ≡ more l (reader n (tighter l)) k x rest)
 
@@ -316,7 +316,7 @@ choosing-refused ts after e at = refused of_choice (of_level Whole) after ts e (
 pub choosing-read : (nodes out : Nodes) (ts after rest : List Token) → Some after ≡ if_at ts → HasRead of_choice nodes after out rest → HasRead (of_level Whole) nodes ts out rest
 choosing-read nodes out ts after rest at r = (r.0, r.1, choosing ts after (Some (r.0, rest)) at r.2)
 
--- ---- what stands behind `if`
+-- ---- what stands after `if`
 
 abbrev W : Readers
 W = of_level Whole

@@ -18,7 +18,7 @@ has_node _ = true
 abbrev pub node_count : List Token → ℕ
 node_count ts = length (filter has_node ts)
 
--- how many parentheses are open behind the token, where so many are open before it: one that closes none stays without effect
+-- how many parentheses are open after the token, where so many are open before it: one that closes none stays without effect
 abbrev pub opened : ℕ → Token → ℕ
 opened open_now (token.Symbol symbol.Open) = open_now + 1
 opened open_now (token.Symbol symbol.Close) = open_now - 1

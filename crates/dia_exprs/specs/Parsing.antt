@@ -19,7 +19,7 @@ Readers = ℕ → Reader
 abbrev pub of_level : Level → Readers
 of_level l n = reader n l
 
--- what stands behind a parenthesis that opens, behind `min` or `max`, and behind `if`
+-- what stands after a parenthesis that opens, after `min` or `max`, and after `if`
 abbrev pub of_inside : Readers
 of_inside n = inside_at (reader n Whole)
 
@@ -33,11 +33,11 @@ of_choice n = choice_at (reader n Whole)
 abbrev pub Says : Readers → List Token → Option Place → Type 0
 Says r ts p = (n : ℕ) → length ts ≤ n → r n ts ≡ p
 
--- An expression is read in front of the tokens, and the nodes are then these with the expression's behind them.
+-- An expression is read at the front of the tokens, and the nodes are then these with the expression's after them.
 abbrev pub HasRead : Readers → List (Node (List ℕ)) → List Token → List (Node (List ℕ)) → List Token → Type 0
 HasRead r nodes ts grown rest = (x : Expression) × (grown ≡ nodes ++ nodes_of (length nodes) x) × Says r ts (Some (x, rest))
 
--- No expression is read in front of the tokens. Where memory ran out nothing is said.
+-- No expression is read at the front of the tokens. Where memory ran out nothing is said.
 abbrev pub HasNone : Readers → List Token → ExpressionFail → Type 0
 HasNone r ts NoMemory = Unit {0}
 HasNone r ts NoExpression = Says r ts None
@@ -50,17 +50,17 @@ IsJoined Sum = Unit {0}
 IsJoined Product = Unit {0}
 IsJoined _ = ⊥
 
--- the operator of the level in front, and the tokens behind it
+-- the operator of the level at the front, and the tokens after it
 abbrev pub operator_at : Level → List Token → Option (BinOp × List Token)
 operator_at l [] = None
 operator_at l (t ∷ ts) = operator l t >>= λ o. Some (o, ts)
 
--- the comparison in front, and the tokens behind it
+-- the comparison at the front, and the tokens after it
 abbrev pub comparison_at : List Token → Option (BinOp × List Token)
 comparison_at [] = None
 comparison_at (t ∷ ts) = comparison t >>= λ o. Some (o, ts)
 
--- the prefix in front, and the tokens behind it
+-- the prefix at the front, and the tokens after it
 abbrev pub prefix_at : List Token → Option (UnOp × List Token)
 prefix_at [] = None
 prefix_at (t ∷ ts) = prefix t >>= λ o. Some (o, ts)

@@ -1,4 +1,4 @@
--- Reading an expression from left to right: the expression in front of the tokens, and the tokens behind it.
+-- Reading an expression from left to right: the expression at the front of the tokens, and the tokens after it.
 use Rattle.std.specs.Prelude.{ℕ, zero, suc, List, [], ◌∷◌, length, Option, Some, None}
 use Rattle.dbp_plan.specs.declared.node.BinOp.{BinOp}
 use Rattle.dbp_plan.specs.Tree.{number, variable, unary, binary, choice}
@@ -21,7 +21,7 @@ Place = Expression × List Token
 abbrev pub Reader : Type 0
 Reader = List Token → Option Place
 
--- the tokens behind a mark
+-- the tokens after a mark
 abbrev pub if_at : List Token → Option (List Token)
 if_at (token.Word word.If ∷ ts) = Some ts
 if_at _ = None
@@ -79,7 +79,7 @@ prefixed_at operand (t ∷ ts) =
       | Some o ↦ prefixed_at operand ts >>= λ p. Some (unary o p.0, p.1)
     ]
 
--- what stands behind a parenthesis that opens
+-- what stands after a parenthesis that opens
 unfoldable pub inside_at : Reader → Reader
 inside_at whole ts = whole ts >>= λ p. close_at p.1 >>= λ rest. Some (p.0, rest)
 
@@ -123,7 +123,7 @@ conjunction_in whole = level_at Conjunction (comparison_in whole)
 abbrev pub disjunction_in : Reader → Reader
 disjunction_in whole = level_at Disjunction (conjunction_in whole)
 
--- what stands behind `if`
+-- what stands after `if`
 unfoldable pub choice_at : Reader → Reader
 choice_at whole ts = do
   c ← whole ts

@@ -40,7 +40,7 @@ fn has_node(token: Token) -> bool
     )
 }
 
-// How many are open behind the token.
+// How many are open after the token.
 fn opened(before: usize, token: Token) -> usize
     requires { before + 1 < 2 ^ 64 }
     ensures { result ≡ opened_by before token }

@@ -1,5 +1,5 @@
-// Reading from left to right. Each function reads an expression in front of the tokens, adds its nodes, and gives
-// the tokens behind it.
+// Reading from left to right. Each function reads an expression at the front of the tokens, adds its nodes, and gives
+// the tokens after it.
 
 ghost use Rattle.std.specs.Prelude.{◌≡◌, ◌+◌, ◌<◌, ◌≤◌, length, IfOk, IfErr};
 ghost use Rattle.dbp_plan.specs.declared.limits.TheConstants.{MAX_NODES};
@@ -23,9 +23,11 @@ fn at_level<'t>(
     tokens: &'t [Token],
 ) -> Result<&'t [Token], ExpressionFail>
     requires { length out.old + node_count tokens.now ≤ MAX_NODES }
-    ensures found { IfOk result (λ rest. HasRead (of_level level) out.old tokens.now out.new rest.now) }
+    ensures found { IfOk result
+        (λ rest. HasRead (of_level level) out.old tokens.now out.new rest.now) }
     ensures none { IfErr result (λ e. HasNone (of_level level) tokens.now e) }
-    ensures fits { IfOk result (λ rest. length out.new + node_count rest.now ≤ length out.old + node_count tokens.now) }
+    ensures fits { IfOk result
+        (λ rest. length out.new + node_count rest.now ≤ length out.old + node_count tokens.now) }
     ensures grows { IfOk result (λ _. length out.old < length out.new) }
     ensures shorter { IfOk result (λ rest. length rest.now < length tokens.now) }
 {
@@ -47,9 +49,11 @@ pub(crate) fn whole<'t>(
     tokens: &'t [Token],
 ) -> Result<&'t [Token], ExpressionFail>
     requires { length out.old + node_count tokens.now ≤ MAX_NODES }
-    ensures found { IfOk result (λ rest. HasRead (of_level Whole) out.old tokens.now out.new rest.now) }
+    ensures found { IfOk result
+        (λ rest. HasRead (of_level Whole) out.old tokens.now out.new rest.now) }
     ensures none { IfErr result (λ e. HasNone (of_level Whole) tokens.now e) }
-    ensures fits { IfOk result (λ rest. length out.new + node_count rest.now ≤ length out.old + node_count tokens.now) }
+    ensures fits { IfOk result
+        (λ rest. length out.new + node_count rest.now ≤ length out.old + node_count tokens.now) }
     ensures grows { IfOk result (λ _. length out.old < length out.new) }
     ensures shorter { IfOk result (λ rest. length rest.now < length tokens.now) }
 {
@@ -59,7 +63,7 @@ pub(crate) fn whole<'t>(
     }
 }
 
-/// What stands behind `if`.
+/// What stands after `if`.
 #[cycle(expression)]
 fn choice<'t>(
     out: &mut List<Node<Name>>,
@@ -68,7 +72,9 @@ fn choice<'t>(
     requires { length out.old + node_count tokens.now + 1 ≤ MAX_NODES }
     ensures found { IfOk result (λ rest. HasRead of_choice out.old tokens.now out.new rest.now) }
     ensures none { IfErr result (λ e. HasNone of_choice tokens.now e) }
-    ensures fits { IfOk result (λ rest. length out.new + node_count rest.now ≤ length out.old + node_count tokens.now + 1) }
+    ensures fits { IfOk result
+        (λ rest. length out.new + node_count rest.now
+        ≤ length out.old + node_count tokens.now + 1) }
     ensures grows { IfOk result (λ _. length out.old < length out.new) }
     ensures shorter { IfOk result (λ rest. length rest.now < length tokens.now) }
 {
@@ -97,9 +103,11 @@ fn joined<'t>(
 ) -> Result<&'t [Token], ExpressionFail>
     requires joined { IsJoined level }
     requires few { length out.old + node_count tokens.now ≤ MAX_NODES }
-    ensures found { IfOk result (λ rest. HasRead (of_level level) out.old tokens.now out.new rest.now) }
+    ensures found { IfOk result
+        (λ rest. HasRead (of_level level) out.old tokens.now out.new rest.now) }
     ensures none { IfErr result (λ e. HasNone (of_level level) tokens.now e) }
-    ensures fits { IfOk result (λ rest. length out.new + node_count rest.now ≤ length out.old + node_count tokens.now) }
+    ensures fits { IfOk result
+        (λ rest. length out.new + node_count rest.now ≤ length out.old + node_count tokens.now) }
     ensures grows { IfOk result (λ _. length out.old < length out.new) }
     ensures shorter { IfOk result (λ rest. length rest.now < length tokens.now) }
 {
@@ -120,9 +128,11 @@ fn compared<'t>(
     tokens: &'t [Token],
 ) -> Result<&'t [Token], ExpressionFail>
     requires { length out.old + node_count tokens.now ≤ MAX_NODES }
-    ensures found { IfOk result (λ rest. HasRead (of_level Comparison) out.old tokens.now out.new rest.now) }
+    ensures found { IfOk result
+        (λ rest. HasRead (of_level Comparison) out.old tokens.now out.new rest.now) }
     ensures none { IfErr result (λ e. HasNone (of_level Comparison) tokens.now e) }
-    ensures fits { IfOk result (λ rest. length out.new + node_count rest.now ≤ length out.old + node_count tokens.now) }
+    ensures fits { IfOk result
+        (λ rest. length out.new + node_count rest.now ≤ length out.old + node_count tokens.now) }
     ensures grows { IfOk result (λ _. length out.old < length out.new) }
     ensures shorter { IfOk result (λ rest. length rest.now < length tokens.now) }
 {
@@ -144,9 +154,11 @@ fn prefixed<'t>(
     tokens: &'t [Token],
 ) -> Result<&'t [Token], ExpressionFail>
     requires { length out.old + node_count tokens.now ≤ MAX_NODES }
-    ensures found { IfOk result (λ rest. HasRead (of_level Prefixed) out.old tokens.now out.new rest.now) }
+    ensures found { IfOk result
+        (λ rest. HasRead (of_level Prefixed) out.old tokens.now out.new rest.now) }
     ensures none { IfErr result (λ e. HasNone (of_level Prefixed) tokens.now e) }
-    ensures fits { IfOk result (λ rest. length out.new + node_count rest.now ≤ length out.old + node_count tokens.now) }
+    ensures fits { IfOk result
+        (λ rest. length out.new + node_count rest.now ≤ length out.old + node_count tokens.now) }
     ensures grows { IfOk result (λ _. length out.old < length out.new) }
     ensures shorter { IfOk result (λ rest. length rest.now < length tokens.now) }
 {
@@ -166,9 +178,11 @@ fn factor<'t>(
     tokens: &'t [Token],
 ) -> Result<&'t [Token], ExpressionFail>
     requires { length out.old + node_count tokens.now ≤ MAX_NODES }
-    ensures found { IfOk result (λ rest. HasRead (of_level Factor) out.old tokens.now out.new rest.now) }
+    ensures found { IfOk result
+        (λ rest. HasRead (of_level Factor) out.old tokens.now out.new rest.now) }
     ensures none { IfErr result (λ e. HasNone (of_level Factor) tokens.now e) }
-    ensures fits { IfOk result (λ rest. length out.new + node_count rest.now ≤ length out.old + node_count tokens.now) }
+    ensures fits { IfOk result
+        (λ rest. length out.new + node_count rest.now ≤ length out.old + node_count tokens.now) }
     ensures grows { IfOk result (λ _. length out.old < length out.new) }
     ensures shorter { IfOk result (λ rest. length rest.now < length tokens.now) }
 {
@@ -195,7 +209,7 @@ fn factor<'t>(
     }
 }
 
-/// What stands behind a parenthesis that opens.
+/// What stands after a parenthesis that opens.
 #[cycle(expression)]
 fn inside<'t>(
     out: &mut List<Node<Name>>,
@@ -204,7 +218,8 @@ fn inside<'t>(
     requires { length out.old + node_count tokens.now ≤ MAX_NODES }
     ensures found { IfOk result (λ rest. HasRead of_inside out.old tokens.now out.new rest.now) }
     ensures none { IfErr result (λ e. HasNone of_inside tokens.now e) }
-    ensures fits { IfOk result (λ rest. length out.new + node_count rest.now ≤ length out.old + node_count tokens.now) }
+    ensures fits { IfOk result
+        (λ rest. length out.new + node_count rest.now ≤ length out.old + node_count tokens.now) }
     ensures grows { IfOk result (λ _. length out.old < length out.new) }
     ensures shorter { IfOk result (λ rest. length rest.now < length tokens.now) }
 {
@@ -225,7 +240,9 @@ fn call<'t>(
     requires { length out.old + node_count tokens.now + 1 ≤ MAX_NODES }
     ensures found { IfOk result (λ rest. HasRead (of_call op) out.old tokens.now out.new rest.now) }
     ensures none { IfErr result (λ e. HasNone (of_call op) tokens.now e) }
-    ensures fits { IfOk result (λ rest. length out.new + node_count rest.now ≤ length out.old + node_count tokens.now + 1) }
+    ensures fits { IfOk result
+        (λ rest. length out.new + node_count rest.now
+        ≤ length out.old + node_count tokens.now + 1) }
     ensures grows { IfOk result (λ _. length out.old < length out.new) }
     ensures shorter { IfOk result (λ rest. length rest.now < length tokens.now) }
 {

@@ -1,4 +1,4 @@
-// The tokens that are operators or marks, and what stands behind them.
+// The tokens that are operators or marks, and what stands after them.
 
 ghost use Rattle.std.specs.Prelude.{◌≡◌, ◌+◌, [], ◌∷◌, IfSome, IsNone, length};
 ghost use Rattle.std.specs.Option.{option_map};
@@ -75,7 +75,7 @@ pub(crate) fn called(token: Token) -> Option<BinOp>
     }
 }
 
-/// The operator of the level in front, and the tokens behind it.
+/// The operator of the level at the front, and the tokens after it.
 pub(crate) fn split_operator(level: Level, tokens: &[Token]) -> Option<(BinOp, &[Token])>
     ensures value { option_map (λ x. (x.0, x.1.now)) result ≡ operator_at level tokens.now }
     ensures shorter { IfSome result (λ x. length x.1.now + 1 ≡ length tokens.now) }
@@ -90,7 +90,7 @@ pub(crate) fn split_operator(level: Level, tokens: &[Token]) -> Option<(BinOp, &
     }
 }
 
-/// The comparison in front, and the tokens behind it.
+/// The comparison at the front, and the tokens after it.
 pub(crate) fn split_comparison(tokens: &[Token]) -> Option<(BinOp, &[Token])>
     ensures value { option_map (λ x. (x.0, x.1.now)) result ≡ comparison_at tokens.now }
     ensures shorter { IfSome result (λ x. length x.1.now + 1 ≡ length tokens.now) }
@@ -105,7 +105,7 @@ pub(crate) fn split_comparison(tokens: &[Token]) -> Option<(BinOp, &[Token])>
     }
 }
 
-/// The prefix in front, and the tokens behind it.
+/// The prefix at the front, and the tokens after it.
 pub(crate) fn split_prefix(tokens: &[Token]) -> Option<(UnOp, &[Token])>
     ensures value { option_map (λ x. (x.0, x.1.now)) result ≡ prefix_at tokens.now }
     ensures shorter { IfSome result (λ x. length x.1.now + 1 ≡ length tokens.now) }
@@ -120,7 +120,7 @@ pub(crate) fn split_prefix(tokens: &[Token]) -> Option<(UnOp, &[Token])>
     }
 }
 
-/// The tokens behind `then`.
+/// The tokens after `then`.
 pub(crate) fn split_then(tokens: &[Token]) -> Option<&[Token]>
     ensures value { option_map (λ rest. rest.now) result ≡ then_at tokens.now }
     ensures shorter { IfSome result (λ rest. length rest.now + 1 ≡ length tokens.now) }
@@ -132,7 +132,7 @@ pub(crate) fn split_then(tokens: &[Token]) -> Option<&[Token]>
     }
 }
 
-/// The tokens behind `else`.
+/// The tokens after `else`.
 pub(crate) fn split_else(tokens: &[Token]) -> Option<&[Token]>
     ensures value { option_map (λ rest. rest.now) result ≡ else_at tokens.now }
     ensures shorter { IfSome result (λ rest. length rest.now + 1 ≡ length tokens.now) }
@@ -144,7 +144,7 @@ pub(crate) fn split_else(tokens: &[Token]) -> Option<&[Token]>
     }
 }
 
-/// The tokens behind `(`.
+/// The tokens after `(`.
 pub(crate) fn split_open(tokens: &[Token]) -> Option<&[Token]>
     ensures value { option_map (λ rest. rest.now) result ≡ open_at tokens.now }
     ensures shorter { IfSome result (λ rest. length rest.now + 1 ≡ length tokens.now) }
@@ -156,7 +156,7 @@ pub(crate) fn split_open(tokens: &[Token]) -> Option<&[Token]>
     }
 }
 
-/// The tokens behind a comma.
+/// The tokens after a comma.
 pub(crate) fn split_comma(tokens: &[Token]) -> Option<&[Token]>
     ensures value { option_map (λ rest. rest.now) result ≡ comma_at tokens.now }
     ensures shorter { IfSome result (λ rest. length rest.now + 1 ≡ length tokens.now) }
@@ -168,7 +168,7 @@ pub(crate) fn split_comma(tokens: &[Token]) -> Option<&[Token]>
     }
 }
 
-/// The tokens behind `)`.
+/// The tokens after `)`.
 pub(crate) fn split_close(tokens: &[Token]) -> Option<&[Token]>
     ensures value { option_map (λ rest. rest.now) result ≡ close_at tokens.now }
     ensures shorter { IfSome result (λ rest. length rest.now + 1 ≡ length tokens.now) }
@@ -180,7 +180,7 @@ pub(crate) fn split_close(tokens: &[Token]) -> Option<&[Token]>
     }
 }
 
-/// The tokens behind `if`.
+/// The tokens after `if`.
 pub(crate) fn split_if(tokens: &[Token]) -> Option<&[Token]>
     ensures value { option_map (λ rest. rest.now) result ≡ if_at tokens.now }
     ensures shorter { IfSome result (λ rest. length rest.now + 1 ≡ length tokens.now) }
@@ -192,7 +192,7 @@ pub(crate) fn split_if(tokens: &[Token]) -> Option<&[Token]>
     }
 }
 
-/// The first token, and the tokens behind it.
+/// The first token, and the tokens after it.
 pub(crate) fn split_token(tokens: &[Token]) -> Option<(&Token, &[Token])>
     ensures some { IfSome result (λ x. tokens.now ≡ x.0.now ∷ x.1.now) }
     ensures none { IsNone result → tokens.now ≡ [] }

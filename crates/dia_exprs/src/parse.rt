@@ -31,7 +31,8 @@ pub fn expression(alloc: Global, tokens: &[Token]) -> Result<Expr<Name>, Express
 // The nodes of the expression that the tokens spell.
 fn nodes(alloc: Global, tokens: &[Token]) -> Result<List<Node<Name>>, ExpressionFail>
     requires { node_count tokens.now ≤ MAX_NODES }
-    ensures found { IfOk result (λ nodes. (t : Expression) × Spells Whole tokens.now t × (nodes ≡ nodes_of 0 t)) }
+    ensures found { IfOk result
+        (λ nodes. (t : Expression) × Spells Whole tokens.now t × (nodes ≡ nodes_of 0 t)) }
     ensures few { IfOk result (λ nodes. length nodes ≤ MAX_NODES) }
     ensures none { IfErr result (λ e. e ≡ NoExpression → SpellsNone tokens.now) }
 {

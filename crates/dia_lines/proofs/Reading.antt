@@ -19,7 +19,7 @@ use Rattle.dia_lines.specs.declared.fault.Limit.TheVariants.{Number}
 use Rattle.dia_lines.specs.declared.fault.LineError.{LineError}
 use Rattle.dia_lines.specs.declared.fault.LineError.TheVariants.{Refused, NoMemory}
 use Rattle.dia_lines.specs.declared.fault.ReadCode.{ReadCode}
-use Rattle.dia_lines.specs.declared.fault.ReadCode.TheVariants.{BadByte, BadLine, LimitHit}
+use Rattle.dia_lines.specs.declared.fault.ReadCode.TheVariants.{BadByte, BadToken, BadLine, LimitHit}
 use Rattle.dia_lines.specs.declared.place.Place.{Place}
 use Rattle.dia_lines.specs.declared.place.Place.TheVariants.{Trace, Script, Ended}
 use Rattle.dia_lines.specs.declared.position.Counts.{Counts}
@@ -48,6 +48,9 @@ text-error text text_fail.NoMemory r = tt
 
 pub byte-error : {A : Type 0} (r : Result A LineError) (fail : LineFail) (e : LineError) → r ≡ Err e → e ≡ error_of_text fail → fail ≡ text_fail.BadByte → r ≡ Err (Refused BadByte)
 byte-error r fail e is told same = is ∙ ap (λ (x : LineError). Err x) (told ∙ ap error_of_text same)
+
+pub token-error : {A : Type 0} (r : Result A LineError) (fail : LineFail) (e : LineError) → r ≡ Err e → e ≡ error_of_text fail → fail ≡ text_fail.BadToken → r ≡ Err (Refused BadToken)
+token-error r fail e is told same = is ∙ ap (λ (x : LineError). Err x) (told ∙ ap error_of_text same)
 
 pub expression-error : (ts : List Token) (fail : ExpressionFail) → (fail ≡ of_expression.NoExpression → SpellsNone ts) → RefusesExpression ts (error_of_expression fail)
 expression-error ts of_expression.NoExpression none = none refl

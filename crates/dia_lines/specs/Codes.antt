@@ -1,5 +1,6 @@
 -- The numbers and names of codes, and the words of limits.
 use Rattle.std.specs.Prelude.{ℕ, List, [], ◌++◌, codes}
+use Rattle.std.specs.Fmt.{decimal}
 use Rattle.dia_lines.specs.declared.fault.Limit.{Limit}
 use Rattle.dia_lines.specs.declared.fault.Limit.TheVariants.{Tasks, Reads, Links, Outs, Inputs, Events, Body, Nodes, Number}
 use Rattle.dia_lines.specs.declared.fault.ReadCode.{ReadCode}
@@ -46,6 +47,6 @@ abbrev pub limit_after : ReadCode → List ℕ
 limit_after (LimitHit limit) = codes " " ++ limit_word limit
 limit_after _ = []
 
--- the name of a code, with the word of the limit that is passed
+-- the number and the name of a code, with the word of the limit that is passed
 abbrev pub code_text : ReadCode → List ℕ
-code_text code = code_name code ++ limit_after code
+code_text code = decimal (code_number code) ++ codes " " ++ code_name code ++ limit_after code

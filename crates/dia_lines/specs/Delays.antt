@@ -10,7 +10,7 @@ pub data SpellsDelay : List Token → Option ℤ → Type 0 where
   delayed : SpellsDelay (Word Pre ∷ []) (Some (pos 1))
   delayed_by : (value : ℤ) → SpellsDelay (Word Pre ∷ Number value ∷ []) (Some value)
 
--- the delay in front, and the tokens after it
+-- the delay at the front, and the tokens after it
 abbrev pub delay_at : List Token → Option ℤ × List Token
 delay_at (Word Pre ∷ Number value ∷ ts) = (Some value, ts)
 delay_at (Word Pre ∷ ts) = (Some (pos 1), ts)

@@ -42,7 +42,7 @@ example_of (of_let name ts) = a_let name (number (pos 0))
 example_of (of_next name ts) = a_next name (number (pos 0))
 example_of (of_out name first ts) = out name first (number (pos 0))
 
--- ---- what stands in front, and the tokens after it
+-- ---- what stands at the front, and the tokens after it
 
 -- `NAME =`
 abbrev pub assigned_at : List Token → Option (List ℕ × List Token)

@@ -75,7 +75,8 @@ impl fmt::Display for Limit {
     }
 }
 
-/// The name of the code, with the limit's word after a passed limit.
+/// The number and the name of the code, with the limit's word after a passed limit, as a refusal has them after the number
+/// of its line.
 impl fmt::Display for ReadCode {
     ghost use Rattle.std.specs.Prelude.{Some};
     ghost use Rattle.dia_lines.specs.Codes.{code_text};
@@ -83,10 +84,9 @@ impl fmt::Display for ReadCode {
     ghost output = { λ code. Some (code_text code) };
 
     fn fmt<W: fmt::Write>(&self, f: &mut fmt::Formatter<W>) -> fmt::Result {
-        f.write_str(self.name())?;
+        write!(f, "{} {}", self.number(), self.name())?;
         if let ReadCode::LimitHit(limit) = *self {
-            f.write_str(" ")?;
-            f.write_str(limit.word())?;
+            write!(f, " {limit}")?;
         }
         Ok(())
     }

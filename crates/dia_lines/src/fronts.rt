@@ -1,4 +1,4 @@
-// What stands in front of tokens, and the tokens after it; or what all that is left is.
+// What stands at the front of tokens, and the tokens after it; or what all that is left is.
 
 ghost use Rattle.std.specs.Prelude.{◌≡◌};
 ghost use Rattle.std.specs.Option.{option_map};
@@ -10,7 +10,7 @@ use crate::form::ClockForm;
 use dbp_plan::Name;
 use dia_tokens::{Symbol, Token, Word};
 
-/// `NAME =` in front.
+/// `NAME =` at the front.
 pub(crate) fn assigned(tokens: &[Token]) -> Option<(Name, &[Token])>
     ensures { option_map (λ x. (x.0, x.1.now)) result ≡ assigned_at tokens.now }
 {
@@ -20,7 +20,7 @@ pub(crate) fn assigned(tokens: &[Token]) -> Option<(Name, &[Token])>
     }
 }
 
-/// `N then` in front.
+/// `N then` at the front.
 pub(crate) fn first_value(tokens: &[Token]) -> Option<(i64, &[Token])>
     ensures { option_map (λ x. (x.0, x.1.now)) result ≡ first_at tokens.now }
 {
@@ -30,7 +30,7 @@ pub(crate) fn first_value(tokens: &[Token]) -> Option<(i64, &[Token])>
     }
 }
 
-// `from N` in front, or 0.
+// `from N` at the front, or 0.
 fn offset(tokens: &[Token]) -> (i64, &[Token])
     ensures { (result.0, result.1.now) ≡ offset_at tokens.now }
 {
@@ -40,7 +40,7 @@ fn offset(tokens: &[Token]) -> (i64, &[Token])
     }
 }
 
-/// A task's clock in front.
+/// A task's clock at the front.
 pub(crate) fn clock(tokens: &[Token]) -> Option<(ClockForm, &[Token])>
     ensures { option_map (λ x. (clock_of x.0, x.1.now)) result ≡ clock_at tokens.now }
 {
@@ -54,7 +54,7 @@ pub(crate) fn clock(tokens: &[Token]) -> Option<(ClockForm, &[Token])>
     }
 }
 
-/// `prio N` in front, if it is.
+/// `prio N` at the front, if it is.
 pub(crate) fn prio(tokens: &[Token]) -> (Option<i64>, &[Token])
     ensures { (result.0, result.1.now) ≡ prio_at tokens.now }
 {
@@ -64,7 +64,7 @@ pub(crate) fn prio(tokens: &[Token]) -> (Option<i64>, &[Token])
     }
 }
 
-/// `deadline N` in front, if it is.
+/// `deadline N` at the front, if it is.
 pub(crate) fn deadline(tokens: &[Token]) -> (Option<i64>, &[Token])
     ensures { (result.0, result.1.now) ≡ deadline_at tokens.now }
 {
@@ -74,7 +74,7 @@ pub(crate) fn deadline(tokens: &[Token]) -> (Option<i64>, &[Token])
     }
 }
 
-/// `pre` or `pre K` in front, if it is: 1 or K. And the tokens after it.
+/// `pre` or `pre K` at the front, if it is: 1 or K. And the tokens after it.
 pub fn delay_at(tokens: &[Token]) -> (Option<i64>, &[Token])
     ensures { (result.0, result.1.now) ≡ delay_at tokens.now }
 {
@@ -85,7 +85,7 @@ pub fn delay_at(tokens: &[Token]) -> (Option<i64>, &[Token])
     }
 }
 
-/// `TASK.PORT` in front.
+/// `TASK.PORT` at the front.
 pub(crate) fn port(tokens: &[Token]) -> Option<(Name, Name, &[Token])>
     ensures { option_map (λ x. (x.0, x.1, x.2.now)) result ≡ port_at tokens.now }
 {

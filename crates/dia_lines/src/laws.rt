@@ -13,11 +13,14 @@ pub fn one_statement()
 
 /// After the same lines a line says one thing at most.
 pub fn one_reading()
-    ensures { (before : Items Said) (line : Items ℕ) (a b : Said) → Reads before line a → Reads before line b → a ≡ b }
+    ensures { (before : Items Said) (line : Items ℕ) (a b : Said) → Reads before line a
+        → Reads before line b → a ≡ b }
 {}
 
 /// After the same lines a line that says something has no fault, and one that says nothing has one first fault at most.
 pub fn one_line_fault()
-    ensures none { (before : Items Said) (line : Items ℕ) (a : Said) (code : Code) → Reads before line a → HasFault before line code → ⊥ }
-    ensures one { (before : Items Said) (line : Items ℕ) (c d : Code) → HasFault before line c → HasFault before line d → c ≡ d }
+    ensures none { (before : Items Said) (line : Items ℕ) (a : Said) (code : Code)
+        → Reads before line a → HasFault before line code → ⊥ }
+    ensures one { (before : Items Said) (line : Items ℕ) (c d : Code) → HasFault before line c
+        → HasFault before line d → c ≡ d }
 {}

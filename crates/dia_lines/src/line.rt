@@ -3,7 +3,7 @@
 ghost use Rattle.std.specs.Prelude.{◌≡◌, ◌≢◌, false, ◌∷◌, List, Err, IfOk, IfErr};
 ghost use Rattle.std.specs.List.{list_all};
 ghost use Rattle.dia_tokens.specs.Kinds.{is_allowed};
-ghost use Rattle.dia_tokens.specs.Line.{Spells as SpellsTokens};
+ghost use Rattle.dia_tokens.specs.Line.{Spells as SpellsTokens, HasBadStart};
 ghost use Rattle.dia_lines.specs.Answers.{Refuses, RefusesText, RefusesInDiagram, IsNextLine, RefusesAfter};
 ghost use Rattle.dia_lines.specs.Held.{IsHeld, IsKept};
 ghost use Rattle.dia_lines.specs.Lines.{Said, SaysStatement, SaysInScript, Reads, statements};
@@ -11,8 +11,8 @@ ghost use Rattle.dia_lines.specs.Moves.{place_behind_line};
 ghost use Rattle.dia_lines.specs.Positions.{AreCounts, IsBehind};
 ghost use Rattle.dia_lines.specs.Statements.{Statement};
 ghost use Rattle.dia_lines.specs.declared.fault.LineError.TheVariants.{Refused, NoMemory as OutOfMemory};
-ghost use Rattle.dia_lines.specs.declared.fault.ReadCode.TheVariants.{BadByte};
-ghost use Rattle.dia_lines.specs.declared.place.Place.TheVariants.{Trace};
+ghost use Rattle.dia_lines.specs.declared.fault.ReadCode.TheVariants.{BadByte, BadToken};
+ghost use Rattle.dia_lines.specs.declared.place.Place.TheVariants.{Script, Trace};
 
 use crate::before_form::token_code;
 use crate::statement::statement;
@@ -26,15 +26,20 @@ fn line_tokens(alloc: Global, line: &[u8]) -> Result<Vec<Token>, LineError>
     ensures found { IfOk result (λ ts. SpellsTokens line.now ts.items) }
     ensures fault { IfErr result (λ e. RefusesText line.now e) }
     ensures bad_byte { list_all is_allowed line.now ≡ false → result ≡ Err (Refused BadByte) }
+    ensures bad_token { HasBadStart line.now → result ≡ Err (Refused BadToken) }
 {
     Ok(tokens(alloc, line)?)
 }
 
 /// A line of the diagram, and the counts after it.
 fn diagram_line(alloc: Global, position: Position, line: &[u8]) -> Result<(Line, Counts), LineError>
-    ensures found { (before : List Said) → IsBehind before position → IfOk result (λ r. (s : Statement) × SaysStatement before line.now s × IsKept s r.0 × AreCounts (s ∷ statements before) r.1) }
-    ensures fault { (before : List Said) → IsBehind before position → IfErr result (λ e. RefusesInDiagram before line.now e) }
+    ensures found { (before : List Said) → IsBehind before position
+        → IfOk result (λ r. (s : Statement) × SaysStatement before line.now s × IsKept s r.0
+        × AreCounts (s ∷ statements before) r.1) }
+    ensures fault { (before : List Said) → IsBehind before position
+        → IfErr result (λ e. RefusesInDiagram before line.now e) }
     ensures bad_byte { list_all is_allowed line.now ≡ false → result ≡ Err (Refused BadByte) }
+    ensures bad_token { HasBadStart line.now → result ≡ Err (Refused BadToken) }
 {
     let tokens = line_tokens(alloc, line)?;
     let line = match token_code(position.place, &tokens) {
@@ -81,10 +86,15 @@ fn place_behind(place: Place, line: &Line) -> Place
 
 /// What the line says after those before it, and the counts after it.
 fn counted_line(alloc: Global, position: Position, line: &[u8]) -> Result<(Line, Counts), LineError>
-    ensures found { (before : List Said) → IsBehind before position → IfOk result (λ r. (said : Said) × Reads before line.now said × IsHeld said r.0 × AreCounts (statements (said ∷ before)) r.1) }
-    ensures fault { (before : List Said) → IsBehind before position → IfErr result (λ e. Refuses before line.now e) }
+    ensures found { (before : List Said) → IsBehind before position
+        → IfOk result (λ r. (said : Said) × Reads before line.now said × IsHeld said r.0
+        × AreCounts (statements (said ∷ before)) r.1) }
+    ensures fault { (before : List Said) → IsBehind before position
+        → IfErr result (λ e. Refuses before line.now e) }
     ensures memory { position.place ≡ Trace → IfErr result (λ e. e ≢ OutOfMemory) }
     ensures bad_byte { list_all is_allowed line.now ≡ false → result ≡ Err (Refused BadByte) }
+    ensures bad_token { position.place ≢ Trace → position.place ≢ Script → HasBadStart line.now
+        → result ≡ Err (Refused BadToken) }
 {
     match position.place {
         Place::Trace => match trace_line(line) {
@@ -110,6 +120,9 @@ pub fn read_line(
     ensures memory { position.place ≡ Trace → IfErr result (λ e. e ≢ OutOfMemory) }
     // A line with a byte that no section allows is refused before any memory is taken.
     ensures bad_byte { list_all is_allowed line.now ≡ false → result ≡ Err (Refused BadByte) }
+    // So is a line of the diagram that begins with a text that makes no token.
+    ensures bad_token { position.place ≢ Trace → position.place ≢ Script → HasBadStart line.now
+        → result ≡ Err (Refused BadToken) }
 {
     let (line, counts) = counted_line(alloc, position, line)?;
     let place = place_behind(position.place, &line);

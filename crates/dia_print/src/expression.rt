@@ -63,7 +63,8 @@ fn is_compound(node: &Node<Name>) -> bool
 #[cycle(tree)]
 fn push_tree(printer: &mut Printer, nodes: &[Node<Name>], place: u32) -> Result<(), NoMemory>
     requires { (x : Tree (Items ℕ)) × Stands nodes.now place x }
-    ensures { (x : Tree (Items ℕ)) → Stands nodes.now place x → OnOk result (printer.new ≡ with_tokens printer.old (tokens_of x)) }
+    ensures { (x : Tree (Items ℕ)) → Stands nodes.now place x
+        → OnOk result (printer.new ≡ with_tokens printer.old (tokens_of x)) }
 {
     let node = nodes[place as usize];
     match node {
@@ -89,7 +90,8 @@ fn push_tree(printer: &mut Printer, nodes: &[Node<Name>], place: u32) -> Result<
 #[cycle(tree)]
 fn push_operand(printer: &mut Printer, nodes: &[Node<Name>], place: u32) -> Result<(), NoMemory>
     requires { (x : Tree (Items ℕ)) × Stands nodes.now place x }
-    ensures { (x : Tree (Items ℕ)) → Stands nodes.now place x → OnOk result (printer.new ≡ with_tokens printer.old (operand_tokens x)) }
+    ensures { (x : Tree (Items ℕ)) → Stands nodes.now place x
+        → OnOk result (printer.new ≡ with_tokens printer.old (operand_tokens x)) }
 {
     if !is_compound(&nodes[place as usize]) {
         return push_tree(printer, nodes, place);
@@ -110,7 +112,9 @@ fn push_call(
 ) -> Result<(), NoMemory>
     requires left { (x : Tree (Items ℕ)) × Stands nodes.now left x }
     requires right { (y : Tree (Items ℕ)) × Stands nodes.now right y }
-    ensures { (x y : Tree (Items ℕ)) → Stands nodes.now left x → Stands nodes.now right y → OnOk result (printer.new ≡ with_tokens printer.old (call_tokens op (tokens_of x) (tokens_of y))) }
+    ensures { (x y : Tree (Items ℕ)) → Stands nodes.now left x → Stands nodes.now right y
+        → OnOk result (printer.new
+        ≡ with_tokens printer.old (call_tokens op (tokens_of x) (tokens_of y))) }
 {
     printer.push(operator_token(op))?;
     printer.push(Token::Symbol(Symbol::Open))?;
@@ -132,7 +136,8 @@ fn push_choice(
     requires condition { (c : Tree (Items ℕ)) × Stands nodes.now condition c }
     requires one { (x : Tree (Items ℕ)) × Stands nodes.now one x }
     requires other { (y : Tree (Items ℕ)) × Stands nodes.now other y }
-    ensures { (c x y : Tree (Items ℕ)) → Stands nodes.now condition c → Stands nodes.now one x → Stands nodes.now other y
+    ensures { (c x y : Tree (Items ℕ)) → Stands nodes.now condition c → Stands nodes.now one x
+        → Stands nodes.now other y
         → OnOk result (printer.new ≡ with_tokens printer.old (choice_tokens (operand_tokens c) (operand_tokens x) (operand_tokens y))) }
 {
     printer.push(Token::Word(Word::If))?;

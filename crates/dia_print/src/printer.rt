@@ -78,20 +78,24 @@ impl Printer {
     }
 
     fn push_text(&mut self, text: &[u8]) -> Result<(), NoMemory>
-        ensures { OnOk result (self.new ≡ record { text = self.old.text ++ text.now; edge = self.old.edge }) }
+        ensures { OnOk result (self.new
+            ≡ record { text = self.old.text ++ text.now; edge = self.old.edge }) }
     {
         self.text.extend_from_slice(text)?;
         Ok(())
     }
 
     fn push_number<N: Integer>(&mut self, number: N) -> Result<(), NoMemory>
-        ensures { OnOk result (self.new ≡ record { text = self.old.text ++ N.text number; edge = self.old.edge }) }
+        ensures { OnOk result (self.new
+            ≡ record { text = self.old.text ++ N.text number; edge = self.old.edge }) }
     {
         self.push_text(Buffer::new().format(number).as_bytes())
     }
 
     fn push_gap(&mut self, token: &Token) -> Result<(), NoMemory>
-        ensures { OnOk result (self.new ≡ record { text = self.old.text ++ gap self.old.edge token.now; edge = self.old.edge }) }
+        ensures { OnOk result (self.new
+            ≡ record { text = self.old.text
+            ++ gap self.old.edge token.now; edge = self.old.edge }) }
     {
         if is_apart(self.edge, token) {
             self.push_text(b" ")?;

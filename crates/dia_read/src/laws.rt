@@ -15,8 +15,10 @@ pub fn one_document()
 
 /// A text that spells a document has no fault, and any other has one first fault at most.
 pub fn one_first_fault()
-    ensures none { (bytes : Items ℕ) (d : Document) (line : ℕ) (code : Code) → Spells bytes d → IsFirstFault bytes line code → ⊥ }
-    ensures one { (bytes : Items ℕ) (k l : ℕ) (c d : Code) → IsFirstFault bytes k c → IsFirstFault bytes l d → (k ≡ l) × (c ≡ d) }
+    ensures none { (bytes : Items ℕ) (d : Document) (line : ℕ) (code : Code) → Spells bytes d
+        → IsFirstFault bytes line code → ⊥ }
+    ensures one { (bytes : Items ℕ) (k l : ℕ) (c d : Code) → IsFirstFault bytes k c
+        → IsFirstFault bytes l d → (k ≡ l) × (c ≡ d) }
 {}
 
 /// The canonical text of a body that can be printed spells a document with this body.
@@ -26,7 +28,8 @@ pub fn canonical_text_spells()
 
 /// The canonical text of a body that can be printed is its own canonical text.
 pub fn canonical_text_again()
-    ensures { (body : BodyPrinted) (d : Document) → IsPrintable body → Spells (canonical_text body) d → canonical_text d.body ≡ canonical_text body }
+    ensures { (body : BodyPrinted) (d : Document) → IsPrintable body
+        → Spells (canonical_text body) d → canonical_text d.body ≡ canonical_text body }
 {}
 
 /// A document that a text spells has a line of each of its items.

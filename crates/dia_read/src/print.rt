@@ -91,7 +91,8 @@ fn push_parts(printer: &mut Printer, parts: &List<Part>) -> Result<(), NoMemory>
 // The line that begins the task.
 fn push_task_line(printer: &mut Printer, task: &RawTask) -> Result<(), NoMemory>
     requires { printer.old.edge ≡ Tight }
-    ensures { OnOk result (printer.new ≡ with_bytes printer.old (line_of (task_tokens (first_line task.now)))) }
+    ensures { OnOk result (printer.new
+        ≡ with_bytes printer.old (line_of (task_tokens (first_line task.now)))) }
 {
     printer.push_task(task.first_line())?;
     printer.end_line()

@@ -84,14 +84,16 @@ pub fn read_doc(alloc: Global, bytes: &[u8]) -> Result<Doc, ReadFail>
     ensures printable { IfOk result (λ doc. IsPrintable doc.body) }
     ensures lines { IfOk result (λ doc. HasItemLines doc) }
     // The canonical text of a body that can be printed is read as a document with this body, unless memory runs out.
-    ensures again { (body : BodyRead) → IsPrintable body → bytes.now ≡ canonical_text body → HasBody body result }
+    ensures again { (body : BodyRead) → IsPrintable body → bytes.now ≡ canonical_text body
+        → HasBody body result }
     // A refusal says the text's first fault, unless memory ran out.
     ensures fault { IfErr result (λ e. Refuses bytes.now e) }
     // A text without any line with tokens is refused with its fault, whatever memory there is.
     ensures blank { (line : ℕ) (code : Code) → is_blank_text bytes.now ≡ true
         → IsFirstFault bytes.now line code → result ≡ Err (Refused line code) }
     // A text with a first fault is refused with it, unless memory runs out.
-    ensures refused { (line : ℕ) (code : Code) → IsFirstFault bytes.now line code → IsRefused (Refused line code) result }
+    ensures refused { (line : ℕ) (code : Code) → IsFirstFault bytes.now line code
+        → IsRefused (Refused line code) result }
 {
     read_text(alloc, bytes)
 }

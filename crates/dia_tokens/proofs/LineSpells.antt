@@ -37,7 +37,7 @@ record Breaks (rest : List ℕ) : Type 0 where
   numbers : Stops is_digit rest
   equals : Stops is_equals rest
 
--- what stands behind a token of the edge
+-- what stands after a token of the edge
 abbrev Ends : Edge → List ℕ → Type 0
 Ends Tight rest = Unit {0}
 Ends _ rest = Breaks rest
@@ -211,7 +211,7 @@ line-spells ts h k =
     let each = recursion_from_All IsPrintableToken ts h in
     record { texts = map piece_of ts; allowed = line-allowed Tight ts each; lexes = line-lexes true Tight ts each k; values = line-values ts each }
 
--- the same behind two spaces
+-- the same after two spaces
 pub indented-spells : (ts : List Token) → All IsPrintableToken ts → KeepsSigns true ts → Spells (32 ∷ 32 ∷ line_text ts) ts
 indented-spells ts h k =
     let s = line-spells ts h k in

@@ -61,9 +61,18 @@ pub record Reads (line : List ℕ) (ts : List Token) (fault : Option ValueFail) 
   pub texts : List Piece
   pub between : Between line texts signed rest
   pub tells : Tells texts ts fault
+  pub unread : token_at true line ≡ bad → (rest ≡ line) × (signed ≡ true)
 
 pub Reads-starts : (line : List ℕ) → Reads line [] None true line
-Reads-starts line = record { texts = []; between = Between-starts line; tells = none }
+Reads-starts line = record { texts = []; between = Between-starts line; tells = none; unread = λ b. (refl, refl) }
+
+-- a line whose first token was found doesn't begin with a text that makes none
+pub Reads-found : {line : List ℕ} {ts : List Token} {f : Option ValueFail} {signed : Bool} {rest : List ℕ} {p : Piece} {after : List ℕ} → Reads line ts f signed rest → found p after ≡ token_at signed rest
+    → token_at true line ≡ bad → ⊥
+Reads-found {line} {ts} {f} {signed} {rest} {p} {after} r e b =
+    let s = r.unread b in
+    let no : found p after ≡ bad = e ∙ rw (s.0, s.1) b in
+    cc
 
 pub Reads-value : {line : List ℕ} {ts : List Token} {f : Option ValueFail} {signed : Bool} {rest : List ℕ} {p : Piece} {after : List ℕ} {t : Token} → Reads line ts f signed rest → found p after ≡ token_at signed rest → HasValue p t
     → Reads line (ts ++ t ∷ []) f (signs p) after
@@ -71,6 +80,7 @@ Reads-value {line} {ts} {f} {signed} {rest} {p} {after} {t} r e v = record {
   texts = r.texts ++ p ∷ [];
   between = Between-found line r.texts signed rest p after r.between e;
   tells = Tells-value r.texts ts f p t r.tells v;
+  unread = λ b. absurd (Reads-found r e b);
 }
 
 pub Reads-fault : {line : List ℕ} {ts : List Token} {f : Option ValueFail} {signed : Bool} {rest : List ℕ} {p : Piece} {after : List ℕ} (x : ValueFail) → Reads line ts f signed rest → found p after ≡ token_at signed rest → FailsOn p x
@@ -79,6 +89,7 @@ Reads-fault {line} {ts} {f} {signed} {rest} {p} {after} x r e g = record {
   texts = r.texts ++ p ∷ [];
   between = Between-found line r.texts signed rest p after r.between e;
   tells = Tells-fault r.texts ts f p x r.tells g;
+  unread = λ b. absurd (Reads-found r e b);
 }
 
 pub Reads-bad : {line : List ℕ} {ts : List Token} {f : Option ValueFail} {signed : Bool} {rest : List ℕ} → Reads line ts f signed rest → bad ≡ token_at signed rest → list_all is_allowed line ≡ true → HasFault line BadToken

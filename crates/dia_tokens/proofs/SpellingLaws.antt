@@ -150,7 +150,7 @@ long-is b c short long e f = (symbol-says b (Pair short long) e).1 ∙ two b 61 
 
 -- ---- the tokens that are left
 
--- the texts of the tokens that are left, behind a space unless none was before them
+-- the texts of the tokens that are left, after a space unless none was before them
 abbrev pub left : Bool → List Piece → List ℕ
 left true ps = joined ps
 left false [] = []
@@ -358,7 +358,7 @@ left-next : (first : Bool) (p : Piece) (ps : List Piece) → left first (p ∷ p
 left-next true p ps = joined-next p ps
 left-next false p ps = ap (λ (text : List ℕ). 32 ∷ text) (joined-next p ps)
 
--- the token in front is the next of those that are left
+-- the token at the front is the next of those that are left
 pub Leaves-found : {line out : List ℕ} {first signed : Bool} {rest : List ℕ} {p : Piece} {after : List ℕ} → Leaves line out first signed rest → found p after ≡ token_at signed rest
     → Leaves line (out ++ spaced first p) false (signs p) after
 Leaves-found {line} {out} {first} {signed} {rest} {p} {after} l e = record {
@@ -372,7 +372,7 @@ left-none : (first : Bool) → left first [] ≡ []
 left-none true = refl
 left-none false = refl
 
--- where no token is in front
+-- where no token is at the front
 pub Leaves-ends : {line out : List ℕ} {first signed : Bool} {rest : List ℕ} → Leaves line out first signed rest → nothing ≡ token_at signed rest → (ps : List Piece) → Lexes true line ps → out ≡ joined ps
 Leaves-ends {line} {out} {first} {signed} {rest} l e ps d =
     let t = l.tokens ps d in

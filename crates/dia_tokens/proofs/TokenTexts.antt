@@ -28,7 +28,7 @@ use Rattle.dia_tokens.specs.TokenText.{piece_of, token_text}
 
 -- ---- names
 
--- a letter, with letters and digits behind it
+-- a letter, with letters and digits after it
 abbrev is_name_text : List ℕ → Bool
 is_name_text [] = false
 is_name_text (b ∷ bs) = nat_le 97 b && nat_le b 122 && list_all is_name bs

@@ -11,7 +11,7 @@ between low b high = nat_le low b && nat_le b high
 abbrev pub is_allowed : ℕ → Bool
 is_allowed b = between 32 b 126 || b == 9
 
--- the bytes that begin a symbol, but for `-` and `!`
+-- the bytes that begin a symbol, except for `-` and `!`
 unfoldable pub symbol_kind_of : ℕ → Kind
 symbol_kind_of b =
     if b == 61 then Pair Assign Equal else

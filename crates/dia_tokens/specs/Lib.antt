@@ -6,11 +6,11 @@ pub mod Lexes
 pub mod Line
 pub mod Pieces
 pub mod Printable
+pub mod Reading
 pub mod Spelling
 pub mod TokenText
 pub mod Values
 pub mod Words
 -- What private functions, the inside of types and proofs cite.
 pub mod Fronts
-pub mod Reading
 pub mod Shapes

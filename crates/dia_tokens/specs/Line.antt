@@ -7,6 +7,7 @@ use Rattle.dia_tokens.specs.declared.line.LineFail.TheVariants.{BadByte, BadToke
 use Rattle.dia_tokens.specs.Kinds.{is_allowed}
 use Rattle.dia_tokens.specs.Pieces.{Piece}
 use Rattle.dia_tokens.specs.Lexes.{Lexes}
+use Rattle.dia_tokens.specs.Reading.{bad, token_at}
 use Rattle.dia_tokens.specs.Values.{is_narrow, is_short, HaveValues}
 
 -- the line spells the tokens
@@ -24,6 +25,10 @@ pub data HasFault : List ℕ → LineFail → Type 0 where
       → list_all is_narrow ps ≡ false → HasFault line NumberTooWide
   a_long_name : (line : List ℕ) (ps : List Piece) → list_all is_allowed line ≡ true → Lexes true line ps
       → list_all is_narrow ps ≡ true → list_all is_short ps ≡ false → HasFault line NameTooLong
+
+-- the line begins with a text that makes no token
+abbrev pub HasBadStart : List ℕ → Type 0
+HasBadStart line = (list_all is_allowed line ≡ true) × (token_at true line ≡ bad)
 
 -- what holds where a line was refused: where memory ran out nothing is said
 abbrev pub Refuses : List ℕ → LineFail → Type 0

@@ -1,4 +1,4 @@
--- The token in front of a line.
+-- The token at the front of a line.
 use Rattle.std.specs.Prelude.{ℕ, ◌+◌, Bool, false, List, [], ◌∷◌, take, drop, ◌&&◌, if◌then◌else◌}
 use Rattle.std.specs.List.{prefix_len}
 use Rattle.dia_tokens.specs.declared.token.Symbol.TheVariants.{Unequal, Minus}
@@ -8,7 +8,7 @@ use Rattle.dia_tokens.specs.Kinds.{kind_of, is_name, is_digit, is_blank, is_equa
 use Rattle.dia_tokens.specs.Pieces.{Piece, number, symbol}
 use Rattle.dia_tokens.specs.Words.{word_of}
 
--- what stands in front
+-- what stands at the front
 pub data Front : Type 0 where
   nothing : Front
   bad : Front
@@ -21,7 +21,7 @@ begins p (b ∷ bs) = p b
 abbrev pub name_in : List ℕ → Front
 name_in line = found (word_of (take (prefix_len is_name line) line)) (drop (prefix_len is_name line) line)
 
--- a number behind so many bytes of sign
+-- a number after so many bytes of sign
 abbrev pub number_in : ℕ → List ℕ → Front
 number_in sign line =
     let n = sign + prefix_len is_digit (drop sign line) in
@@ -38,7 +38,7 @@ front_of signed (Pair short long) line = if begins is_equals (drop 1 line) then 
 front_of signed (Plain x) line = found (symbol x) (drop 1 line)
 front_of signed _ line = bad
 
--- where no blank is in front
+-- where no blank is at the front
 abbrev pub token_in : Bool → List ℕ → Front
 token_in signed [] = nothing
 token_in signed (b ∷ bs) = front_of signed (kind_of b) (b ∷ bs)

@@ -10,11 +10,11 @@ use Rattle.dia_tokens.specs.Lexes.{Passes}
 use Rattle.dia_tokens.specs.Pieces.{Piece, name, number}
 use Rattle.dia_tokens.specs.Values.{is_narrow, is_short}
 
--- a letter, with letters and digits behind it
+-- a letter, with letters and digits after it
 pub data IsNameText : List ℕ → Type 0 where
   letters : (b : ℕ) (text : List ℕ) → kind_of b ≡ Letter → Passes is_name text → IsNameText (b ∷ text)
 
--- digits, with a `-` in front or without
+-- digits, with a `-` at the front or without
 pub data IsNumberText : List ℕ → Type 0 where
   plain : (b : ℕ) (text : List ℕ) → kind_of b ≡ Digit → Passes is_digit text → IsNumberText (b ∷ text)
   negative : (dash b : ℕ) (text : List ℕ) → kind_of dash ≡ Dash → kind_of b ≡ Digit → Passes is_digit text → IsNumberText (dash ∷ b ∷ text)

@@ -30,7 +30,7 @@ text_of (name text) = text
 text_of (number text) = text
 text_of (symbol s) = symbol_text s
 
--- the token's text, behind a space unless it is the first
+-- the token's text, after a space unless it is the first
 abbrev pub spaced : Bool → Piece → List ℕ
 spaced true p = text_of p
 spaced false p = 32 ∷ text_of p

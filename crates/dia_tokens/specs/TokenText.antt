@@ -20,7 +20,7 @@ piece_of (Symbol s) = symbol s
 abbrev pub token_text : Token → List ℕ
 token_text t = text_of (piece_of t)
 
--- what a line that ends with the token is like: no space stands behind `(` and the point, and none between `min` or `max` and its `(`
+-- what a line that ends with the token is like: no space stands after `(` and the point, and none between `min` or `max` and its `(`
 abbrev pub edge_of : Token → Edge
 edge_of (Symbol Open) = Tight
 edge_of (Symbol Point) = Tight
@@ -48,7 +48,7 @@ is_apart Loose t = if clings t then false else true
 abbrev pub gap : Edge → Token → List ℕ
 gap edge t = if is_apart edge t then 32 ∷ [] else []
 
--- the tokens behind a line's end: one space stands between two, but for these exceptions
+-- the tokens after a line's end: one space stands between two, with these exceptions
 abbrev pub text_behind : Edge → List Token → List ℕ
 text_behind edge [] = []
 text_behind edge (t ∷ ts) = gap edge t ++ token_text t ++ text_behind (edge_of t) ts

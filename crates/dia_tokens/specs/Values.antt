@@ -7,7 +7,7 @@ use Rattle.dia_tokens.specs.declared.token.Token.{Token}
 use Rattle.dia_tokens.specs.declared.token.Token.TheVariants as value
 use Rattle.dia_tokens.specs.Pieces.{Piece, word, name, number, symbol}
 
--- the number that decimal digits make, behind the number so far
+-- the number that decimal digits make, after the number so far
 abbrev pub digits_behind : ℕ → List ℕ → ℕ
 digits_behind n [] = n
 digits_behind n (d ∷ ds) = digits_behind (n * 10 + (d - 48)) ds
@@ -20,7 +20,7 @@ digits_value ds = digits_behind 0 ds
 abbrev pub is_negative : List ℕ → Bool
 is_negative text = get_or text 0 0 == 45
 
--- the number that a text of digits makes, with a `-` in front or without
+-- the number that a text of digits makes, with a `-` at the front or without
 abbrev pub number_of : List ℕ → ℤ
 number_of text = if is_negative text then neg_ℤ (pos (digits_value (drop 1 text))) else pos (digits_value text)
 

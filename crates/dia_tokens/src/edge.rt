@@ -1,10 +1,10 @@
 /// How the end of a line stands to the next token.
 #[derive(Clone, Copy, Debug, PartialEq, Eq)]
 pub enum Edge {
-    /// No space stands behind it: the line is empty, or ends with `(` or the point.
+    /// No space stands after it: the line is empty, or ends with `(` or the point.
     Tight,
     /// It ends with `min` or `max`: no space stands before a `(`.
     Call,
-    /// A space stands behind it, but for tokens that cling to the one before them.
+    /// A space stands after it, except for tokens that cling to the one before them.
     Loose,
 }

@@ -20,7 +20,8 @@ pub fn one_list()
 
 /// A line with tokens has no fault, and one without has one first fault at most.
 pub fn one_fault()
-    ensures none { (line : Items ℕ) (ts : Items Spelled) (f : Fault) → Spells line ts → HasFault line f → ⊥ }
+    ensures none { (line : Items ℕ) (ts : Items Spelled) (f : Fault) → Spells line ts
+        → HasFault line f → ⊥ }
     ensures one { (line : Items ℕ) (f g : Fault) → HasFault line f → HasFault line g → f ≡ g }
 {}
 
@@ -31,7 +32,8 @@ pub fn one_spelling()
 
 /// The spelling of a line has the line's tokens, and is its own spelling.
 pub fn spelled_again()
-    ensures tokens { (line : Items ℕ) (ps : Items Text) → Lexes true line ps → Lexes true (joined ps) ps }
+    ensures tokens { (line : Items ℕ) (ps : Items Text) → Lexes true line ps
+        → Lexes true (joined ps) ps }
     ensures again { (line text : Items ℕ) → IsSpelling line text → IsSpelling text text }
 {}
 
@@ -41,7 +43,8 @@ pub fn read_word()
 {}
 
 /// The line of tokens spells these tokens, where each can be printed and negative numbers stand where a `-` belongs to
-/// the number behind it.
+/// the number after it.
 pub fn line_spells()
-    ensures { (ts : Items Spelled) → All IsPrintableToken ts → KeepsSigns true ts → Spells (line_text ts) ts }
+    ensures { (ts : Items Spelled) → All IsPrintableToken ts → KeepsSigns true ts
+        → Spells (line_text ts) ts }
 {}

@@ -13,7 +13,7 @@ use crate::kind::{Kind, kind_at};
 use crate::piece::Piece;
 use crate::reserved::word_or_name;
 
-/// What stands in front of a line.
+/// What stands at the front of a line.
 #[derive(Clone, Copy)]
 pub(crate) enum Front<'a> {
     Nothing,
@@ -63,7 +63,7 @@ fn blank_len(line: &[u8]) -> usize
     line.iter().take_while(|byte| is_blank_byte(**byte)).count()
 }
 
-/// The name or the reserved word in front.
+/// The name or the reserved word at the front.
 fn name_token<'a>(line: &'a [u8]) -> Front<'a>
     ensures { front result ≡ name_in line.now }
 {
@@ -72,7 +72,7 @@ fn name_token<'a>(line: &'a [u8]) -> Front<'a>
     Front::Found(word_or_name(text), rest)
 }
 
-/// The number in front, behind so many bytes of sign.
+/// The number at the front, after so many bytes of sign.
 fn number_token<'a>(sign: usize, line: &'a [u8]) -> Front<'a>
     requires { sign ≤ length line.now }
     ensures { front result ≡ number_in sign line.now }
@@ -148,7 +148,7 @@ fn token_of_kind<'a>(signed: bool, kind: Kind, line: &'a [u8]) -> Front<'a>
     }
 }
 
-/// The first token, behind the blanks.
+/// The first token, after the blanks.
 #[tactic(auto, unfolding(crate::specs::Reading::token_at))]
 pub(crate) fn next_token<'a>(signed: bool, line: &'a [u8]) -> Front<'a>
     ensures { front result ≡ token_at signed line.now }

@@ -3,9 +3,9 @@
 ghost use Rattle.std.specs.Prelude.{◌≡◌, ◌⊎◌, false, List, Err, IfOk, IfErr, MatchResult};
 ghost use Rattle.std.specs.List.{list_all};
 ghost use Rattle.dia_tokens.specs.Kinds.{is_allowed};
-ghost use Rattle.dia_tokens.specs.Line.{Spells, HasFault, Refuses};
+ghost use Rattle.dia_tokens.specs.Line.{Spells, HasBadStart, HasFault, Refuses};
 ghost use Rattle.dia_tokens.specs.declared.line.LineFail.{LineFail as Fault};
-ghost use Rattle.dia_tokens.specs.declared.line.LineFail.TheVariants.{BadByte, NoMemory as OutOfMemory};
+ghost use Rattle.dia_tokens.specs.declared.line.LineFail.TheVariants.{BadByte, BadToken, NoMemory as OutOfMemory};
 ghost use Rattle.dia_tokens.specs.declared.token.Token.{Token as Spelled};
 
 use crate::Token;
@@ -71,6 +71,7 @@ fn read(alloc: Global, line: &[u8]) -> Result<Vec<Token>, LineFail>
     ensures found { IfOk result (λ ts. Spells line.now ts.items) }
     ensures fault { IfErr result (λ e. Refuses line.now e) }
     ensures bad_byte { list_all is_allowed line.now ≡ false → result ≡ Err BadByte }
+    ensures bad_token { HasBadStart line.now → result ≡ Err BadToken }
 {
     if !all_allowed(line) {
         return Err(LineFail::BadByte);
@@ -105,13 +106,17 @@ pub fn tokens(alloc: Global, line: &[u8]) -> Result<Vec<Token>, LineFail>
     // The line spells the tokens.
     ensures found { IfOk result (λ ts. Spells line.now ts.items) }
     // Tokens that the line spells are given, unless memory runs out.
-    ensures only { (ts : List Spelled) → Spells line.now ts → MatchResult result (λ v. v.items ≡ ts) (λ e. e ≡ OutOfMemory) }
+    ensures only { (ts : List Spelled) → Spells line.now ts
+        → MatchResult result (λ v. v.items ≡ ts) (λ e. e ≡ OutOfMemory) }
     // A refusal says the line's first fault, unless memory ran out.
     ensures fault { IfErr result (λ e. Refuses line.now e) }
     // A line with a byte that isn't allowed is refused before any memory is taken.
     ensures bad_byte { list_all is_allowed line.now ≡ false → result ≡ Err BadByte }
+    // So is a line that begins with a text that makes no token.
+    ensures bad_token { HasBadStart line.now → result ≡ Err BadToken }
     // A line with a first fault is refused with it, unless memory runs out.
-    ensures refused { (f : Fault) → HasFault line.now f → MatchResult result (λ _. ⊥) (λ e. (e ≡ OutOfMemory) ⊎ (e ≡ f)) }
+    ensures refused { (f : Fault) → HasFault line.now f
+        → MatchResult result (λ _. ⊥) (λ e. (e ≡ OutOfMemory) ⊎ (e ≡ f)) }
 {
     read(alloc, line)
 }

@@ -42,6 +42,6 @@ pub few-lines : (doc : Doc) (text : List ℕ) (records : List (List (List ℕ)))
 few-lines doc text records printable items is same =
     ap (λ (rs : List (List (List ℕ))). length rs) same ∙ ap (λ t. length (records_of t)) (sym is) ∙ record-lines doc printable items
 
--- the lines behind the first
+-- the lines after the first
 pub rest-whole : (lines : List ℕ) → take (length lines - 1) (drop 1 lines) ≡ drop 1 lines
 rest-whole lines = take_all (length lines - 1) (drop 1 lines) (omega (arith, length-drop 1 lines))

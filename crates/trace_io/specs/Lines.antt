@@ -10,7 +10,7 @@ use Rattle.dbp_plan.specs.declared.table.Table.{Table}
 use Rattle.dbp_plan.specs.Occurrences.{count_until, times_of}
 use Rattle.dbp_plan.specs.Table.{row_at}
 
--- each word in decimal, behind a comma (44)
+-- each word in decimal, after a comma (44)
 abbrev pub cells_of : List ℤ → List ℕ
 cells_of words = flat_map (λ word. 44 ∷ signed_decimal word) words
 

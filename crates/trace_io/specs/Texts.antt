@@ -27,7 +27,7 @@ pub data Refuses (text : List ℕ) : ℕ → Code → Type 0 where
   of_checking : (doc : Doc) (line : ℕ) (code : CheckCode) → Spells text doc → IsCheckFault doc line code → Refuses text line (Checking code)
   of_the_trace : (doc : Doc) (d : Diagram) (line : ℕ) (code : TraceCode) → Spells text doc → IsCheckedOf doc d → IsTraceFault doc d line code → Refuses text line (Tracing code)
 
--- the same code, but for the names of a cycle
+-- the same code, except for the names of a cycle
 abbrev pub IsSameCode : Code → Code → Type 0
 IsSameCode (Reading a) (Reading b) = a ≡ b
 IsSameCode (Checking a) (Checking b) = checking.IsSameCode a b

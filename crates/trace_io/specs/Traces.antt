@@ -20,7 +20,7 @@ use Rattle.trace_io.specs.Batches.{AreBatches, total_of}
 
 -- ---- what the trace says; a document without a trace section has an empty trace
 
--- the names of the columns behind the times
+-- the names of the columns after the times
 abbrev pub columns_of : Doc → List (List ℕ)
 columns_of doc = columns_in (records_of doc.body.trace)
 
@@ -83,7 +83,7 @@ pub record IsPlanOf (doc : Doc) (d : Diagram) (plan : Plan) : Type 0 where
 abbrev pub IsTraceFault : Doc → Diagram → ℕ → TraceCode → Type 0
 IsTraceFault doc d line code = first_fault (trace_faults doc d) ≡ Some (line, code)
 
--- what a refusal tells; want of memory tells nothing
+-- what a refusal says; out of memory says nothing
 abbrev pub IsTraceRefusal : Doc → Diagram → TraceFail → Type 0
 IsTraceRefusal doc d (Refused line code) = IsTraceFault doc d line code
 IsTraceRefusal doc d NoMemory = Unit {0}

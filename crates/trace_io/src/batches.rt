@@ -79,7 +79,8 @@ fn take_due(
     requires table { IsTimetable until events.now }
     requires places { length taken.old ≡ length clocks.now }
     requires few { All (λ n. n ≤ MAX_OCCURRENCES) taken.old }
-    ensures { IfOk result (λ tasks. TakesDue until events.now clocks.now taken.old taken.new time (length clocks.now) tasks) }
+    ensures { IfOk result (λ tasks.
+        TakesDue until events.now clocks.now taken.old taken.new time (length clocks.now) tasks) }
 {
     let mut tasks = List::new(alloc);
     for i in 0..clocks.len() {

@@ -16,20 +16,27 @@ use dia_read::{each_item_has_a_line, one_document, one_first_fault};
 
 /// Clocks have one list of batches at most.
 pub fn one_schedule()
-    ensures { (until : ℕ) (events : Items (Items ℕ)) (clocks : Items AnyClock) (a b : Items AnyBatch) → AreBatches until events clocks a → AreBatches until events clocks b → a ≡ b }
+    ensures { (until : ℕ) (events : Items (Items ℕ)) (clocks : Items AnyClock)
+        (a b : Items AnyBatch) → AreBatches until events clocks a → AreBatches until events clocks b
+        → a ≡ b }
 {}
 
 /// A clock occurs as often as it is counted.
 pub fn count_is_exact()
-    ensures { (until : ℕ) (events : Items (Items ℕ)) (clock : AnyClock) (k : ℕ) → IsClockOf (length events) clock → (k < count_of until events clock) ↔ IsSome (time_at until events clock k) }
+    ensures { (until : ℕ) (events : Items (Items ℕ)) (clock : AnyClock) (k : ℕ)
+        → IsClockOf (length events) clock
+        → (k < count_of until events clock) ↔ IsSome (time_at until events clock k) }
 {}
 
 /// A text is accepted with one plan at most, and not where it is refused; it is refused with one first fault at most,
-/// but for the names of a cycle.
+/// except for the names of a cycle.
 pub fn one_plan()
     ensures one { (text : Items ℕ) (p q : AnyPlan) → Accepts text p → Accepts text q → p ≡ q }
-    ensures none { (text : Items ℕ) (p : AnyPlan) (line : ℕ) (code : AnyCode) → Accepts text p → Refuses text line code → ⊥ }
-    ensures one_fault { (text : Items ℕ) (line other : ℕ) (code another : AnyCode) → Refuses text line code → Refuses text other another → (line ≡ other) × IsSameCode code another }
+    ensures none { (text : Items ℕ) (p : AnyPlan) (line : ℕ) (code : AnyCode) → Accepts text p
+        → Refuses text line code → ⊥ }
+    ensures one_fault { (text : Items ℕ) (line other : ℕ) (code another : AnyCode)
+        → Refuses text line code → Refuses text other another
+        → (line ≡ other) × IsSameCode code another }
 {
     one_document();
     one_first_fault();
@@ -40,7 +47,8 @@ pub fn one_plan()
 /// A text that spells a document with the same body as an accepted text, except for its script, is accepted with the same
 /// plan.
 pub fn accepted_with_another_script()
-    ensures { (text other : Items ℕ) (plan : AnyPlan) (accepted : Accepts text plan) (doc : AnyDocument) → Spells other doc
+    ensures { (text other : Items ℕ) (plan : AnyPlan) (accepted : Accepts text plan)
+        (doc : AnyDocument) → Spells other doc
         → doc.body ≡ with_script doc.body.script accepted.doc.body → (again : Accepts other plan) × (again.doc ≡ doc) }
 {
     each_item_has_a_line();

@@ -14,7 +14,8 @@ use std::alloc::Global;
 /// the words of its row `n`.
 pub fn lines(alloc: Global, plan: &Plan, table: &Table) -> Result<Vec<u8>, NoMemory>
     requires { HasRows plan.now.diagram.tasks plan.now.batches table.now }
-    ensures { IfOk result (λ text. text.items ≡ lines_of plan.now.diagram plan.now.batches table.now) }
+    ensures { IfOk result (λ text.
+        text.items ≡ lines_of plan.now.diagram plan.now.batches table.now) }
 {
     let tasks = plan.diagram.tasks.items();
     let mut counts = vec![in alloc; 0u32; tasks.len()]?;
@@ -34,7 +35,9 @@ fn push_batch(
     counts: &mut [u32],
 ) -> Result<(), NoMemory>
     requires { CanPrint tasks.now table.now counts.old batch.now.tasks }
-    ensures lines { OnOk result (text.new.items ≡ text.old.items ++ numbered_lines tasks.now table.now batch.now.time counts.old batch.now.tasks) }
+    ensures lines { OnOk result
+        (text.new.items ≡ text.old.items
+        ++ numbered_lines tasks.now table.now batch.now.time counts.old batch.now.tasks) }
     ensures counts { OnOk result (Counts counts.old counts.new batch.now.tasks) }
 {
     for task in batch.tasks.items() {
@@ -55,7 +58,8 @@ fn push_line(
     number: u32,
     row: &[i64],
 ) -> Result<(), NoMemory>
-    ensures { OnOk result (text.new.items ≡ text.old.items ++ line_text time name.now number row.now) }
+    ensures { OnOk result (text.new.items
+        ≡ text.old.items ++ line_text time name.now number row.now) }
 {
     push_number(text, time)?;
     text.push(b',')?;
@@ -67,7 +71,7 @@ fn push_line(
     Ok(())
 }
 
-// Adds each word behind a comma.
+// Adds each word after a comma.
 fn push_cells(text: &mut Vec<u8>, row: &[i64]) -> Result<(), NoMemory>
     ensures { OnOk result (text.new.items ≡ text.old.items ++ cells_of row.now) }
 {

@@ -27,8 +27,10 @@ struct Trace {
 /// the events.
 fn few_occurrences(diagram: &Diagram, doc: &Doc, events: &[List<u64>]) -> Result<(), TraceFault>
     requires ranked { IsRanked diagram.now }
-    ensures few { OnOk result (total_of diagram.now.until events.now (clocks_of diagram.now) ≤ MAX_OCCURRENCES) }
-    ensures many { IfErr result (λ fault. MAX_OCCURRENCES < total_of diagram.now.until events.now (clocks_of diagram.now)) }
+    ensures few { OnOk result (total_of diagram.now.until events.now (clocks_of diagram.now)
+        ≤ MAX_OCCURRENCES) }
+    ensures many { IfErr result
+        (λ fault. MAX_OCCURRENCES < total_of diagram.now.until events.now (clocks_of diagram.now)) }
     ensures line { IfErr result (λ fault. fault.line ≡ doc.now.lines.until_at) }
     ensures code { IfErr result (λ fault. fault.code ≡ TooManyOccurrences) }
 {
@@ -45,10 +47,13 @@ fn few_occurrences(diagram: &Diagram, doc: &Doc, events: &[List<u64>]) -> Result
 fn empty_trace(alloc: Global, diagram: &Diagram, doc: &Doc) -> Result<Trace, TraceFail>
     requires section { doc.now.body.trace ≡ None }
     requires ranked { IsRanked diagram.now }
-    ensures trace { IfOk result (λ trace. IsTraceOf doc.now diagram.now trace.events.items trace.samples) }
-    ensures few { OnOk result (total_of diagram.now.until (events_of doc.now diagram.now) (clocks_of diagram.now) ≤ MAX_OCCURRENCES) }
+    ensures trace { IfOk result
+        (λ trace. IsTraceOf doc.now diagram.now trace.events.items trace.samples) }
+    ensures few { OnOk result (total_of diagram.now.until (events_of doc.now diagram.now)
+        (clocks_of diagram.now) ≤ MAX_OCCURRENCES) }
     ensures fault { IfErr result (λ fail. IsTraceRefusal doc.now diagram.now fail) }
-    ensures many { MAX_OCCURRENCES < total_of diagram.now.until [] (clocks_of diagram.now) → result ≡ Err (Refused doc.now.lines.until_at TooManyOccurrences) }
+    ensures many { MAX_OCCURRENCES < total_of diagram.now.until [] (clocks_of diagram.now)
+        → result ≡ Err (Refused doc.now.lines.until_at TooManyOccurrences) }
 {
     few_occurrences(diagram, doc, &[])?;
     Ok(Trace {
@@ -68,7 +73,8 @@ fn lines_of_section(
     requires printable { IsPrintable doc.now.body }
     requires lines { HasItemLines doc.now }
     requires ranked { IsRanked diagram.now }
-    ensures trace { IfOk result (λ trace. IsTraceOf doc.now diagram.now trace.events.items trace.samples) }
+    ensures trace { IfOk result
+        (λ trace. IsTraceOf doc.now diagram.now trace.events.items trace.samples) }
     ensures fault { IfErr result (λ fail. IsTraceRefusal doc.now diagram.now fail) }
 {
     let inputs = diagram.inputs.items();
@@ -110,8 +116,10 @@ fn section_trace(
     requires printable { IsPrintable doc.now.body }
     requires lines { HasItemLines doc.now }
     requires ranked { IsRanked diagram.now }
-    ensures trace { IfOk result (λ trace. IsTraceOf doc.now diagram.now trace.events.items trace.samples) }
-    ensures few { OnOk result (total_of diagram.now.until (events_of doc.now diagram.now) (clocks_of diagram.now) ≤ MAX_OCCURRENCES) }
+    ensures trace { IfOk result
+        (λ trace. IsTraceOf doc.now diagram.now trace.events.items trace.samples) }
+    ensures few { OnOk result (total_of diagram.now.until (events_of doc.now diagram.now)
+        (clocks_of diagram.now) ≤ MAX_OCCURRENCES) }
     ensures fault { IfErr result (λ fail. IsTraceRefusal doc.now diagram.now fail) }
     ensures no_line { text.now ≡ [] → result ≡ Err (Refused doc.now.lines.trace_at BadHeader) }
 {
@@ -128,12 +136,16 @@ fn trace_of(alloc: Global, diagram: &Diagram, doc: &Doc) -> Result<Trace, TraceF
     requires printable { IsPrintable doc.now.body }
     requires lines { HasItemLines doc.now }
     requires ranked { IsRanked diagram.now }
-    ensures trace { IfOk result (λ trace. IsTraceOf doc.now diagram.now trace.events.items trace.samples) }
-    ensures few { OnOk result (total_of diagram.now.until (events_of doc.now diagram.now) (clocks_of diagram.now) ≤ MAX_OCCURRENCES) }
+    ensures trace { IfOk result
+        (λ trace. IsTraceOf doc.now diagram.now trace.events.items trace.samples) }
+    ensures few { OnOk result (total_of diagram.now.until (events_of doc.now diagram.now)
+        (clocks_of diagram.now) ≤ MAX_OCCURRENCES) }
     ensures fault { IfErr result (λ fail. IsTraceRefusal doc.now diagram.now fail) }
-    ensures no_section { doc.now.body.trace ≡ None → MAX_OCCURRENCES < total_of diagram.now.until [] (clocks_of diagram.now)
+    ensures no_section { doc.now.body.trace ≡ None
+        → MAX_OCCURRENCES < total_of diagram.now.until [] (clocks_of diagram.now)
         → result ≡ Err (Refused doc.now.lines.until_at TooManyOccurrences) }
-    ensures no_line { doc.now.body.trace ≡ Some [] → result ≡ Err (Refused doc.now.lines.trace_at BadHeader) }
+    ensures no_line { doc.now.body.trace ≡ Some []
+        → result ≡ Err (Refused doc.now.lines.trace_at BadHeader) }
 {
     match &doc.body.trace {
         None => empty_trace(alloc, diagram, doc),
@@ -169,10 +181,12 @@ pub fn read_trace(alloc: Global, diagram: Diagram, doc: &Doc) -> Result<Plan, Tr
     // It has this first fault, unless memory ran out.
     ensures fault { IfErr result (λ fail. IsTraceRefusal doc.now diagram fail) }
     // Without a trace section occurrences are counted before memory is taken, so too many are never out of memory.
-    ensures no_section { doc.now.body.trace ≡ None → MAX_OCCURRENCES < total_of diagram.until [] (clocks_of diagram)
+    ensures no_section { doc.now.body.trace ≡ None
+        → MAX_OCCURRENCES < total_of diagram.until [] (clocks_of diagram)
         → result ≡ Err (Refused doc.now.lines.until_at TooManyOccurrences) }
     // Neither is a section that keeps no line.
-    ensures no_line { doc.now.body.trace ≡ Some [] → result ≡ Err (Refused doc.now.lines.trace_at BadHeader) }
+    ensures no_line { doc.now.body.trace ≡ Some []
+        → result ≡ Err (Refused doc.now.lines.trace_at BadHeader) }
 {
     let trace = trace_of(alloc, &diagram, doc)?;
     let clocks = clocks_of(alloc, diagram.tasks.items())?;

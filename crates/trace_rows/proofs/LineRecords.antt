@@ -78,7 +78,7 @@ byte-run : (fields : List (List ℕ)) (field : List ℕ) (b : ℕ) (tail : List 
 unfolding next_record
 byte-run fields field b tail comma return feed = rw (comma, return, feed) refl
 
--- behind a comma a field starts, and it starts as a field goes on
+-- after a comma a field starts, and it starts as a field goes on
 start-run : (fields : List (List ℕ)) (line rest : List ℕ) → list_all is_trace_byte line ≡ true
     → next_record default_config st.StartField fields [] (line ++ 10 ∷ rest) ≡ next_record default_config st.InField fields [] (line ++ 10 ∷ rest)
 start-run fields [] rest kept = start-same fields [] 10 rest refl

@@ -48,7 +48,7 @@ last-push [] row = refl
 last-push (first ∷ []) row = refl
 last-push (first ∷ next ∷ rows) row = last-push (next ∷ rows) row
 
--- the least time behind one
+-- the least time after one
 abbrev least_behind : Option ℕ → ℕ
 least_behind None = 0
 least_behind (Some before) = before + 1

@@ -19,7 +19,7 @@ are_digits cell = not (is_empty cell) && list_all is_digit cell
 abbrev pub is_time : List ℕ → Bool
 is_time cell = are_digits cell && is_in_range cell
 
--- a number: digits, optionally behind `-`, from -2 ^ 63 to 2 ^ 63 - 1
+-- a number: digits, optionally after `-`, from -2 ^ 63 to 2 ^ 63 - 1
 abbrev pub is_number : List ℕ → Bool
 is_number cell = are_digits (if is_negative cell then drop 1 cell else cell) && is_in_range cell
 

@@ -15,7 +15,7 @@ abbrev pub records_of : Option (List ℕ) → List (List (List ℕ))
 records_of None = []
 records_of (Some text) = map cells_of (lines_of text)
 
--- the first record is the header: behind its first cell stand the names of the columns
+-- the first record is the header: after its first cell stand the names of the columns
 abbrev pub columns_in : List (List (List ℕ)) → List (List ℕ)
 columns_in records = drop 1 (slice_index_or records 0 [])
 

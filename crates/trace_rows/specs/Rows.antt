@@ -17,7 +17,7 @@ abbrev pub is_not_after : Option ℕ → ℕ → Bool
 is_not_after None time = false
 is_not_after (Some before) time = nat_le time before
 
--- the first fault of the row with this number, from 1, behind a row with this time or behind none
+-- the first fault of the row with this number, from 1, after a row with this time or after none
 abbrev pub row_fault : ℕ → List Kind → ℕ → Option ℕ → List (List ℕ) → Option TraceCode
 row_fault until kinds number before row =
     if nat_lt MAX_ROWS number then Some TooManyRows else
@@ -32,7 +32,7 @@ last_time [] = None
 last_time (row ∷ []) = Some (time_of row)
 last_time (row ∷ rows) = last_time rows
 
--- the first fault of the row that stands behind these
+-- the first fault of the row that stands after these
 abbrev pub fault_behind : ℕ → List Kind → List (List (List ℕ)) → List (List ℕ) → Option TraceCode
 fault_behind until kinds before row = row_fault until kinds (length before + 1) (last_time before) row
 

@@ -37,7 +37,8 @@ fn is_known(inputs: &[Input], events: &[Name], name: &[u8]) -> bool
 
 /// Whether the record has this cell at the place.
 fn is_cell(record: &ByteRecord, place: usize, text: &[u8]) -> bool
-    ensures { result ≡ option_map_or (λ cell. bytes_eq cell text.now) (field_at (fields_of «record».now) place) false }
+    ensures { result ≡ option_map_or
+        (λ cell. bytes_eq cell text.now) (field_at (fields_of «record».now) place) false }
 {
     match record.get(place) {
         Some(cell) => cell == text,
@@ -93,7 +94,8 @@ fn kind_of_column(inputs: &[Input], name: &[u8]) -> Kind
 
 /// What the columns of a header hold.
 pub fn kinds(alloc: Global, inputs: &[Input], header: &ByteRecord) -> Result<Vec<Kind>, NoMemory>
-    ensures kinds { IfOk result (λ kinds. kinds.items ≡ map (kind_of_column inputs.now) (drop 1 (fields_of header.now))) }
+    ensures kinds { IfOk result
+        (λ kinds. kinds.items ≡ map (kind_of_column inputs.now) (drop 1 (fields_of header.now))) }
     ensures few { IfOk result (λ kinds. length kinds.items + 1 < 2 ^ 64) }
 {
     let mut kinds = Vec::new(alloc);

@@ -48,7 +48,8 @@ fn trim_cells(cells: &mut ByteRecord) -> Result<(), NoMemory>
 /// its cells.
 pub fn records(alloc: Global, text: &[u8]) -> Result<Vec<ByteRecord>, NoMemory>
     requires { KeepsItself SaysInTrace row text.now }
-    ensures { IfOk result (λ records. map fields_of records.items ≡ map cells_of (lines_of text.now)) }
+    ensures { IfOk result (λ records.
+        map fields_of records.items ≡ map cells_of (lines_of text.now)) }
 {
     let reader = ReaderBuilder::new()
         .has_headers(false)

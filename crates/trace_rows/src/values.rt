@@ -76,7 +76,8 @@ pub(crate) fn push_samples(
     said: &[Said],
 ) -> Result<(), NoMemory>
     requires few { length found.old + length columns.now < 2 ^ 32 }
-    ensures samples { OnOk result (found.new ≡ found.old ++ said_samples time 0 columns.now said.now) }
+    ensures samples { OnOk result
+        (found.new ≡ found.old ++ said_samples time 0 columns.now said.now) }
     ensures few { OnOk result (length found.new ≤ length found.old + length columns.now) }
 {
     for (input, column) in columns.iter().enumerate() {
