@@ -30,6 +30,7 @@ pub fn print_script(
 }
 
 /// Adds the words of a step: its word and its task, each with the space between them as one slice, and what it names.
+#[inline]
 pub(crate) fn push_step(text: &mut Vec<u8>, diagram: &Diagram, step: Step) -> Result<(), NoMemory>
     requires { IsThere diagram.now step }
     ensures { OnOk result (text.new.items ≡ text.old.items ++ step_text diagram.now step) }
@@ -40,6 +41,7 @@ pub(crate) fn push_step(text: &mut Vec<u8>, diagram: &Diagram, step: Step) -> Re
 }
 
 // Adds the words after the task.
+#[inline]
 fn push_operand(text: &mut Vec<u8>, diagram: &Diagram, step: Step) -> Result<(), NoMemory>
     requires { IsThere diagram.now step }
     ensures { OnOk result (text.new.items
@@ -60,6 +62,7 @@ fn push_operand(text: &mut Vec<u8>, diagram: &Diagram, step: Step) -> Result<(),
 }
 
 // Adds `pre` and the delay, which is left out if it is 1; nothing for the delay 0.
+#[inline]
 fn push_delay(text: &mut Vec<u8>, delay: u32) -> Result<(), NoMemory>
     ensures { OnOk result (text.new.items ≡ text.old.items ++ spaced_words (delay_words delay)) }
 {
@@ -74,6 +77,7 @@ fn push_delay(text: &mut Vec<u8>, delay: u32) -> Result<(), NoMemory>
 }
 
 /// Adds what a step heard after ` ->`, and nothing if it stored a word.
+#[inline]
 pub(crate) fn push_heard(text: &mut Vec<u8>, heard: Heard) -> Result<(), NoMemory>
     ensures { OnOk result (text.new.items ≡ text.old.items ++ spaced_words (heard_words heard)) }
 {
@@ -95,6 +99,7 @@ pub(crate) fn push_heard(text: &mut Vec<u8>, heard: Heard) -> Result<(), NoMemor
 }
 
 // Adds the words, each of which has its space before it.
+#[inline]
 fn push_words(text: &mut Vec<u8>, words: &[u8]) -> Result<(), NoMemory>
     ensures { OnOk result (text.new.items ≡ text.old.items ++ words.now) }
 {
@@ -103,6 +108,7 @@ fn push_words(text: &mut Vec<u8>, words: &[u8]) -> Result<(), NoMemory>
 }
 
 // Adds ` ->` and the number.
+#[inline]
 fn push_answer<N: Integer>(text: &mut Vec<u8>, number: N) -> Result<(), NoMemory>
     ensures { OnOk result (text.new.items ≡ text.old.items ++ 32 ∷ 45 ∷ 62 ∷ 32 ∷ N.text number) }
 {
@@ -111,6 +117,7 @@ fn push_answer<N: Integer>(text: &mut Vec<u8>, number: N) -> Result<(), NoMemory
 }
 
 // Adds the word after a space.
+#[inline]
 fn push_word(text: &mut Vec<u8>, word: &[u8]) -> Result<(), NoMemory>
     ensures { OnOk result (text.new.items ≡ text.old.items ++ 32 ∷ word.now) }
 {
@@ -120,6 +127,7 @@ fn push_word(text: &mut Vec<u8>, word: &[u8]) -> Result<(), NoMemory>
 }
 
 // Adds the number in decimal after a space.
+#[inline]
 fn push_number<N: Integer>(text: &mut Vec<u8>, number: N) -> Result<(), NoMemory>
     ensures { OnOk result (text.new.items ≡ text.old.items ++ 32 ∷ N.text number) }
 {

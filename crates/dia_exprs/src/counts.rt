@@ -14,7 +14,7 @@ const _: () = prove!(MAX_DEPTH == 64);
 pub fn node_tokens(tokens: &[Token]) -> usize
     ensures { result ≡ node_count tokens.now }
 {
-    tokens.iter().filter(|token| has_node(**token)).count()
+    tokens.iter().filter(|token| has_node(token)).count()
 }
 
 /// How many parentheses are open at once, at most. One that closes where none is open counts for nothing.
@@ -24,14 +24,14 @@ pub fn depth(tokens: &[Token]) -> usize
     let mut open = 0;
     let mut most = 0;
     for token in tokens {
-        open = opened(open, *token);
+        open = opened(open, token);
         most = most.max(open);
     }
     most
 }
 
-fn has_node(token: Token) -> bool
-    ensures { result ≡ is_node token }
+fn has_node(token: &Token) -> bool
+    ensures { result ≡ is_node token.now }
 {
     !matches!(
         token,
@@ -41,9 +41,9 @@ fn has_node(token: Token) -> bool
 }
 
 // How many are open after the token.
-fn opened(before: usize, token: Token) -> usize
+fn opened(before: usize, token: &Token) -> usize
     requires { before + 1 < 2 ^ 64 }
-    ensures { result ≡ opened_by before token }
+    ensures { result ≡ opened_by before token.now }
 {
     match token {
         Token::Symbol(Symbol::Open) => before + 1,

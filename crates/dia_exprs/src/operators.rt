@@ -25,8 +25,8 @@ pub(crate) fn next_level(level: Level) -> Level
     }
 }
 
-fn operator_of(level: Level, token: Token) -> Option<BinOp>
-    ensures { result ≡ operator level token }
+fn operator_of(level: Level, token: &Token) -> Option<BinOp>
+    ensures { result ≡ operator level token.now }
 {
     match (level, token) {
         (Level::Disjunction, Token::Word(Word::Or)) => Some(BinOp::Or),
@@ -40,8 +40,8 @@ fn operator_of(level: Level, token: Token) -> Option<BinOp>
     }
 }
 
-fn comparison(token: Token) -> Option<BinOp>
-    ensures { result ≡ compared token }
+fn comparison(token: &Token) -> Option<BinOp>
+    ensures { result ≡ compared token.now }
 {
     match token {
         Token::Symbol(Symbol::Equal) => Some(BinOp::Eq),
@@ -54,8 +54,8 @@ fn comparison(token: Token) -> Option<BinOp>
     }
 }
 
-fn prefix(token: Token) -> Option<UnOp>
-    ensures { result ≡ prefixed token }
+fn prefix(token: &Token) -> Option<UnOp>
+    ensures { result ≡ prefixed token.now }
 {
     match token {
         Token::Symbol(Symbol::Minus) => Some(UnOp::Neg),
@@ -65,8 +65,8 @@ fn prefix(token: Token) -> Option<UnOp>
 }
 
 /// The operator that a token is before two arguments.
-pub(crate) fn called(token: Token) -> Option<BinOp>
-    ensures { result ≡ is_called token }
+pub(crate) fn called(token: &Token) -> Option<BinOp>
+    ensures { result ≡ is_called token.now }
 {
     match token {
         Token::Word(Word::Min) => Some(BinOp::Min),
@@ -82,7 +82,7 @@ pub(crate) fn split_operator(level: Level, tokens: &[Token]) -> Option<(BinOp, &
     ensures counts { IfSome result (λ x. node_count x.1.now + 1 ≡ node_count tokens.now) }
 {
     match tokens {
-        [token, rest @ ..] => match operator_of(level, *token) {
+        [token, rest @ ..] => match operator_of(level, token) {
             Some(op) => Some((op, rest)),
             None => None,
         },
@@ -97,7 +97,7 @@ pub(crate) fn split_comparison(tokens: &[Token]) -> Option<(BinOp, &[Token])>
     ensures counts { IfSome result (λ x. node_count x.1.now + 1 ≡ node_count tokens.now) }
 {
     match tokens {
-        [token, rest @ ..] => match comparison(*token) {
+        [token, rest @ ..] => match comparison(token) {
             Some(op) => Some((op, rest)),
             None => None,
         },
@@ -112,7 +112,7 @@ pub(crate) fn split_prefix(tokens: &[Token]) -> Option<(UnOp, &[Token])>
     ensures counts { IfSome result (λ x. node_count x.1.now + 1 ≡ node_count tokens.now) }
 {
     match tokens {
-        [token, rest @ ..] => match prefix(*token) {
+        [token, rest @ ..] => match prefix(token) {
             Some(op) => Some((op, rest)),
             None => None,
         },

@@ -1,14 +1,22 @@
 -- The first line of a text, and the lines after it.
-use Rattle.std.proofs.Common.{◌≡◌, ◌≢◌, ℕ, zero, suc, ◌-◌, ◌<◌, ◌≤◌, true, false, not, List, [], ◌∷◌, ◌++◌, length, refl, sym, ap, ◌∙◌, arith, length-drop, inl, inr, eqb, eq-eqb}
-use Rattle.std.specs.Prelude.{slice_index_or}
+use Rattle.std.proofs.Common.{◌≡◌, ◌≢◌, ℕ, zero, suc, ◌-◌, ◌<◌, ◌≤◌, true, false, not, Option, Some, None, List, [], ◌∷◌, ◌++◌, length, refl, sym, ap, ◌∙◌, arith, length-drop, inl, inr, eqb, eq-eqb}
+use Rattle.std.specs.Prelude.{slice_index, slice_index_or, unwrap_or}
 use Rattle.std.proofs.lemmas.Bool.Decides.{nat_tests}
 use Rattle.std.specs.List.{list_all, slice_split, onto_first, position_or_len, before_first, after_first}
 use Rattle.std.proofs.lemmas.List.Splits.{slice_split_first, slice_split_none, slice_split-cons_yes, slice_split-cons_no}
-use Rattle.std.proofs.lemmas.List.Sums.{prefix_len-le-length, fails_before_first}
+use Rattle.std.proofs.lemmas.List.Sums.{prefix_len-le-length, fails_before_first, position_or_len_is}
 use Rattle.std.proofs.lemmas.List.Elements.{All-from_get_or}
-use Rattle.std.proofs.lemmas.Bool.{cases_Bool, both_ways, and_parts, eqb-true}
+use Rattle.std.proofs.lemmas.Bool.{cases_Bool, both_ways, and_parts, eqb-true, false_from_ne_true}
+use Rattle.memchr.specs.Find.{IsFirstByte, is_byte}
 use Rattle.dia_lines.specs.Text.{is_end, is_inside, without_return, lines_of_parts, lines_of}
 use Rattle.dia_lines.specs.FirstLine.{cut_line}
+
+-- where the first line feed stands, or else the end
+pub first-end : (bs : List ℕ) (r : Option ℕ) → IsFirstByte (is_byte 10) bs r → unwrap_or r (length bs) ≡ position_or_len is_end bs
+first-end bs None none =
+    sym (position_or_len_is is_end bs (length bs) 0 (omega arith) (λ k within. false_from_ne_true (is_end (slice_index bs k)) (none k (omega arith) within)) (λ within. absurd (omega arith)))
+first-end bs (Some k) found =
+    sym (position_or_len_is is_end bs k 0 (omega arith) (λ j within. false_from_ne_true (is_end (slice_index bs j)) (found.0.before j (omega arith) within)) (λ within. found.1))
 
 -- if no byte ends a line, there is one part
 one_part : (bs : List ℕ) → position_or_len is_end bs ≡ length bs → slice_split is_end bs ≡ bs ∷ []

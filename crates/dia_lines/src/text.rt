@@ -5,11 +5,14 @@ ghost use Rattle.std.specs.List.{position_or_len};
 ghost use Rattle.dia_lines.specs.Text.{is_end, without_return, lines_of};
 ghost use Rattle.dia_lines.specs.FirstLine.{cut_line};
 
+use memchr::memchr;
+
+// The index of the first line feed, or else the length.
 fn text_len(bytes: &[u8]) -> usize
     ensures value { result ≡ position_or_len is_end bytes.now }
     ensures within { result ≤ length bytes.now }
 {
-    bytes.iter().take_while(|byte| **byte != b'\n').count()
+    memchr(b'\n', bytes).unwrap_or(bytes.len())
 }
 
 fn trim_return(text: &[u8]) -> &[u8]

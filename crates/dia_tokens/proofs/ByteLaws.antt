@@ -1,8 +1,10 @@
 -- What the kinds of bytes say of the bytes.
-use Rattle.std.proofs.Common.{◌≡◌, ℕ, true, arith}
+use Rattle.std.proofs.Common.{◌≡◌, ℕ, Bool, true, List, [], ◌∷◌, filter, length, refl, inl, inr, arith}
+use Rattle.std.proofs.lemmas.Bool.{cases_Bool}
 use Rattle.std.proofs.lemmas.Bool.Decides.{nat_tests}
 use Rattle.std.specs.Int.{IsInRange}
-use Rattle.std.specs.Prelude.{IsTrue, not}
+use Rattle.std.specs.List.{list_all}
+use Rattle.std.specs.Prelude.{IsTrue, not, ◌==◌}
 use Rattle.std.specs.Char.{is_ascii_digit}
 use Rattle.dbp_plan.specs.Name.{is_name_byte}
 use Rattle.dia_tokens.specs.declared.kind.Kind.TheVariants.{Letter, Dash}
@@ -27,3 +29,11 @@ letter-begins b e = grind (arith, nat_tests)
 pub name-byte : (b : ℕ) → is_name b ≡ true → IsTrue (is_name_byte b)
 unfolding kind_of symbol_kind_of
 name-byte b e = grind (arith, nat_tests)
+
+-- all pass a test exactly if none fails it
+pub none_fails : {X : Type 0} (p : X → Bool) (xs : List X) → (length (filter (λ x. not (p x)) xs) == 0) ≡ list_all p xs
+none_fails p [] = refl
+none_fails p (x ∷ xs) = elim (cases_Bool (p x)) [
+  | inl passes ↦ rw passes (none_fails p xs)
+  | inr fails ↦ rw fails (grind (arith, nat_tests))
+]

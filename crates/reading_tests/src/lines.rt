@@ -2,7 +2,7 @@
 
 use dbp_plan::{BinOp, Expr, MAX_NODES, Name, Node, UnOp};
 use dia_exprs::{MAX_DEPTH, depth, expression, node_tokens};
-use dia_lines::{Line, Part, Position, read_line};
+use dia_lines::{Limit, Line, Part, Position, ReadCode, read_line};
 use dia_tokens::{Symbol, Token, Word, line_spelling, tokens};
 use std::alloc::Global;
 use std::test::Fail;
@@ -135,5 +135,26 @@ fn a_line_after_others(rt: HostRuntime) -> Result<(), Fail> {
     assert_eq!(rt; position.counts.body, 2);
     assert_eq!(rt; position.counts.links, 1);
     assert!(rt; !position.is_ended());
+    Ok(())
+}
+
+// Codes as a refusal prints them after the number of its line.
+static CODES: [(ReadCode, &str); 9] = [
+    (ReadCode::BadByte, "1 BadByte"),
+    (ReadCode::BadToken, "2 BadToken"),
+    (ReadCode::BadLine, "3 BadLine"),
+    (ReadCode::NumberTooWide, "4 NumberTooWide"),
+    (ReadCode::NameTooLong, "5 NameTooLong"),
+    (ReadCode::LimitHit(Limit::Reads), "6 LimitHit reads"),
+    (ReadCode::MissingDone, "7 MissingDone"),
+    (ReadCode::MissingHeader, "8 MissingHeader"),
+    (ReadCode::DepthHit, "9 DepthHit"),
+];
+
+#[test]
+fn codes_are_shown_with_number_and_name(rt: HostRuntime) -> Result<(), Fail> {
+    for (code, want) in &CODES {
+        assert_eq!(rt; format!(in rt.alloc(); "{code}")?.as_str(), *want);
+    }
     Ok(())
 }
