@@ -1,0 +1,189 @@
+"""Faults of names, line by line: declared twice, not there, a task's own out, and reads past the cost."""
+
+from checking.foreign import COMMENT, begins_comment
+from checking.messages import Note, error_at
+from checking.text import what_there_is
+
+VALUES = ("state", "sense", "read", "let")
+DECLARING = (*VALUES, "out")
+SAID = {
+    "input": "an input",
+    "event": "an event",
+    "task": "a task",
+    "state": "a state",
+    "sense": "a sense",
+    "read": "a read",
+    "let": "a let",
+    "out": "an out",
+}
+
+
+class NameFaults:
+    """The faults of a document's names."""
+
+    def __init__(self, document):
+        self.document = document
+        self.inputs = document.declared("input")
+        self.events = document.declared("event")
+        self.tasks = document.named_tasks
+
+    def all(self):
+        """Returns the messages of all lines with a fault, in the order of the lines."""
+        outer, found = {}, []
+        for statement in self.document.declarations:
+            found.append(duplicate(outer, statement))
+        for task in self.document.tasks:
+            if task.head.name:
+                found.append(duplicate(outer, task.head))
+            if task.is_whole and found[-1] is None:
+                found.append(self.unknown_event(task.head))
+            found += self.of_body(task)
+        return sorted((it for it in found if it), key=lambda it: it.line)
+
+    def of_body(self, task):
+        """Returns the first fault of each line of a task's body, or nothing for it."""
+        inner, nexts = {}, {}
+        for statement in task.body:
+            earlier = nexts if statement.word == "next" else inner
+            yield (
+                duplicate(earlier, statement, task)
+                or self.unknown(task, statement)
+                or self_link(task, statement)
+                or past_cost(task, statement)
+            )
+
+    def unknown_event(self, head):
+        """Returns the message of a task on what is no event, or nothing."""
+        if head.source is None or head.source.text in self.events or self.is_doubtful(head.source):
+            return None
+        return self.not_there(head, head.source, "event", self.events)
+
+    def unknown(self, task, statement):
+        """Returns the message of the first name of a line that isn't there, or nothing."""
+        if statement.word == "sense":
+            return self.unknown_input(statement)
+        if statement.word == "read":
+            return self.unknown_link(task, statement)
+        if statement.word == "next":
+            states = task.declared("state")
+            if statement.name.text not in states and not self.is_doubtful(statement.name):
+                where = f" of `{task.name}`"
+                return self.not_there(statement, statement.name, "state", states, where, task)
+        return self.unknown_value(task, statement)
+
+    def unknown_input(self, statement):
+        """Returns the message of a sense of what is no input, or nothing."""
+        if statement.source.text in self.inputs or self.is_doubtful(statement.source):
+            return None
+        return self.not_there(statement, statement.source, "input", self.inputs)
+
+    def unknown_link(self, task, statement):
+        """Returns the message of a read of no task, or of no out of that task, or nothing."""
+        source, port = statement.source, statement.port
+        writer = self.tasks.get(source.text)
+        if writer is None:
+            if self.is_doubtful(source):
+                return None
+            return self.not_there(statement, source, "task", self.tasks)
+        outs = writer.declared("out")
+        if port.text in outs or self.is_doubtful(port):
+            return None
+        text = f"the task `{source.text}` has no out `{port.text}`: {what_there_is('out', outs, f' of `{source.text}`')}"
+        inner = writer.declared(*VALUES).get(port.text)
+        if inner is not None:
+            text += f"; `{port.text}` is {SAID[inner.word]} of it, which only its own lines can name"
+        return error_at(port, statement.line, 11, text, note_of(writer.head))
+
+    def unknown_value(self, task, statement):
+        """Returns the message of a name in an expression that has no value there, or nothing."""
+        values = task.declared(*VALUES)
+        for token in statement.names:
+            if token.text not in values and not self.is_doubtful(token):
+                return self.no_value(task, statement, token, values)
+        return None
+
+    def no_value(self, task, statement, token, values):
+        """Returns the message of a name that has no value in its task."""
+        where = f" of `{task.name}`"
+        text = f"`{token.text}` is no state, sense, read or let{where}: {what_there_is('name', values, where)}"
+        found = task.declared("out").get(token.text) or self.outer(token)
+        if found is None:
+            if begins_comment(statement.tokens):
+                text += f"; {COMMENT}"
+            return error_at(token, statement.line, 11, text)
+        return error_at(token, statement.line, 11, about_found(task, token, found), note_of(found))
+
+    def not_there(self, statement, token, kind, names, where="", task=None):
+        """Returns the message of a name that isn't one of its kind."""
+        found = (task.declared(*DECLARING).get(token.text) if task else None) or self.outer(token)
+        text = f"`{token.text}` is no {kind}{where}: {what_there_is(kind, names, where)}"
+        if found is None:
+            return error_at(token, statement.line, 11, text)
+        text = f"`{token.text}` is {SAID[found.word]}, and no {kind}{where}: {what_there_is(kind, names, where)}"
+        return error_at(token, statement.line, 11, text, note_of(found))
+
+    def outer(self, token):
+        """Returns the line that declares a name as an input, an event or a task, or nothing."""
+        task = self.tasks.get(token.text)
+        return self.inputs.get(token.text) or self.events.get(token.text) or (task.head if task else None)
+
+    def is_doubtful(self, token):
+        """Whether a name stands in a line with a fault, so that it may be declared there."""
+        return token.text in self.document.doubtful
+
+
+def about_found(task, token, found):
+    """Returns what is wrong with a name in an expression that is declared as something else."""
+    name = token.text
+    if found.word == "out":
+        return f"`{name}` is an out of `{task.name}`, which its own expressions can't name: name a `let` of the same value"
+    if found.word == "input":
+        return f"`{name}` is an input: a line `sense NAME = {name}` gives its value to the task"
+    if found.word == "task":
+        return f"`{name}` is a task: a line `read NAME = {name}.OUT` gives an out of it to the task"
+    return f"`{name}` is an event, which has no value: a task `on {name}` occurs with it"
+
+
+def note_of(statement):
+    """Returns a note at the place where a name is declared."""
+    return Note(statement.line, statement.name.column, f"`{statement.name.text}` is declared here as {SAID[statement.word]}")
+
+
+def duplicate(earlier, statement, task=None):
+    """Returns the message of a name that an earlier line declares, or nothing; keeps the name."""
+    name = statement.name.text
+    first = earlier.setdefault(name, statement)
+    if first is statement:
+        return None
+    note = Note(first.line, first.name.column, "the first line is here")
+    where = f" in the task `{task.name}`" if task else ""
+    if statement.word == "next":
+        text = f"a second `next` of `{name}`{where}: the first stands in line {first.line}"
+    else:
+        text = f"`{name}` is declared a second time{where}, as {SAID[statement.word]}: line {first.line} declares it as {SAID[first.word]}"
+    return error_at(statement.name, statement.line, 10, text, note)
+
+
+def self_link(task, statement):
+    """Returns the message of a read of the task's own out, or nothing."""
+    if statement.word != "read" or statement.source.text != task.name:
+        return None
+    text = f"the task `{task.name}` reads its own out; a state keeps a value from instance to instance"
+    return error_at(statement.source, statement.line, 12, text)
+
+
+def past_cost(task, statement):
+    """Returns the message of a read that is made after its task has ended, or nothing."""
+    if statement.word != "read" or not task.is_whole:
+        return None
+    at, cost = statement.number("at", 0), task.head.number("cost")
+    if at < cost:
+        return None
+    token = statement.numbers["at"]
+    text = f"`at {at}` isn't below the cost of the task `{task.name}`, which is {cost}: the latest is `at {cost - 1}`"
+    return error_at(token, statement.line, 16, text, Note(task.head.line, task.head.numbers["cost"].column, "the cost is here"))
+
+
+def name_faults(document):
+    """Returns the messages of a document's names, in the order of its lines."""
+    return NameFaults(document).all()
