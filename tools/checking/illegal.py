@@ -7,7 +7,7 @@ from concurrent.futures import ThreadPoolExecutor
 from dataclasses import dataclass
 
 from checking.messages import Message, Note, Severity
-from checking.releases import WAITING, is_of_releaser, next_of_releaser, next_of_task, party_of, taken_steps
+from checking.releases import WAITING, next_of_releaser, next_of_task, party_of, taken_steps
 from checking.text import listed
 
 ILLEGAL = re.compile(rb"illegal step ([0-9]+): (.*)\n")
@@ -147,6 +147,3 @@ class Explained:
 def explained(program, words, document, illegal):
     """Returns the message of an illegal step; `program` runs words on a document."""
     return Explained(program, words, document, illegal).message()
-
-
-__all__ = ["Illegal", "explained", "illegal_of", "is_of_releaser"]

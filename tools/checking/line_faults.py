@@ -41,7 +41,7 @@ def about_byte(line, at, is_trace):
         return f"{shown} begins a byte order mark: write the document as ASCII without one", 1
     if byte >= 0x80:
         character = character_at(line.text, at)
-        of = f" of `{character}`" if character else ""
+        of = f" of {name_of(character)}" if character else ""
         width = len(character.encode()) if character else 1
         return f"{shown}{of} isn't allowed: a document is ASCII, in its comments too", width
     if is_trace and 0x20 < byte < 0x7F:
@@ -49,6 +49,11 @@ def about_byte(line, at, is_trace):
         allowed = "allowed in a trace are letters, digits, `_`, `-`, `,`, space and tab"
         return f"`{chr(byte)}` isn't allowed here: " + (f"{why}; {allowed}" if why else allowed), 1
     return f"{shown} isn't allowed: allowed are space to `~`, the tab and the line's end", 1
+
+
+def name_of(character):
+    """Returns a character as a message shows it."""
+    return f"`{character}`" if character.isprintable() else f"U+{ord(character):04X}"
 
 
 def character_at(text, at):

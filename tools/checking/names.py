@@ -31,21 +31,19 @@ class NameFaults:
         """Returns the messages of all lines with a fault, in the order of the lines."""
         outer, found = {}, []
         for statement in self.document.declarations:
-            found.append(duplicate(outer, statement))
+            found += duplicate(outer, statement)
         for task in self.document.tasks:
-            if task.head.name:
-                found.append(duplicate(outer, task.head))
-            if task.is_whole and found[-1] is None:
-                found.append(self.unknown_event(task.head))
+            repeated = duplicate(outer, task.head) if task.head.name else []
+            found += repeated or (self.unknown_event(task.head) if task.is_whole else [])
             found += self.of_body(task)
-        return sorted((it for it in found if it), key=lambda it: it.line)
+        return sorted(found, key=lambda it: it.line)
 
     def of_body(self, task):
-        """Returns the first fault of each line of a task's body, or nothing for it."""
+        """Yields the messages of each line of a task's body, all of the kind that the program tries first."""
         inner, nexts = {}, {}
         for statement in task.body:
             earlier = nexts if statement.word == "next" else inner
-            yield (
+            yield from (
                 duplicate(earlier, statement, task)
                 or self.unknown(task, statement)
                 or self_link(task, statement)
@@ -53,59 +51,57 @@ class NameFaults:
             )
 
     def unknown_event(self, head):
-        """Returns the message of a task on what is no event, or nothing."""
+        """Returns the message of a task on what is no event."""
         if head.source is None or head.source.text in self.events or self.is_doubtful(head.source):
-            return None
-        return self.not_there(head, head.source, "event", self.events)
+            return []
+        return [self.not_there(head, head.source, "event", self.events)]
 
     def unknown(self, task, statement):
-        """Returns the message of the first name of a line that isn't there, or nothing."""
+        """Returns the messages of the names of a line that aren't there."""
         if statement.word == "sense":
             return self.unknown_input(statement)
         if statement.word == "read":
-            return self.unknown_link(task, statement)
-        if statement.word == "next":
-            states = task.declared("state")
-            if statement.name.text not in states and not self.is_doubtful(statement.name):
-                where = f" of `{task.name}`"
-                return self.not_there(statement, statement.name, "state", states, where, task)
-        return self.unknown_value(task, statement)
+            return self.unknown_link(statement)
+        return [*self.unknown_state(task, statement), *self.unknown_values(task, statement)]
+
+    def unknown_state(self, task, statement):
+        """Returns the message of a `next` of what is no state of its task."""
+        states = task.declared("state")
+        if statement.word != "next" or statement.name.text in states or self.is_doubtful(statement.name):
+            return []
+        return [self.not_there(statement, statement.name, "state", states, task)]
 
     def unknown_input(self, statement):
-        """Returns the message of a sense of what is no input, or nothing."""
+        """Returns the message of a sense of what is no input."""
         if statement.source.text in self.inputs or self.is_doubtful(statement.source):
-            return None
-        return self.not_there(statement, statement.source, "input", self.inputs)
+            return []
+        return [self.not_there(statement, statement.source, "input", self.inputs)]
 
-    def unknown_link(self, task, statement):
-        """Returns the message of a read of no task, or of no out of that task, or nothing."""
+    def unknown_link(self, statement):
+        """Returns the message of a read of no task, or of no out of that task."""
         source, port = statement.source, statement.port
         writer = self.tasks.get(source.text)
         if writer is None:
-            if self.is_doubtful(source):
-                return None
-            return self.not_there(statement, source, "task", self.tasks)
+            return [] if self.is_doubtful(source) else [self.not_there(statement, source, "task", self.tasks)]
         outs = writer.declared("out")
         if port.text in outs or self.is_doubtful(port):
-            return None
-        text = f"the task `{source.text}` has no out `{port.text}`: {what_there_is('out', outs, f' of `{source.text}`')}"
+            return []
+        text = f"the task `{source.text}` has no out `{port.text}`: {what_there_is('out', outs, source.text)}"
         inner = writer.declared(*VALUES).get(port.text)
         if inner is not None:
             text += f"; `{port.text}` is {SAID[inner.word]} of it, which only its own lines can name"
-        return error_at(port, statement.line, 11, text, note_of(writer.head))
+        return [error_at(port, statement.line, 11, text, note_of(writer.head))]
 
-    def unknown_value(self, task, statement):
-        """Returns the message of a name in an expression that has no value there, or nothing."""
+    def unknown_values(self, task, statement):
+        """Yields the messages of the names in an expression that have no value there."""
         values = task.declared(*VALUES)
         for token in statement.names:
             if token.text not in values and not self.is_doubtful(token):
-                return self.no_value(task, statement, token, values)
-        return None
+                yield self.no_value(task, statement, token, values)
 
     def no_value(self, task, statement, token, values):
         """Returns the message of a name that has no value in its task."""
-        where = f" of `{task.name}`"
-        text = f"`{token.text}` is no state, sense, read or let{where}: {what_there_is('name', values, where)}"
+        text = f"`{token.text}` is no state, sense, read or let of `{task.name}`: {what_there_is('name', values, task.name)}"
         found = task.declared("out").get(token.text) or self.outer(token)
         if found is None:
             if begins_comment(statement.tokens):
@@ -113,14 +109,14 @@ class NameFaults:
             return error_at(token, statement.line, 11, text)
         return error_at(token, statement.line, 11, about_found(task, token, found), note_of(found))
 
-    def not_there(self, statement, token, kind, names, where="", task=None):
-        """Returns the message of a name that isn't one of its kind."""
+    def not_there(self, statement, token, kind, names, task=None):
+        """Returns the message of a name that isn't one of its kind, in the document or in a task."""
+        owner = task.name if task else None
         found = (task.declared(*DECLARING).get(token.text) if task else None) or self.outer(token)
-        text = f"`{token.text}` is no {kind}{where}: {what_there_is(kind, names, where)}"
-        if found is None:
-            return error_at(token, statement.line, 11, text)
-        text = f"`{token.text}` is {SAID[found.word]}, and no {kind}{where}: {what_there_is(kind, names, where)}"
-        return error_at(token, statement.line, 11, text, note_of(found))
+        no_kind = f"no {kind} of `{owner}`" if task else f"no {kind}"
+        what = f"{SAID[found.word]}, and {no_kind}" if found else no_kind
+        text = f"`{token.text}` is {what}: {what_there_is(kind, names, owner)}"
+        return error_at(token, statement.line, 11, text, *([note_of(found)] if found else []))
 
     def outer(self, token):
         """Returns the line that declares a name as an input, an event or a task, or nothing."""
@@ -150,38 +146,37 @@ def note_of(statement):
 
 
 def duplicate(earlier, statement, task=None):
-    """Returns the message of a name that an earlier line declares, or nothing; keeps the name."""
+    """Returns the message of a name that an earlier line declares; keeps the name."""
     name = statement.name.text
     first = earlier.setdefault(name, statement)
     if first is statement:
-        return None
+        return []
     note = Note(first.line, first.name.column, "the first line is here")
     where = f" in the task `{task.name}`" if task else ""
     if statement.word == "next":
         text = f"a second `next` of `{name}`{where}: the first stands in line {first.line}"
     else:
-        text = f"`{name}` is declared a second time{where}, as {SAID[statement.word]}: line {first.line} declares it as {SAID[first.word]}"
-    return error_at(statement.name, statement.line, 10, text, note)
+        of_both = f"as {SAID[statement.word]}: line {first.line} declares it as {SAID[first.word]}"
+        text = f"`{name}` is declared a second time{where}, {of_both}"
+    return [error_at(statement.name, statement.line, 10, text, note)]
 
 
 def self_link(task, statement):
-    """Returns the message of a read of the task's own out, or nothing."""
+    """Returns the message of a read of the task's own out."""
     if statement.word != "read" or statement.source.text != task.name:
-        return None
+        return []
     text = f"the task `{task.name}` reads its own out; a state keeps a value from instance to instance"
-    return error_at(statement.source, statement.line, 12, text)
+    return [error_at(statement.source, statement.line, 12, text)]
 
 
 def past_cost(task, statement):
-    """Returns the message of a read that is made after its task has ended, or nothing."""
-    if statement.word != "read" or not task.is_whole:
-        return None
+    """Returns the message of a read that is made after its task has ended."""
     at, cost = statement.number("at", 0), task.head.number("cost")
-    if at < cost:
-        return None
-    token = statement.numbers["at"]
+    if statement.word != "read" or not task.is_whole or at < cost:
+        return []
     text = f"`at {at}` isn't below the cost of the task `{task.name}`, which is {cost}: the latest is `at {cost - 1}`"
-    return error_at(token, statement.line, 16, text, Note(task.head.line, task.head.numbers["cost"].column, "the cost is here"))
+    note = Note(task.head.line, task.head.numbers["cost"].column, "the cost is here")
+    return [error_at(statement.numbers["at"], statement.line, 16, text, note)]
 
 
 def name_faults(document):

@@ -82,20 +82,19 @@ def name_fault(step, document):
             return error_at(token, step.line, 28, f"`{token.text}` is no task: {what_there_is('task', tasks)}")
     task = tasks[tokens[1].text]
     if tokens[0].text == "claim":
-        return link_fault(step, task)
+        return link_fault(step, task, document)
     kind = {"look": "read", "take": "read", "put": "out"}.get(tokens[0].text)
     names = task.declared(kind) if kind else {}
     if kind is None or tokens[2].text in names or tokens[2].text in document.doubtful:
         return None
-    where = f" of `{task.name}`"
-    text = f"`{tokens[2].text}` is no {kind}{where}: {what_there_is(kind, names, where)}"
+    text = f"`{tokens[2].text}` is no {kind} of `{task.name}`: {what_there_is(kind, names, task.name)}"
     return error_at(tokens[2], step.line, 28, text)
 
 
-def link_fault(step, task):
+def link_fault(step, task, document):
     """Returns the message of a claim of no link, or nothing."""
     claims = claims_of(task)
-    if canonical(step) in claims:
+    if canonical(step) in claims or step.tokens[-1].text in document.doubtful:
         return None
     there = f"its claims are {listed(claims, 'and')}" if claims else "it reads no task"
     text = f"no read of `{task.name}` has this task and this delay: {there}"

@@ -32,14 +32,13 @@ def listed(names, join="and"):
     return f"{', '.join(quoted[:-1])} {join} {quoted[-1]}"
 
 
-def what_there_is(kind, names, where=""):
-    """Returns which names of a kind there are: the tasks are `a` and `b`."""
+def what_there_is(kind, names, owner=None):
+    """Returns which names of a kind there are, of an owner or of the document: the tasks are `a` and `b`."""
     names = list(dict.fromkeys(names))
     if not names:
-        return f"there is no {kind}{where}"
-    if len(names) == 1:
-        return f"the only {kind}{where} is `{names[0]}`"
-    return f"the {kind}s{where} are {listed(names)}"
+        return f"`{owner}` has none" if owner else "none is declared"
+    of = f" of `{owner}`" if owner else ""
+    return f"the only {kind}{of} is `{names[0]}`" if len(names) == 1 else f"the {kind}s{of} are {listed(names)}"
 
 
 def times(count, one, many=None):

@@ -6,8 +6,7 @@ from fractions import Fraction
 
 from checking.language import GREATEST_VALUE, LEAST_VALUE
 from checking.messages import Note, warning
-from checking.ranks import CODES, key_of
-from checking.text import listed
+from checking.ranks import CODES
 from checking.trace import times_of_events
 
 VALUES = ("state", "sense", "read", "let")
@@ -15,17 +14,12 @@ VALUES = ("state", "sense", "read", "let")
 
 def warnings_of(run, text, document):
     """Returns the warnings of a document whose diagram and trace the program accepts."""
+    found = [*trace_after_script(document), *unused(document), *equal_ranks(document), *long_costs(document), *load(document)]
     table = run(["mean"], text)
-    lines = table.stdout.decode("ascii").splitlines() if table.status == 0 else []
-    return [
-        *trace_after_script(document),
-        *unused(document),
-        *equal_ranks(document),
-        *long_costs(document),
-        *load(document),
-        *never_occurs(document, lines),
-        *ends_of_values(document, lines),
-    ]
+    if table.status == 0:
+        lines = table.stdout.decode("ascii").splitlines()
+        found += [*never_occurs(document, lines), *ends_of_values(document, lines)]
+    return found
 
 
 def trace_after_script(document):
@@ -163,6 +157,3 @@ def ends_of_values(document, lines):
                 time, value = found[task.name, place]
                 text = f"the out `{out.name.text}` of `{task.name}` is {value} at tick {time}, the end of 64 bits, at which results stop"
                 yield of_name(out, "EndOfValues", text)
-
-
-__all__ = ["warnings_of", "listed", "key_of"]
