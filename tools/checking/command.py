@@ -22,12 +22,14 @@ CANNOT_RUN = 70
 
 def parser():
     """Returns the parser of the words."""
-    made = argparse.ArgumentParser(prog="check", description=ABOUT, formatter_class=argparse.RawDescriptionHelpFormatter)
+    as_written = argparse.RawDescriptionHelpFormatter
+    made = argparse.ArgumentParser(prog="check", description=ABOUT, formatter_class=as_written)
     made.add_argument("files", nargs="+", metavar="FILE", help="a document; `-` is standard input")
     made.add_argument("--json", action="store_true", help="print one JSON list on standard output instead")
     made.add_argument("--no-warnings", action="store_true", help="print errors alone")
     commands = [it.value for it in Command]
-    made.add_argument("--as", dest="command", choices=commands, help="judge as `dbp plan`, `dbp replay` or `dbp replay --ranked`")
+    about_as = "judge as `dbp plan`, `dbp replay` or `dbp replay --ranked`"
+    made.add_argument("--as", dest="command", choices=commands, help=about_as)
     add_program_option(made)
     return made
 

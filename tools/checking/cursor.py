@@ -62,10 +62,10 @@ class Cursor:
         self.at += 1
         return self.last
 
-    def end(self, *others):
-        """Takes the line's end; `others` could stand here too."""
+    def end(self):
+        """Takes the line's end."""
         if self.here is not None:
-            self.leave(" or ".join([*others, "the line's end"]))
+            self.leave("the line's end")
 
     def leave(self, wanted, why=""):
         """Raises what is wrong here, where something else is wanted."""
@@ -90,6 +90,8 @@ class Cursor:
             return more
         if self.here.kind is Kind.WORD and "name" in wanted:
             return f"`{self.here.text}` is a reserved word, and no name"
+        if "line's end" in wanted and self.here.kind is Kind.WORD and self.here.text in FORMS:
+            return "each statement has a line of its own"
         if self.here.says("-") and self.at + 1 < len(self.tokens) and self.tokens[self.at + 1].kind is Kind.NUMBER:
             return "a number's sign stands directly before its digits"
         return None

@@ -1,12 +1,13 @@
 """Expressions: which names they use, and where they leave their form."""
 
+from checking.foreign import WORDS
+from checking.language import FORMS
 from checking.tokens import Kind
 
 OPERAND = "an expression (a number, a name, `(`, `-`, `not`, `min`, `max`)"
 COMPARISONS = ("==", "!=", "<", "<=", ">", ">=")
 # From the loosest to the tightest.
 LEVELS = (("or",), ("and",), COMPARISONS, ("+", "-"), ("*", "/", "%"))
-ENDS = {"then": "`then` or an operator", "else": "`else` or an operator", ")": "`)` or an operator", ",": "`,` or an operator"}
 
 
 def expression(cursor, names):
@@ -80,13 +81,18 @@ def after_call(cursor, names, call):
 def after(cursor, text):
     """Takes a word or symbol that comes after an expression."""
     if not cursor.takes(text):
-        cursor.leave(ENDS[text], about_rest(cursor))
+        cursor.leave(end_of(text), about_rest(cursor))
+
+
+def end_of(text):
+    """Returns what may come after an expression that a word or symbol ends."""
+    return f"`{text}` or an operator"
 
 
 def close(cursor, opened):
     """Takes the parenthesis that closes another."""
     if not cursor.takes(")"):
-        cursor.leave(ENDS[")"], about_rest(cursor) or f"for the `(` in column {opened.column}")
+        cursor.leave(end_of(")"), about_rest(cursor) or f"for the `(` in column {opened.column}")
 
 
 def whole(cursor, names):
@@ -109,6 +115,6 @@ def about_rest(cursor):
         return f"`{before.text}` can't be called: there are `min(E, E)` and `max(E, E)` alone"
     if here.says(".") and before.kind is Kind.NAME:
         return "the out of a task gets a name by a line `read NAME = TASK.OUT`"
-    if here.kind is Kind.WORD:
+    if here.kind is Kind.WORD and here.text not in FORMS:
         return f"`{here.text}` is a reserved word, and no operator"
-    return ""
+    return WORDS.get(here.text, "") if here.kind is Kind.NAME else ""

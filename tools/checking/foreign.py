@@ -43,6 +43,15 @@ PAIRS = {
     "===": "equal is `==`",
 }
 
+# Words of other languages in an expression.
+WORDS = {
+    "elseif": "`else if` is two words",
+    "elif": "`else if` is two words",
+    "true": "a value is true if it isn't 0, so true is 1",
+    "false": "a value is true if it isn't 0, so false is 0",
+    "mod": "the rest of a division is `%`",
+}
+
 NUMBER_BASES = {"x": 16, "b": 2, "o": 8}
 
 
@@ -68,7 +77,8 @@ def about_number(text):
         return f"{start}: digits stand together, as {sign}{digits.replace('_', '')}"
     if re.fullmatch(r"[0-9]+[eE][0-9]+", digits):
         return f"{start}: a number has all its digits, and no exponent"
-    return f"{start}: no letter and no `_` follows a number directly; a name begins with a letter or `_`, and ticks have no unit"
+    rule = "no letter and no `_` follows a number directly"
+    return f"{start}: {rule}; a name begins with a letter or `_`, and ticks have no unit"
 
 
 def about_pair(tokens, at):

@@ -1,13 +1,12 @@
 """What an illegal step of a script is: the steps before it, and the steps that the program would allow in its place."""
 
-from __future__ import annotations
-
 import re
 from concurrent.futures import ThreadPoolExecutor
 from dataclasses import dataclass
 
 from checking.messages import Message, Note, Severity
-from checking.releases import WAITING, next_of_releaser, next_of_task, party_of, taken_steps
+from checking.ranks import key_of
+from checking.releases import WAITING, next_of_releaser, next_of_task, party_of, standing_claims, taken_steps
 from checking.text import listed
 
 ILLEGAL = re.compile(rb"illegal step ([0-9]+): (.*)\n")
@@ -65,7 +64,7 @@ class Explained:
         self.words = words
         self.replaying = Replaying(program, words, document, illegal.number)
         self.step = document.steps[illegal.number - 1]
-        self.taken = self.replaying.taken()
+        self.taken = self.replaying.taken()  # the steps before it
 
     def message(self):
         """Returns the message of the illegal step."""
@@ -83,13 +82,21 @@ class Explained:
         allowed = self.allowed()
         of_party = [it for it in allowed if party_of(it.split()) == own]
         who = f"`{own}`" if own else "the releaser"
-        command = f"`dbp {' '.join(self.words)}`"
-        if self.illegal.why.startswith("not the next") and of_party:
+        is_at_place = not self.illegal.why.startswith("not the next")
+        if of_party and not is_at_place:
             return f"the next step of {who} is {listed(of_party, 'or')}"
+        waits = self.about_waiting(own) if own and not is_at_place else ""
+        command = f"`dbp {' '.join(self.words)}`"
         if not allowed:
-            return f"{command} allows no step here that goes on"
+            return f"{waits}{command} allows no step here that goes on"
         more = " and others" if len(allowed) > SHOWN_ALLOWED else ""
-        return f"{command} allows here {listed(allowed[:SHOWN_ALLOWED], 'or')}{more}"
+        return f"{waits}{command} allows here {listed(allowed[:SHOWN_ALLOWED], 'or')}{more}"
+
+    def about_waiting(self, name):
+        """Returns what the next step of a task hears here, if that leaves the task where it is."""
+        following = next_of_task(self.document.named_tasks[name], self.taken)
+        heard = self.replaying.heard(following)
+        return f"the next step of `{name}` is `{following}`, which hears `{heard}` here; " if heard in WAITING else ""
 
     def allowed(self):
         """Returns the next steps of all parties that the program allows, and that go on."""
@@ -123,7 +130,7 @@ class Explained:
         words = self.step.text.split()
         own = [(number, it) for number, it in enumerate(self.taken, 1) if self.is_of_same(it, words)]
         return [
-            Note(it.line, 1, f"before it, step {number} was `{it.text}`" + (f", which heard `{it.heard}`" if it.heard else ""))
+            Note(it.line, 1, f"before it, step {number} was `{it.text}`{what_it_heard(it)}")
             for number, it in own[-SHOWN_BEFORE:]
         ]
 
@@ -134,14 +141,26 @@ class Explained:
         return party_of(taken.words) == party_of(words)
 
     def claims(self):
-        """Returns the last claims on a task of whose slots one is claimed."""
+        """Returns the claims that stand on the slot of an aim."""
         if self.illegal.why != "slot claimed":
             return []
-        task, last = self.step.text.split()[1], {}
-        for taken in self.taken:
-            if taken.words[0] == "claim" and taken.words[-1] == task:
-                last[taken.words[1]] = taken
-        return [Note(it.line, 1, f"`{it.words[1]}` claims a slot of `{task}` until a `seen {it.words[1]}` hears of its end") for it in last.values()]
+        _, task, slot = self.step.text.split()
+        counted = None if self.words == ["replay"] else self.ranked_below(task)
+        return [
+            Note(it.step.line, 1, f"`{it.reader}` claims this slot, until a `seen {it.reader}` hears {it.instance}")
+            for it in standing_claims(self.taken, task)
+            if it.slot == int(slot) and (counted is None or it.reader in counted)
+        ]
+
+    def ranked_below(self, name):
+        """Returns the names of the tasks that are ranked below one."""
+        key = key_of(self.document, self.document.named_tasks[name])
+        return [it.name for it in self.document.tasks if key_of(self.document, it) > key]
+
+
+def what_it_heard(taken):
+    """Returns what a step heard, or nothing."""
+    return f", which heard `{taken.heard}`" if taken.heard else ""
 
 
 def explained(program, words, document, illegal):

@@ -3,7 +3,7 @@
 import re
 
 from checking.foreign import about_no_token
-from checking.language import GREATEST_VALUE, LEAST_VALUE, MOST_DEPTH, MOST_NAME, MOST_NODES
+from checking.language import FORMS, GREATEST_VALUE, LEAST_VALUE, MOST_DEPTH, MOST_NAME, MOST_NODES
 from checking.messages import error, error_at
 from checking.tokens import Kind
 
@@ -47,8 +47,17 @@ def about_byte(line, at, is_trace):
     if is_trace and 0x20 < byte < 0x7F:
         why = TRACE_SIGNS.get(chr(byte))
         allowed = "allowed in a trace are letters, digits, `_`, `-`, `,`, space and tab"
-        return f"`{chr(byte)}` isn't allowed here: " + (f"{why}; {allowed}" if why else allowed), 1
+        text = f"`{chr(byte)}` isn't allowed here: " + (f"{why}; {allowed}" if why else allowed)
+        return text + about_row(line.text.decode("latin-1")), 1
     return f"{shown} isn't allowed: allowed are space to `~`, the tab and the line's end", 1
+
+
+def about_row(text):
+    """Returns more about a line of the trace that is a line of the diagram, or nothing."""
+    word = (text.split() or [""])[0]
+    if word not in FORMS or word in ("trace", "script", "done"):
+        return ""
+    return f"; `{word}` lines can't stand in the trace, which goes to the line `script` or `done`"
 
 
 def name_of(character):

@@ -1,6 +1,6 @@
 """Faults of names, line by line: declared twice, not there, a task's own out, and reads past the cost."""
 
-from checking.foreign import COMMENT, begins_comment
+from checking.foreign import COMMENT, WORDS, begins_comment
 from checking.messages import Note, error_at
 from checking.text import what_there_is
 
@@ -101,11 +101,12 @@ class NameFaults:
 
     def no_value(self, task, statement, token, values):
         """Returns the message of a name that has no value in its task."""
-        text = f"`{token.text}` is no state, sense, read or let of `{task.name}`: {what_there_is('name', values, task.name)}"
+        there = what_there_is("name", values, task.name)
+        text = f"`{token.text}` is no state, sense, read or let of `{task.name}`: {there}"
         found = task.declared("out").get(token.text) or self.outer(token)
         if found is None:
-            if begins_comment(statement.tokens):
-                text += f"; {COMMENT}"
+            more = COMMENT if begins_comment(statement.tokens) else WORDS.get(token.text)
+            text += f"; {more}" if more else ""
             return error_at(token, statement.line, 11, text)
         return error_at(token, statement.line, 11, about_found(task, token, found), note_of(found))
 
@@ -132,7 +133,7 @@ def about_found(task, token, found):
     """Returns what is wrong with a name in an expression that is declared as something else."""
     name = token.text
     if found.word == "out":
-        return f"`{name}` is an out of `{task.name}`, which its own expressions can't name: name a `let` of the same value"
+        return f"`{name}` is an out of `{task.name}`, which its own expressions can't name: name a `let` instead"
     if found.word == "input":
         return f"`{name}` is an input: a line `sense NAME = {name}` gives its value to the task"
     if found.word == "task":
@@ -142,7 +143,8 @@ def about_found(task, token, found):
 
 def note_of(statement):
     """Returns a note at the place where a name is declared."""
-    return Note(statement.line, statement.name.column, f"`{statement.name.text}` is declared here as {SAID[statement.word]}")
+    name = statement.name
+    return Note(statement.line, name.column, f"`{name.text}` is declared here as {SAID[statement.word]}")
 
 
 def duplicate(earlier, statement, task=None):

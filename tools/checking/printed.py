@@ -2,8 +2,6 @@
 
 import json
 
-from checking.messages import Severity
-
 MOST_SHOWN = 160
 TAKEN_BEFORE = 60
 
@@ -61,8 +59,3 @@ def objects(file, messages):
 def as_json(found):
     """Returns a list of objects as a text, one object a line."""
     return "[" + ",".join("\n" + json.dumps(it, ensure_ascii=False) for it in found) + "\n]\n"
-
-
-def has_errors(messages):
-    """Whether one of the messages is an error."""
-    return any(it.severity is Severity.ERROR for it in messages)

@@ -1,6 +1,6 @@
 """Ranks of tasks, and the faults of them: a number that is missing, and a read upward without a delay."""
 
-from checking.messages import Note, error, error_at
+from checking.messages import Note, error_at
 
 CODES = {"fp": (14, "prio"), "edf": (15, "deadline")}
 
@@ -24,7 +24,7 @@ def missing_number(document, task):
     if other in task.head.numbers:
         text += f"; its `{other}` ranks under the other policy alone"
     cost = task.head.tokens[-2]
-    return error(task.head.line, cost.column, code, f"{text}; `{word} N` stands before `{before(task, word)}`", width=cost.width)
+    return error_at(cost, task.head.line, code, f"{text}; `{word} N` stands before `{before(task, word)}`")
 
 
 def before(task, word):
@@ -57,10 +57,8 @@ def upward_read(document, task, read):
     word = CODES[document.policy][1]
     numbers = f"{word} {task.head.number(word)}", f"{word} {writer.head.number(word)}"
     why = "which is declared later" if numbers[0] == numbers[1] else f"which has `{numbers[1]}`"
-    text = (
-        f"the task `{task.name}` with `{numbers[0]}` is ranked above `{writer.name}`, {why}, and reads it without a delay: "
-        f"`pre {read.source.text}.{read.port.text}` reads the occurrence before"
-    )
+    text = f"the task `{task.name}` with `{numbers[0]}` is ranked above `{writer.name}`, {why}, and reads it without a "
+    text += f"delay: `pre {read.source.text}.{read.port.text}` reads the occurrence before"
     notes = [Note(it.head.line, it.head.name.column, rank_note(document, it)) for it in (task, writer)]
     return error_at(read.source, read.line, 18, text, *notes)
 
@@ -71,4 +69,5 @@ def rank_note(document, task):
     text = f"`{task.name}` with `{word} {task.head.number(word)}`"
     if any(key_of(document, it) is None for it in document.tasks):
         return text
-    return f"{text} has rank {ranks_of(document).index(task)} of 0 to {len(document.tasks) - 1}; 0 is the highest"
+    rank, last = ranks_of(document).index(task), len(document.tasks) - 1
+    return f"{text} has rank {rank} of 0 to {last}; 0 is the highest"

@@ -4,57 +4,18 @@ After a fault the reading goes on, so that later faults are found too; what a li
 """
 
 import re
-from enum import IntEnum
 
 from checking.cursor import LeavesForm, cursor_of
 from checking.document import Document, Step, Task
-from checking.foreign import about_pair
-from checking.language import BODY, COUNTED, COUNTS, FORMS, SPANS
+from checking.language import BODY, FORMS
 from checking.line_faults import byte_fault, depth_fault, node_fault, token_fault
 from checking.messages import Note, error, error_at
+from checking.places import AFTER, ENDS, Section, count_fault, is_row, is_step, number_fault, place_fault
 from checking.statements import FORM_OF, Statement
-from checking.text import lines_of, listed
+from checking.text import lines_of
 from checking.tokens import Kind, code_of, tokens_of
 
 WORDS = re.compile(r"[A-Za-z_][A-Za-z0-9_]*")
-
-
-class Section(IntEnum):
-    """What stands at a place of a document."""
-
-    HEADER = 0
-    POLICY = 1
-    UNTIL = 2
-    DECLARATIONS = 3
-    TASKS = 4
-    TRACE = 5
-    SCRIPT = 6
-    END = 7
-
-
-# The section in which the line after one of these words stands.
-AFTER = {
-    "dbp": Section.POLICY,
-    "policy": Section.UNTIL,
-    "until": Section.DECLARATIONS,
-    "input": Section.DECLARATIONS,
-    "event": Section.DECLARATIONS,
-    "task": Section.TASKS,
-    **{word: Section.TASKS for word in BODY},
-    "trace": Section.TRACE,
-    "script": Section.SCRIPT,
-    "done": Section.END,
-}
-
-ENDS = ("trace", "script", "done")
-ALLOWED = {
-    Section.HEADER: ("dbp",),
-    Section.POLICY: ("policy",),
-    Section.UNTIL: ("until",),
-    Section.DECLARATIONS: ("input", "event", "task", *ENDS),
-    Section.TASKS: (*BODY, "task", *ENDS),
-    Section.END: (),
-}
 
 
 class Reader:
@@ -86,9 +47,8 @@ class Reader:
 
     def missing_done(self):
         """Returns the message of a document that ends without `done`."""
-        at = {Section.TRACE: self.document.trace_at, Section.SCRIPT: self.document.script_at}.get(self.section)
-        word = "trace" if self.section is Section.TRACE else "script"
-        notes = [Note(at, 1, f"the section `{word}` begins here, and goes to a line that is `done` alone")] if at else []
+        begun = {Section.TRACE: self.document.trace_at, Section.SCRIPT: self.document.script_at}.get(self.section)
+        notes = [Note(begun, 1, "the section begins here, and goes to a line that is `done` alone")] if begun else []
         return error(len(self.document.lines) + 1, 1, 7, "the document ends without a line `done`", *notes)
 
     def take_row(self, line):
@@ -140,57 +100,13 @@ class Reader:
     def fault_of(self, line, tokens, statement, form_fault):
         """Returns the message of a line's first fault after those of its tokens, or nothing."""
         if self.section is Section.HEADER and (statement.word != "dbp" or form_fault):
-            text = "the first line with tokens must be `dbp 1`" + (", the only version" if statement.word == "dbp" else "")
-            return error_at(statement.head, line.number, 8, text)
-        fault = node_fault(line, tokens) or depth_fault(line, tokens) or self.place_fault(statement)
+            more = ", the only version" if statement.word == "dbp" else ""
+            return error_at(statement.head, line.number, 8, "the first line with tokens must be `dbp 1`" + more)
+        fault = node_fault(line, tokens) or depth_fault(line, tokens)
+        fault = fault or place_fault(statement, self.section, self.document)
         if fault is None and form_fault:
             fault = error(line.number, form_fault.column, 3, form_fault.text, width=form_fault.width)
-        return fault or number_fault(statement) or self.count_fault(statement)
-
-    def place_fault(self, statement):
-        """Returns the message of a line that may not stand at its place, or nothing."""
-        head = statement.head
-        if head.kind is Kind.WORD and statement.word in ALLOWED[self.section]:
-            return None
-        if self.section is Section.END:
-            note = Note(self.document.done_at, 1, "`done` stands here")
-            return error_at(head, statement.line, 3, "no line with tokens may follow `done`", note)
-        return error_at(head, statement.line, 3, self.about_place(statement))
-
-    def about_place(self, statement):
-        """Returns what is wrong with a line that may not stand at its place."""
-        word = statement.word
-        if self.section in (Section.POLICY, Section.UNTIL):
-            wanted = ALLOWED[self.section][0]
-            which = "second" if wanted == "policy" else "third"
-            return f"`{FORMS[wanted]}` must stand here: it is the {which} line with tokens"
-        here = f"here may stand {listed(ALLOWED[self.section], 'or')}"
-        if statement.head.kind is not Kind.WORD or word not in FORMS:
-            return f"no line begins with `{word}` ({about_start(statement) or here})"
-        if word in BODY:
-            return f"`{word}` lines stand in the body of a task, after its `task` line, and no task stands before this one"
-        if word in ("input", "event"):
-            return f"`{word}` lines stand before the first `task` line"
-        return f"a document has one `{word}` line, at its start; {here}"
-
-    def count_fault(self, statement):
-        """Returns the message of a line that is one past a count, or nothing."""
-        document, word = self.document, statement.word
-        body = document.tasks[-1].body if document.tasks else []
-        counts = {
-            "inputs": word == "input" and sum(it.word == "input" for it in document.declarations),
-            "events": word == "event" and sum(it.word == "event" for it in document.declarations),
-            "tasks": word == "task" and len(document.tasks),
-            "body": word in BODY and len(body),
-            "reads": word == "read" and sum(it.word == "read" for it in body),
-            "links": word == "read" and len(document.reads),
-            "outs": word == "out" and sum(it.word == "out" for it in body),
-        }
-        for what, count in counts.items():
-            if count is not False and count >= COUNTS[what]:
-                text = f"there are at most {COUNTS[what]} {COUNTED[what]}, and this is one more"
-                return error_at(statement.head, statement.line, 6, text, detail=what)
-        return None
+        return fault or number_fault(statement) or count_fault(statement, self.document)
 
     def go_on(self, line, tokens, words, statement, fault):
         """Keeps what a line says, and moves on to the section after it."""
@@ -246,30 +162,12 @@ class Reader:
             self.is_stray = is_stray
 
     def is_out_of_place(self, line):
-        """Whether a refused line is one of many that stand after `done`, or before the first task."""
-        word = (WORDS.findall(code_of(line.text)) or [""])[0]
-        return self.section is Section.END and self.document.done_at != line.number or word in BODY and not self.document.tasks
-
-
-def about_start(statement):
-    """Returns more about a line that begins with no word of a line, or nothing."""
-    tokens = statement.tokens
-    pair = about_pair(tokens, 0)
-    if pair:
-        return pair
-    if statement.head.kind is Kind.NAME and len(tokens) > 1 and tokens[1].says("="):
-        return f"a line begins with its kind, as `let {statement.word} = E` or `next {statement.word} = E`"
-    return None
-
-
-def number_fault(statement):
-    """Returns the message of the first number of a line that is outside of its own limits, or nothing."""
-    for word, token in statement.numbers.items():
-        span = SPANS[word]
-        if not span.least <= token.value <= span.greatest:
-            text = f"the number after `{word}` is {token.value}; it must be from {span.least:,} to {span.greatest:,}"
-            return error_at(token, statement.line, 6, text, detail="number")
-    return None
+        """Whether a refused line is one of many that stand after `done`, before all tasks, or outside of their section."""
+        tokens = tokens_of(line.text)
+        if self.section is Section.END and self.document.done_at != line.number:
+            return True
+        is_body = tokens[0].text in BODY and not self.document.tasks
+        return is_body or is_row(tokens) or is_step(tokens)
 
 
 def read_document(text):

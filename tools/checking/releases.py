@@ -1,11 +1,9 @@
 """Which step comes next for the releaser and for each task, after the steps that the program has taken."""
 
-from __future__ import annotations
-
 from dataclasses import dataclass
 
+from checking.occurrences import times_of_events
 from checking.steps import claims_of
-from checking.trace import times_of_events
 
 WAITING = ("closed", "notyet")
 
@@ -103,3 +101,29 @@ def next_of_releaser(document, taken):
         if place == made:
             return action
     return None
+
+
+@dataclass(frozen=True)
+class Claim:
+    """The last claim of a link: its step, the reader, the reader's instance, and the slot that it names."""
+
+    step: Taken
+    reader: str
+    instance: int
+    slot: int
+
+
+def standing_claims(taken, writer):
+    """Returns the last claim of each link from a task whose reader isn't known to have ended."""
+    aims, known, last = {}, {}, {}
+    for step in taken:
+        word, task, *rest = step.words
+        if word == "aim":
+            aims.setdefault(task, []).append(int(rest[0]))
+        elif word == "seen":
+            known[task] = int(step.heard)
+        elif word == "claim" and rest[-1] == writer:
+            delay = int(rest[1]) if len(rest) == 3 else len(rest) - 1
+            slots = [0] * (delay + 1) + aims.get(writer, [])
+            last[step.text] = Claim(step, task, len(aims.get(task, [])), slots[-1 - delay])
+    return [it for it in last.values() if it.instance > known.get(it.reader, 0)]

@@ -71,7 +71,8 @@ def with_value(cursor, statement):
     cursor.word("=")
     statement.value = cursor.number("a number")
     if cursor.here is not None:
-        cursor.leave("the line's end", cursor.advice("") or "the first value is one number, and no expression")
+        more = cursor.advice("the line's end") or "the first value is one number, and no expression"
+        cursor.leave("the line's end", more)
 
 
 def event(cursor, statement):
@@ -82,6 +83,8 @@ def event(cursor, statement):
 
 def task(cursor, statement):
     """Takes a task's name, clock, priority, deadline and cost."""
+    if cursor.says("every", "on"):
+        cursor.leave("a name", "the name of the task comes before its clock")
     statement.name = cursor.name("a name")
     if cursor.here is None or not cursor.says("every", "on"):
         cursor.form = f"{FORMS['task']}` or `{TASK_ON_EVENT}"
@@ -140,8 +143,9 @@ def read(cursor, statement):
     if cursor.takes("at"):
         statement.numbers["at"] = cursor.number("a number of ticks")
         cursor.end()
-    else:
-        cursor.end("`at N`")
+    elif cursor.here is not None:
+        before = "`pre` and its number come before the task" if cursor.says("pre") else ""
+        cursor.leave("`at N` or the line's end", before)
 
 
 def about_read(cursor, statement):
@@ -149,7 +153,7 @@ def about_read(cursor, statement):
     if cursor.here is None:
         return f"an out of the task is named, as `{cursor.last.text}.NAME`"
     if statement.is_delayed and "pre" not in statement.numbers and cursor.here.kind is Kind.NAME:
-        return f"`{cursor.last.text}` is taken as the task; the delay after `pre` is a number from 1 to {GREATEST_DELAY}"
+        return f"the delay after `pre` is a number from 1 to {GREATEST_DELAY}"
     return cursor.advice("")
 
 

@@ -29,18 +29,21 @@ def form_fault(step):
     """Returns the message of a line that has none of the forms of steps, or nothing."""
     tokens, word = step.tokens, step.tokens[0].text
     if step.text == "trace":
-        text = "`trace` is no step: after the line `script` all lines up to `done` are steps, so the trace must stand before it"
+        text = "`trace` is no step: all lines from `script` to `done` are steps, so the trace must stand before it"
         return error_at(tokens[0], step.line, 27, text)
     if word not in STEP_FORMS:
         return error_at(tokens[0], step.line, 27, f"no step begins with `{word}`: there are {listed(STEP_FORMS)}")
     left = [leaves(form.split(), tokens) for form in STEP_FORMS[word]]
     if None in left:
         return None
-    place, wanted = max(left, key=lambda it: it[0])
+    place = max(place for place, _ in left)
+    wanted = " or ".join(dict.fromkeys(wanted for at, wanted in left if at == place))
     forms = listed(STEP_FORMS[word], "or")
     if place < len(tokens):
-        return error_at(tokens[place], step.line, 27, f"`{tokens[place].text}` stands where {wanted} must stand; the step is {forms}")
-    return error(step.line, tokens[-1].end, 27, f"the line ends where {wanted} must stand; the step is {forms}")
+        text = f"`{tokens[place].text}` stands where {wanted} must stand; the step is {forms}"
+        return error_at(tokens[place], step.line, 27, text)
+    text = f"the line ends where {wanted} must stand; the step is {forms}"
+    return error(step.line, tokens[-1].end, 27, text)
 
 
 def leaves(form, tokens):

@@ -28,7 +28,8 @@ def let_cycle(task):
         if cycle:
             notes = [Note(lets[it].line, lets[it].name.column, uses(it, following)) for it, following in pairs(cycle)]
             is_alone = len(cycle) == 1
-            text = f"the let `{name}` uses itself" if is_alone else f"the lets {listed(cycle)} use each other in a cycle"
+            of_several = f"the lets {listed(cycle)} use each other in a cycle"
+            text = f"the let `{name}` uses itself" if is_alone else of_several
             text += f" ({' -> '.join([*cycle, name])}): a state keeps a value for the next instance"
             return error_at(let.name, let.line, 13, text, *([] if is_alone else notes))
     return None

@@ -1,13 +1,12 @@
-"""Faults of the trace section: its header, its rows, and the number of occurrences."""
-
-from __future__ import annotations
+"""Faults of the trace section: its header and its rows."""
 
 import re
 from dataclasses import dataclass
 
-from checking.language import FORMS, GREATEST_VALUE, LEAST_VALUE, MOST_OCCURRENCES, MOST_ROWS
+from checking.language import GREATEST_VALUE, LEAST_VALUE, MOST_ROWS
+from checking.line_faults import about_row
 from checking.messages import Note, error
-from checking.text import listed, times, what_there_is
+from checking.text import times, what_there_is
 
 TIME_CELL = re.compile(r"[0-9]+")
 VALUE_CELL = re.compile(r"-?[0-9]+")
@@ -89,11 +88,13 @@ class TraceFaults:
         """Returns the message of what is no header, or nothing."""
         at = self.document.trace_at
         if not self.rows:
-            return error(at, 1, 20, "the trace has no header: its first line is `time`, and then names with commas between", width=5)
+            text = "the trace has no header: its first line is `time`, and then names with commas between"
+            return error(at, 1, 20, text, width=5)
         header = self.rows[0]
         if header.cells[0].text != "time":
-            text = "the trace's first line is its header, which begins with `time`" + about_cell(header.cells[0])
-            return at_cell(header, header.cells[0], 20, text)
+            names = ",".join(["time", *self.inputs, *self.events])
+            text = f"the trace's first line is its header, which begins with `time`, as `{names}`"
+            return at_cell(header, header.cells[0], 20, text + about_row(header.cells[0].text))
         seen = {}
         for cell in header.cells[1:]:
             fault = self.name_fault(header, cell, seen)
@@ -110,7 +111,7 @@ class TraceFaults:
         if cell.text in self.inputs or cell.text in self.events or cell.text in self.document.doubtful:
             return None
         there = f"{what_there_is('input', self.inputs)}, and {what_there_is('event', self.events)}"
-        what = f"`{cell.text}` is no declared input or event" if cell.text else "this cell is empty, and names no column"
+        what = f"`{cell.text}` is no declared input or event" if cell.text else "this cell is empty"
         return at_cell(header, cell, 20, f"{what}: {there}")
 
     def shape_fault(self, row):
@@ -120,7 +121,8 @@ class TraceFaults:
             columns = ",".join(it.text for it in header)
             text = f"this row has {times(len(row.cells), 'cell')}, and the header `{columns}` has {len(header)}"
             cell = row.cells[min(len(row.cells), len(header) + 1) - 1]
-            return at_cell(row, cell, 21, text + about_cell(row.cells[0]), Note(self.rows[0].line, 1, "the header is here"))
+            note = Note(self.rows[0].line, 1, "the header is here")
+            return at_cell(row, cell, 21, text + about_row(row.cells[0].text), note)
         for column, cell in zip(header, row.cells):
             wanted = self.wanted(column is header[0], column.text, cell.text)
             if wanted:
@@ -144,13 +146,14 @@ class TraceFaults:
         """Returns the message of a row whose time doesn't rise, or is past the end, or nothing."""
         if last is not None and row.time <= last.time:
             note = Note(last.line, last.cells[0].column, "the row before is here")
-            what = "the time of the row before too" if row.time == last.time else f"not after {last.time}, the time of the row before"
-            return at_cell(row, row.cells[0], 23, f"the time {row.time} is {what}: times rise from row to row", note)
+            text = f"the time {row.time} doesn't come after {last.time}, the time of the row before: times rise"
+            return at_cell(row, row.cells[0], 23, text, note)
         until = self.document.until
         if until is not None and row.time >= until.number("until"):
             end = until.number("until")
             note = Note(until.line, until.numbers["until"].column, "the end is here")
-            return at_cell(row, row.cells[0], 24, f"the time {row.time} isn't below the end of the document, `until {end}`", note)
+            text = f"the time {row.time} isn't below the end of the document, `until {end}`"
+            return at_cell(row, row.cells[0], 24, text, note)
         return None
 
 
@@ -159,50 +162,6 @@ def at_cell(row, cell, code, text, *notes):
     return error(row.line, cell.column, code, text, *notes, width=cell.width)
 
 
-def about_cell(cell):
-    """Returns more about a row that is a line of the diagram, or nothing."""
-    word = cell.text.split()[0] if cell.text.split() else ""
-    if word not in FORMS or word in ("trace", "script", "done"):
-        return ""
-    return f"; a `{word}` line can't stand in the trace, which goes to the line `script` or `done`"
-
-
 def trace_faults(document):
     """Returns the messages of the trace, in its order."""
     return TraceFaults(document).all()
-
-
-def times_of_events(document):
-    """Returns the times at which each event occurs, by a trace without faults."""
-    rows = [row_of(line) for line in document.rows]
-    header = rows[0].cells if rows else ()
-    events = document.declared("event")
-    return {
-        column.text: [row.time for row in rows[1:] if row.cells[place].text == "1"]
-        for place, column in enumerate(header)
-        if place > 0 and column.text in events
-    }
-
-
-def occurrence_fault(document):
-    """Returns the message of a document, without other faults, whose tasks occur too often, or nothing."""
-    if document.until is None:
-        return []
-    end, events = document.until.number("until"), times_of_events(document)
-    counts = {task.name: occurrences(task, end, events) for task in document.tasks}
-    total = sum(counts.values())
-    if total <= MOST_OCCURRENCES:
-        return []
-    most = sorted(counts, key=lambda it: -counts[it])[:3]
-    text = f"all tasks together occur {total:,} times, and may occur {MOST_OCCURRENCES:,} times: most often {listed(most)}"
-    text += f" ({', '.join(f'{counts[it]:,}' for it in most)})"
-    token = document.until.numbers["until"]
-    return [error(document.until.line, token.column, 25, text, width=token.width)]
-
-
-def occurrences(task, end, events):
-    """Returns how often a task occurs."""
-    if task.head.source is not None:
-        return len(events.get(task.head.source.text, ()))
-    first, period = task.head.number("from", 0), task.head.number("every")
-    return max(0, -((first - end) // period))

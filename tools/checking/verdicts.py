@@ -1,22 +1,25 @@
 """The program's verdict on a document, and the messages that come of it."""
 
-from __future__ import annotations
-
 import re
 from dataclasses import dataclass
 from enum import Enum
 
 from checking.illegal import explained, illegal_of
+from checking.language import MOST_BYTES
 from checking.messages import Message, Severity
 from checking.names import name_faults
+from checking.occurrences import occurrence_faults
 from checking.ranks import rank_faults
 from checking.reading import read_document
 from checking.steps import no_script, step_faults
 from checking.tasks import task_faults
-from checking.trace import occurrence_fault, trace_faults
+from checking.trace import trace_faults
 from checking.warned import warnings_of
 
 REFUSED = re.compile(rb"refused: line ([0-9]+): ([0-9]+) ([A-Za-z ]+)\n")
+
+# What is said of a refusal that isn't found here.
+NOT_FOUND = "the program refuses this line; docs/LANGUAGE.md says when exactly"
 
 ENDS = {
     2: ("Usage", "the program doesn't know the command that it was given"),
@@ -70,7 +73,8 @@ class Judged:
     def __init__(self, run, text):
         self.run = run  # calls the program with words and a document
         self.text = text
-        self.document, self.reading = read_document(text)
+        # A text that is too large is refused unread.
+        self.document, self.reading = read_document(text if len(text) <= MOST_BYTES else b"")
 
     def verdict(self, command=None):
         """Returns the verdict of a command; without one, of `replay` if there is a script, else of `plan`."""
@@ -122,9 +126,11 @@ class Judged:
     def faults(self, command):
         """Returns what is found here, in the order in which the program tries it."""
         document = self.document
-        found = [*self.reading, *name_faults(document), *task_faults(document), *rank_faults(document), *trace_faults(document)]
+        found = [*self.reading]
+        for faults_of in (name_faults, task_faults, rank_faults, trace_faults):
+            found += faults_of(document)
         if not found:
-            found += occurrence_fault(document)
+            found += occurrence_faults(document)
         if command is Command.PLAN:
             return found
         return found + (step_faults(document) if document.script_at is not None else [no_script(document)])
@@ -137,14 +143,14 @@ def merged(refusal, found):
     """
     for place, it in enumerate(found):
         if (it.line, it.code, it.name) == (refusal.line, refusal.code, refusal.name):
-            return [it, *one_of_each_place(sorted(found[place + 1 :], key=lambda it: (it.line, it.column)), it)]
-    text = "the program refuses this line; docs/LANGUAGE.md says of this code when exactly"
-    return [Message(refusal.line, 1, Severity.ERROR, refusal.code, refusal.name, text)]
+            later = sorted(found[place + 1 :], key=lambda other: (other.line, other.column))
+            return one_of_each_place([it, *later])
+    return [Message(refusal.line, 1, Severity.ERROR, refusal.code, refusal.name, NOT_FOUND)]
 
 
-def one_of_each_place(found, first):
+def one_of_each_place(found):
     """Returns messages without those at a place that has one already."""
-    kept = {(first.line, first.column): first}
+    kept = {}
     for it in found:
         kept.setdefault((it.line, it.column), it)
-    return list(kept.values())[1:]
+    return list(kept.values())

@@ -1,20 +1,20 @@
 """Warnings of what the program accepts and hardly anybody means."""
 
-from __future__ import annotations
-
 from fractions import Fraction
 
 from checking.language import GREATEST_VALUE, LEAST_VALUE
 from checking.messages import Note, warning
+from checking.occurrences import times_of_events
 from checking.ranks import CODES
-from checking.trace import times_of_events
 
 VALUES = ("state", "sense", "read", "let")
 
 
 def warnings_of(run, text, document):
     """Returns the warnings of a document whose diagram and trace the program accepts."""
-    found = [*trace_after_script(document), *unused(document), *equal_ranks(document), *long_costs(document), *load(document)]
+    found = []
+    for warned_of in (trace_after_script, unused, equal_ranks, long_costs, load):
+        found += warned_of(document)
     table = run(["mean"], text)
     if table.status == 0:
         lines = table.stdout.decode("ascii").splitlines()
@@ -26,10 +26,8 @@ def trace_after_script(document):
     """Yields a warning of a `trace` that belongs to the script."""
     for step in document.steps:
         if step.text == "trace":
-            text = (
-                "this line and those after it belong to the script: the document has no trace, so each input keeps its first "
-                "value and no event occurs; `trace` stands before `script`"
-            )
+            text = "this line and those after it belong to the script: the document has no trace, so each input keeps "
+            text += "its first value and no event occurs; `trace` stands before `script`"
             yield warning(step.line, step.tokens[0], "TraceAfterScript", text)
             return
 
@@ -49,7 +47,8 @@ def unused(document):
         for name, statement in task.declared(*VALUES).items():
             if name not in needed:
                 kind = statement.word
-                yield of_name(statement, f"Unused{kind.capitalize()}", f"no out of the task `{task.name}` depends on the {kind} `{name}`")
+                text = f"no out of the task `{task.name}` depends on the {kind} `{name}`"
+                yield of_name(statement, f"Unused{kind.capitalize()}", text)
 
 
 def of_name(statement, name, text):
@@ -80,7 +79,8 @@ def equal_ranks(document):
         number = task.head.number(word)
         other = first.setdefault(number, task)
         if other is not task:
-            text = f"the tasks `{other.name}` and `{task.name}` have the same `{word} {number}`: `{other.name}` is ranked above, since it is declared earlier"
+            text = f"the tasks `{other.name}` and `{task.name}` have the same `{word} {number}`: `{other.name}` is "
+            text += "ranked above, since it is declared earlier"
             note = Note(other.head.line, other.head.numbers[word].column, f"the `{word}` of `{other.name}`")
             yield warning(task.head.line, task.head.numbers[word], "EqualRanks", text, note)
 
@@ -92,7 +92,7 @@ def long_costs(document):
         for word, name, what in (("every", "CostAbovePeriod", "period"), ("deadline", "CostAboveDeadline", "deadline")):
             length = task.head.number(word)
             if length is not None and cost > length:
-                text = f"the cost {cost} of the task `{task.name}` is above its {what} {length}: not even alone can it be in time"
+                text = f"the cost {cost} of the task `{task.name}` is above its {what} {length}: it can't be in time"
                 note = Note(task.head.line, task.head.numbers[word].column, f"the {what}")
                 yield warning(task.head.line, task.head.numbers["cost"], name, text, note)
 
@@ -109,7 +109,7 @@ def load(document):
         if before <= 1 < total:
             at = task
     if total > 1:
-        text = f"the tasks with a period need {decimal(total)} processors ({', '.join(shares)}): the load is above 1, and `dbp sim` has one"
+        text = f"the load of the tasks with a period is {decimal(total)}, and one processor has 1: {', '.join(shares)}"
         yield warning(at.head.line, at.head.name, "Overload", text)
 
 
@@ -155,5 +155,6 @@ def ends_of_values(document, lines):
         for place, out in enumerate(task.lines("out")):
             if (task.name, place) in found:
                 time, value = found[task.name, place]
-                text = f"the out `{out.name.text}` of `{task.name}` is {value} at tick {time}, the end of 64 bits, at which results stop"
+                what = f"the out `{out.name.text}` of `{task.name}` is {value} at tick {time}"
+                text = f"{what}: results stop at the ends of 64 bits"
                 yield of_name(out, "EndOfValues", text)
