@@ -58,9 +58,10 @@ def differs(program, document):
         start = f"step {illegal.number}, `{it.document.steps[illegal.number - 1].text}`, isn't allowed: {illegal.why}; "
         return None if errors and errors[0].text.startswith(start) else f"{errors[:1]} doesn't say {start!r}"
     if refusal:
-        is_same = errors and (errors[0].line, errors[0].code, errors[0].name) == (refusal.line, refusal.code, refusal.name)
-        if not is_same or errors[0].text == NOT_FOUND or it.faults(command)[0] != errors[0]:
-            return f"the first error is {errors[:1]}, found are {it.faults(command)[:1]}, and {refusal} is wanted"
+        first = [(error.line, error.code, error.name) for error in errors[:1]]
+        found = it.faults(command)[:1]
+        if first != [(refusal.line, refusal.code, refusal.name)] or errors[0].text == NOT_FOUND or found != errors[:1]:
+            return f"the first error is {errors[:1]}, found is {found}, and {refusal} is wanted"
         return None
     found = [] if words == ("form",) else errors or it.faults(command)
     return f"it is accepted, and {found[0]} is told" if found else None
@@ -89,8 +90,10 @@ def first_difference(found, wanted):
     if found == wanted:
         return None
     lines, others = [*found.splitlines(), None], [*wanted.splitlines(), None]
-    number = next((at for at, pair in enumerate(zip(lines, others)) if pair[0] != pair[1]), min(len(lines), len(others)))
-    return f"line {number + 1} is {lines[number]!r}, and {others[number]!r} is wanted"
+    for number, (line, other) in enumerate(zip(lines, others), 1):
+        if line != other:
+            return f"line {number} is {line!r}, and {other!r} is wanted"
+    return "the ends of lines differ"
 
 
 def json_of(program, document):

@@ -25,7 +25,7 @@ class Reader:
         self.document = Document(lines_of(text))
         self.section = Section.HEADER
         self.faults = []
-        self.is_stray = False  # whether the line before stood in no place, so that more of its kind need no message
+        self.stray = None  # the section outside of which the line before stood: one message tells of all such lines
 
     def read(self):
         """Reads all lines, and returns the document and its faults."""
@@ -81,9 +81,7 @@ class Reader:
             return
         words = WORDS.findall(code_of(line.text))
         statement = Statement(line.number, tokens[0], tokens=tuple(tokens)) if tokens else None
-        form_fault = self.take_form(statement) if statement else None
-        if fault is None:
-            fault = self.fault_of(line, tokens, statement, form_fault)
+        fault = fault or self.fault_of(line, tokens, statement)
         self.go_on(line, tokens, words, statement, fault)
         self.keep(fault, line)
 
@@ -97,13 +95,14 @@ class Reader:
             return leaves
         return None
 
-    def fault_of(self, line, tokens, statement, form_fault):
-        """Returns the message of a line's first fault after those of its tokens, or nothing."""
-        if self.section is Section.HEADER and (statement.word != "dbp" or form_fault):
+    def fault_of(self, line, tokens, statement):
+        """Fills a statement, and returns the message of its first fault after those of its tokens, or nothing."""
+        size_fault = node_fault(line, tokens) or depth_fault(line, tokens)
+        form_fault = None if size_fault else self.take_form(statement)
+        if self.section is Section.HEADER and (statement.word != "dbp" or form_fault or size_fault):
             more = ", the only version" if statement.word == "dbp" else ""
             return error_at(statement.head, line.number, 8, "the first line with tokens must be `dbp 1`" + more)
-        fault = node_fault(line, tokens) or depth_fault(line, tokens)
-        fault = fault or place_fault(statement, self.section, self.document)
+        fault = size_fault or place_fault(statement, self.section, self.document)
         if fault is None and form_fault:
             fault = error(line.number, form_fault.column, 3, form_fault.text, width=form_fault.width)
         return fault or number_fault(statement) or count_fault(statement, self.document)
@@ -154,20 +153,23 @@ class Reader:
         return self.take_form(again) is None
 
     def keep(self, fault, line):
-        """Keeps a fault, unless it only repeats that lines stand where none of their kind may."""
-        is_stray = fault is not None and fault.code == 3 and self.is_out_of_place(line)
-        if fault is not None and not (is_stray and self.is_stray):
+        """Keeps a fault, unless the line before stood outside of the same section."""
+        stray = self.outside_of(line) if fault is not None and fault.code == 3 else None
+        if fault is not None and (stray is None or stray is not self.stray):
             self.faults.append(fault)
         if fault is not None or not line.is_blank:
-            self.is_stray = is_stray
+            self.stray = stray
 
-    def is_out_of_place(self, line):
-        """Whether a refused line is one of many that stand after `done`, before all tasks, or outside of their section."""
+    def outside_of(self, line):
+        """Returns the section outside of which a refused line stands, or nothing."""
         tokens = tokens_of(line.text)
         if self.section is Section.END and self.document.done_at != line.number:
-            return True
-        is_body = tokens[0].text in BODY and not self.document.tasks
-        return is_body or is_row(tokens) or is_step(tokens)
+            return Section.END
+        if tokens[0].text in BODY and not self.document.tasks:
+            return Section.TASKS
+        if is_row(tokens):
+            return Section.TRACE
+        return Section.SCRIPT if is_step(tokens) else None
 
 
 def read_document(text):
