@@ -11,11 +11,16 @@ from checking.tokens import Token
 
 @dataclass
 class Task:
-    """A task: its first line, whether that has no fault, and the lines of its body that have none."""
+    """A task: its first line, whether that has no fault, and the lines of its body that have none.
+
+    `has_faults` says whether other lines of its body have one, `hides_names` whether such a line declares who knows what.
+    """
 
     head: Statement
     is_whole: bool
     body: list[Statement] = field(default_factory=list)
+    has_faults: bool = False
+    hides_names: bool = False
 
     @property
     def name(self):
@@ -46,7 +51,11 @@ class Step:
 
 @dataclass
 class Document:
-    """What the lines say. `doubtful` has the names in lines with faults, of which nothing is known."""
+    """What the lines say.
+
+    `doubtful` has the names in lines with faults, of which nothing is known; `hides_names` says whether such a line
+    declares an input, an event or a task, and who knows which.
+    """
 
     lines: list[Line]
     policy: str | None = None
@@ -59,6 +68,7 @@ class Document:
     steps: list[Step] = field(default_factory=list)
     done_at: int | None = None
     doubtful: set[str] = field(default_factory=set)
+    hides_names: bool = False
 
     def declared(self, *words):
         """Returns the names that `input` or `event` lines declare, each with its first line."""

@@ -52,7 +52,7 @@ class NameFaults:
 
     def unknown_event(self, head):
         """Returns the message of a task on what is no event."""
-        if head.source is None or head.source.text in self.events or self.is_doubtful(head.source):
+        if head.source is None or head.source.text in self.events or self.is_doubtful(head.source, self.document):
             return []
         return [self.not_there(head, head.source, "event", self.events)]
 
@@ -67,13 +67,13 @@ class NameFaults:
     def unknown_state(self, task, statement):
         """Returns the message of a `next` of what is no state of its task."""
         states = task.declared("state")
-        if statement.word != "next" or statement.name.text in states or self.is_doubtful(statement.name):
+        if statement.word != "next" or statement.name.text in states or self.is_doubtful(statement.name, task):
             return []
         return [self.not_there(statement, statement.name, "state", states, task)]
 
     def unknown_input(self, statement):
         """Returns the message of a sense of what is no input."""
-        if statement.source.text in self.inputs or self.is_doubtful(statement.source):
+        if statement.source.text in self.inputs or self.is_doubtful(statement.source, self.document):
             return []
         return [self.not_there(statement, statement.source, "input", self.inputs)]
 
@@ -82,9 +82,10 @@ class NameFaults:
         source, port = statement.source, statement.port
         writer = self.tasks.get(source.text)
         if writer is None:
-            return [] if self.is_doubtful(source) else [self.not_there(statement, source, "task", self.tasks)]
+            is_doubtful = self.is_doubtful(source, self.document)
+            return [] if is_doubtful else [self.not_there(statement, source, "task", self.tasks)]
         outs = writer.declared("out")
-        if port.text in outs or self.is_doubtful(port):
+        if port.text in outs or self.is_doubtful(port, writer):
             return []
         text = f"the task `{source.text}` has no out `{port.text}`: {what_there_is('out', outs, source.text)}"
         inner = writer.declared(*VALUES).get(port.text)
@@ -96,7 +97,7 @@ class NameFaults:
         """Yields the messages of the names in an expression that have no value there."""
         values = task.declared(*VALUES)
         for token in statement.names:
-            if token.text not in values and not self.is_doubtful(token):
+            if token.text not in values and not self.is_doubtful(token, task):
                 yield self.no_value(task, statement, token, values)
 
     def no_value(self, task, statement, token, values):
@@ -124,9 +125,9 @@ class NameFaults:
         task = self.tasks.get(token.text)
         return self.inputs.get(token.text) or self.events.get(token.text) or (task.head if task else None)
 
-    def is_doubtful(self, token):
-        """Whether a name stands in a line with a fault, so that it may be declared there."""
-        return token.text in self.document.doubtful
+    def is_doubtful(self, token, owner):
+        """Whether a name may be declared by a line with a fault of the task or document that should have it."""
+        return owner.hides_names or token.text in self.document.doubtful
 
 
 def about_found(task, token, found):

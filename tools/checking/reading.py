@@ -7,15 +7,17 @@ import re
 
 from checking.cursor import LeavesForm, cursor_of
 from checking.document import Document, Step, Task
-from checking.language import BODY, FORMS
+from checking.language import BODY, FORMS, RESERVED
 from checking.line_faults import byte_fault, depth_fault, node_fault, token_fault
 from checking.messages import Note, error, error_at
 from checking.places import AFTER, ENDS, Section, count_fault, is_row, is_step, number_fault, place_fault
 from checking.statements import FORM_OF, Statement
 from checking.text import lines_of
-from checking.tokens import Kind, code_of, tokens_of
+from checking.tokens import Kind, Token, code_of, tokens_of
 
 WORDS = re.compile(r"[A-Za-z_][A-Za-z0-9_]*")
+FOREIGN_COMMENTS = ("//", "/*", "--", ";", "%")
+SECOND_WORD = re.compile(r"[ \t]*\w+[ \t]+([A-Za-z_][A-Za-z0-9_]*)")
 
 
 class Reader:
@@ -41,9 +43,14 @@ class Reader:
         if not has_tokens:
             in_first = [fault for fault in self.faults if fault.line == 1]
             self.faults = in_first or [error(1, 1, 8, "the text has no line with tokens; it must begin with `dbp 1`")]
-        elif self.section is not Section.END:
+        elif self.section is not Section.END and not self.is_end_doubtful():
             self.faults.append(self.missing_done())
         return self.document, self.faults
+
+    def is_end_doubtful(self):
+        """Whether the last line that isn't blank is a short one with a fault, so that it may be meant as `done`."""
+        last = [line for line in self.document.lines if code_of(line.text).strip(" \t")][-1]
+        return any(fault.line == last.number for fault in self.faults) and len(code_of(last.text).split()) <= 2
 
     def missing_done(self):
         """Returns the message of a document that ends without `done`."""
@@ -79,10 +86,9 @@ class Reader:
         fault = fault or token_fault(line, tokens)
         if fault is None and not tokens:
             return
-        words = WORDS.findall(code_of(line.text))
         statement = Statement(line.number, tokens[0], tokens=tuple(tokens)) if tokens else None
         fault = fault or self.fault_of(line, tokens, statement)
-        self.go_on(line, tokens, words, statement, fault)
+        self.go_on(line, tokens, statement, fault)
         self.keep(fault, line)
 
     def take_form(self, statement):
@@ -107,18 +113,34 @@ class Reader:
             fault = error(line.number, form_fault.column, 3, form_fault.text, width=form_fault.width)
         return fault or number_fault(statement) or count_fault(statement, self.document)
 
-    def go_on(self, line, tokens, words, statement, fault):
+    def go_on(self, line, tokens, statement, fault):
         """Keeps what a line says, and moves on to the section after it."""
-        word = words[0] if words else None
+        code = code_of(line.text)
+        word = kind_of(WORDS.findall(code))
         if fault is not None:
-            self.document.doubtful.update(words)
-        if word not in FORMS:
-            if self.section < Section.DECLARATIONS and (tokens or words):
+            self.note_names(code, word)
+        if word not in FORMS or word in BODY and self.section < Section.DECLARATIONS:
+            if self.section < Section.DECLARATIONS and code.strip():
                 self.section = Section(self.section + 1)
             return
-        if statement is not None and statement.head.kind is Kind.WORD:
+        if word == "task":
+            self.add_task(line, statement, tokens, fault)
+        elif statement is not None and statement.word == word:
             self.add(statement, fault)
         self.begin(word, line)
+
+    def note_names(self, code, word):
+        """Keeps the names of a line with a fault, and whether it hides the one that it declares."""
+        if code.lstrip().startswith(FOREIGN_COMMENTS):
+            return
+        second = SECOND_WORD.match(code)
+        is_hidden = second is None or second[1] in RESERVED
+        self.document.doubtful.update(WORDS.findall(code))
+        if self.document.tasks and word != "task":
+            self.document.tasks[-1].has_faults = True
+            self.document.tasks[-1].hides_names |= is_hidden
+        elif word not in ("dbp", "policy", "until"):
+            self.document.hides_names |= is_hidden
 
     def begin(self, word, line):
         """Moves on to the section after a line, and keeps where a section begins."""
@@ -126,19 +148,21 @@ class Reader:
             setattr(self.document, f"{word}_at", line.number)
         self.section = max(self.section, AFTER[word])
 
-    def add(self, statement, fault):
-        """Keeps a statement in the document; one with a fault only if the lines after it need it."""
-        word, document = statement.word, self.document
+    def add_task(self, line, statement, tokens, fault):
+        """Begins a task, also at a line with a fault, since the lines after it are of its body."""
         if self.section is Section.END:
             return
-        if word == "task":
-            if fault is not None and statement.name is None:
-                named = [it for it in statement.tokens[1:2] if it.kind is Kind.NAME]
-                statement.name = named[0] if named else None
-            document.tasks.append(Task(statement, fault is None))
-        elif fault is not None and not (fault.code == 3 and self.is_complete(statement)):
+        if fault is not None:
+            statement = Statement(line.number, Token(Kind.WORD, "task", 1), name=name_of_task(tokens))
+        self.document.tasks.append(Task(statement, fault is None))
+
+    def add(self, statement, fault):
+        """Keeps a statement in the document; one with a fault only if nothing but its place is wrong."""
+        word, document = statement.word, self.document
+        is_kept = fault is None or fault.code == 3 and self.is_complete(statement)
+        if self.section is Section.END or not is_kept:
             return
-        elif word == "policy":
+        if word == "policy":
             document.policy = statement.value.text
         elif word == "until":
             document.until = statement
@@ -170,6 +194,21 @@ class Reader:
         if is_row(tokens):
             return Section.TRACE
         return Section.SCRIPT if is_step(tokens) else None
+
+
+def kind_of(words):
+    """Returns the word that says what a line is, also if it isn't the first one in the line of a task."""
+    if words and words[0] not in FORMS and ("every" in words or "cost" in words):
+        return "task"
+    return words[0] if words else None
+
+
+def name_of_task(tokens):
+    """Returns the name in the line of a task that has a fault: it stands before the clock, or after `task`."""
+    clocks = [place for place, token in enumerate(tokens) if token.says("every", "on")]
+    place = clocks[0] - 1 if clocks else 1
+    is_name = 0 <= place < len(tokens) and tokens[place].kind is Kind.NAME
+    return tokens[place] if is_name else None
 
 
 def read_document(text):

@@ -80,7 +80,7 @@ def name_fault(step, document):
     named = [tokens[1]] + [tokens[-1]] * (tokens[0].text == "claim")
     for token in named:
         if token.text not in tasks:
-            if token.text in document.doubtful:
+            if document.hides_names or token.text in document.doubtful:
                 return None
             return error_at(token, step.line, 28, f"`{token.text}` is no task: {what_there_is('task', tasks)}")
     task = tasks[tokens[1].text]

@@ -8,13 +8,13 @@ def task_faults(document):
     """Returns the messages of the tasks, in their order."""
     found = []
     for task in document.tasks:
-        found += [no_out(task, document), let_cycle(task)]
+        found += [no_out(task), let_cycle(task)]
     return [it for it in found if it]
 
 
-def no_out(task, document):
+def no_out(task):
     """Returns the message of a task without an out, or nothing."""
-    if task.lines("out") or "out" in document.doubtful or task.head.name is None:
+    if task.lines("out") or task.has_faults or task.head.name is None:
         return None
     text = f"the task `{task.name}` has no `out` line; one is enough, as `out alive = 0 then 1`"
     return error_at(task.head.name, task.head.line, 17, text)

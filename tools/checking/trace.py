@@ -108,7 +108,8 @@ class TraceFaults:
         if cell.text in seen:
             note = Note(header.line, seen[cell.text].column, "the first one is here")
             return at_cell(header, cell, 20, f"the column `{cell.text}` stands a second time", note)
-        if cell.text in self.inputs or cell.text in self.events or cell.text in self.document.doubtful:
+        is_doubtful = self.document.hides_names or cell.text in self.document.doubtful
+        if cell.text in self.inputs or cell.text in self.events or is_doubtful and cell.text:
             return None
         there = f"{what_there_is('input', self.inputs)}, and {what_there_is('event', self.events)}"
         what = f"`{cell.text}` is no declared input or event" if cell.text else "this cell is empty"
