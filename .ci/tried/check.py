@@ -1,6 +1,7 @@
 """tools/check: the first error of each refused case is the program's and is found in the document too, accepted cases
 have no error, and documents with each kind of message give exactly the text beside them."""
 
+import importlib.util
 import json
 import re
 import subprocess
@@ -22,6 +23,7 @@ from checking.printed import as_json, objects, plain  # noqa: E402
 from checking.verdicts import NOT_FOUND, Command, Judged, refusal_of  # noqa: E402
 from program import run_program  # noqa: E402
 
+MOST_MADE = 100_000
 COMMANDS = {("replay",): Command.REPLAY, ("replay", "--ranked"): Command.RANKED}
 WITH_JSON = ("unknown_links", "accepted_with_warnings", "illegal_step")
 EXAMPLE = TOP / "examples" / "preempted.dbp"
@@ -46,12 +48,10 @@ def errors_of(verdict):
     return [it for it in verdict.messages if it.severity is Severity.ERROR]
 
 
-def differs(program, document):
-    """Returns how the messages of a case differ from what the program prints for it, or nothing."""
-    words = tuple((document.parent / "words").read_text().split())
-    stdout = Path(f"{document}.stdout").read_bytes()
-    command = COMMANDS.get(words, Command.PLAN)
-    it = Judged(partial(run_program, program), document.read_bytes())
+def differs(program, words, text, stdout):
+    """Returns how the messages of a document differ from what the program prints for it, or nothing."""
+    command = COMMANDS.get(tuple(words), Command.PLAN)
+    it = Judged(partial(run_program, program), text)
     errors = errors_of(it.verdict(command))
     refusal, illegal = refusal_of(stdout), illegal_of(stdout)
     if illegal:
@@ -63,16 +63,38 @@ def differs(program, document):
         if first != [(refusal.line, refusal.code, refusal.name)] or errors[0].text == NOT_FOUND or found != errors[:1]:
             return f"the first error is {errors[:1]}, found is {found}, and {refusal} is wanted"
         return None
-    found = [] if words == ("form",) else errors or it.faults(command)
+    found = [] if words == ["form"] else errors or it.faults(command)
     return f"it is accepted, and {found[0]} is told" if found else None
 
 
 def all_cases(program):
     """Returns the cases that differ, or nothing."""
-    cases = sorted([*(TOP / "examples").rglob("*.dbp"), *(TOP / "cases").rglob("*.dbp")])
+    documents = sorted([*(TOP / "examples").rglob("*.dbp"), *(TOP / "cases").rglob("*.dbp")])
+    cases = [
+        (it.relative_to(TOP), (it.parent / "words").read_text().split(), it.read_bytes(), Path(f"{it}.stdout").read_bytes())
+        for it in documents
+    ]
+    return all_of(program, cases)
+
+
+def made_cases(program):
+    """Returns the refused documents of .ci/made that differ, or nothing; those that are large are left out."""
+    cases = {}
+    for file in sorted((TOP / ".ci" / "made").glob("*.py")):
+        spec = importlib.util.spec_from_file_location(file.stem, file)
+        module = importlib.util.module_from_spec(spec)
+        spec.loader.exec_module(module)
+        for name, words, text, status, stdout in module.cases():
+            if status == 1 and len(text) < MOST_MADE:
+                cases[text] = (f"{file.name}: {name}", words, text, stdout)
+    return all_of(program, cases.values())
+
+
+def all_of(program, cases):
+    """Returns those of several cases that differ, or nothing; each is a name, words, a document and what is printed."""
     with ThreadPoolExecutor() as pool:
-        found = list(zip(cases, pool.map(partial(differs, program), cases)))
-    return "; ".join(f"{case.relative_to(TOP)}: {text}" for case, text in found if text) or None
+        found = pool.map(lambda case: (case[0], differs(program, *case[1:])), cases)
+        return "; ".join(f"{name}: {text}" for name, text in found if text) or None
 
 
 def written(program, document):
@@ -131,6 +153,7 @@ def call(program, words, text, status, start):
 def trials(program):
     """Yields the trials of the tool, each a name and a call that returns what differs, or nothing."""
     yield "all cases", partial(all_cases, program)
+    yield "cases that are made", partial(made_cases, program)
     for document in sorted(WRITTEN.glob("*.dbp")):
         yield f"the text of {document.stem}", partial(written, program, document)
     for name in WITH_JSON:

@@ -60,6 +60,8 @@ def about_operand(cursor):
     """Returns more about what stands in the place of an operand."""
     if cursor.here is None or cursor.advice("") or cursor.here.kind is not Kind.WORD:
         return ""
+    if cursor.says("pre"):
+        return "`pre` stands in `read` lines alone; a state keeps a task's own values"
     return f"`{cursor.here.text}` is a reserved word, and no name"
 
 

@@ -11,7 +11,7 @@ NO_TOKENS = {
     "||": "`or` is a word here",
     "!": "`not` is a word here, and unequal is `!=`",
     ":=": "a line sets its name by `=`",
-    ":": "a choice is written `if E then E else E`",
+    ":": "there are no types, and a choice is written `if E then E else E`",
     "?": "a choice is written `if E then E else E`",
     ";": "no sign ends a line, and a comment begins with `#`",
     "{": "there are no braces: a body goes to the next `task`, `trace`, `script` or `done`",

@@ -85,6 +85,8 @@ class Explained:
         is_at_place = not self.illegal.why.startswith("not the next")
         if of_party and not is_at_place:
             return f"the next step of {who} is {listed(of_party, 'or')}"
+        if own is None and next_of_releaser(self.document, self.taken) is None:
+            return "the releaser has released all occurrences"
         waits = self.about_waiting(own) if own and not is_at_place else ""
         command = f"`dbp {' '.join(self.words)}`"
         if not allowed:
