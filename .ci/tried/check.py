@@ -69,11 +69,11 @@ def differs(program, words, text, stdout):
 
 def all_cases(program):
     """Returns the cases that differ, or nothing."""
-    documents = sorted([*(TOP / "examples").rglob("*.dbp"), *(TOP / "cases").rglob("*.dbp")])
-    cases = [
-        (it.relative_to(TOP), (it.parent / "words").read_text().split(), it.read_bytes(), Path(f"{it}.stdout").read_bytes())
-        for it in documents
-    ]
+    cases = []
+    for document in sorted([*(TOP / "examples").rglob("*.dbp"), *(TOP / "cases").rglob("*.dbp")]):
+        words = (document.parent / "words").read_text().split()
+        stdout = Path(f"{document}.stdout").read_bytes()
+        cases.append((document.relative_to(TOP), words, document.read_bytes(), stdout))
     return all_of(program, cases)
 
 

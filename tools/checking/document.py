@@ -13,7 +13,8 @@ from checking.tokens import Token
 class Task:
     """A task: its first line, whether that has no fault, and the lines of its body that have none.
 
-    `has_faults` says whether other lines of its body have one, `hides_names` whether such a line declares who knows what.
+    `has_faults` says whether other lines of its body have one, `hides_names` whether such a line hides the name that it
+    declares.
     """
 
     head: Statement
@@ -53,8 +54,8 @@ class Step:
 class Document:
     """What the lines say.
 
-    `doubtful` has the names in lines with faults, of which nothing is known; `hides_names` says whether such a line
-    declares an input, an event or a task, and who knows which.
+    `doubtful` has the names in lines with faults, of which nothing is known; `hides_names` says whether such a line hides
+    the name of an input, an event or a task.
     """
 
     lines: list[Line]

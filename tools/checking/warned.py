@@ -1,6 +1,7 @@
 """Warnings of what the program accepts and hardly anybody means."""
 
 from fractions import Fraction
+from itertools import accumulate
 
 from checking.language import GREATEST_VALUE, LEAST_VALUE
 from checking.messages import Note, warning
@@ -33,7 +34,7 @@ def trace_after_script(document):
 
 
 def unused(document):
-    """Yields a warning of each name of which nothing depends."""
+    """Yields a warning of each name that has no effect on any out."""
     sensed = {sense.source.text for task in document.tasks for sense in task.lines("sense")}
     on = {task.head.source.text for task in document.tasks if task.head.source is not None}
     for name, declaration in document.declared("input").items():
@@ -99,18 +100,13 @@ def long_costs(document):
 
 def load(document):
     """Yields a warning of the task with which the load of the tasks with a period goes above 1."""
-    total, shares = Fraction(0), []
-    for task in document.tasks:
-        if task.head.source is not None:
-            continue
-        before, share = total, Fraction(task.head.number("cost"), task.head.number("every"))
-        total += share
-        shares.append(f"{task.name} {share}")
-        if before <= 1 < total:
-            at = task
-    if total > 1:
-        text = f"the load of the tasks with a period is {decimal(total)}, and one processor has 1: {', '.join(shares)}"
-        yield warning(at.head.line, at.head.name, "Overload", text)
+    periodic = [task for task in document.tasks if task.head.source is None]
+    shares = [Fraction(task.head.number("cost"), task.head.number("every")) for task in periodic]
+    above = [task for task, total in zip(periodic, accumulate(shares)) if total > 1]
+    if above:
+        parts = ", ".join(f"{task.name} {share}" for task, share in zip(periodic, shares))
+        text = f"the load of the tasks with a period is {decimal(sum(shares))}, and one processor has 1: {parts}"
+        yield warning(above[0].head.line, above[0].head.name, "Overload", text)
 
 
 def decimal(value):
