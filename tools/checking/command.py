@@ -52,7 +52,7 @@ def judged(program, file, command):
     except CannotRun as failed:
         text = " ".join(str(failed).split())
         return CANNOT_RUN, [], (Message(1, 1, Severity.ERROR, None, "CannotRun", text),)
-    return verdict.status, lines_of(text), verdict.messages
+    return verdict.status, lines_of(text) if verdict.status in (0, 1) else [], verdict.messages
 
 
 def status_of(statuses):

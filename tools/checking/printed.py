@@ -17,8 +17,10 @@ def decoded(text):
 
 
 def source_of(lines, message):
-    """Returns the line of a message and a caret below it; a part of it if it is long."""
-    line = lines[message.line - 1].text if message.line <= len(lines) else b""
+    """Returns the line of a message and a caret below it, or a part of it if it is long; nothing for no line."""
+    if message.line > len(lines):
+        return ""
+    line = lines[message.line - 1].text
     at = min(message.column - 1, len(line))
     start = at - TAKEN_BEFORE if len(line) > MOST_SHOWN and at > TAKEN_BEFORE else 0
     line, at = line[start : start + MOST_SHOWN], at - start
