@@ -1,0 +1,11 @@
+"""The parts of tools/check.
+
+A document is read here a second time, to find the place of each fault and to say what stands there. The program
+alone decides: its line and code are printed first, and what is found here before its refusal is dropped.
+
+text, tokens, cursor, expressions, statements, reading: from bytes to a document of places, and faults of reading.
+names, tasks, ranks, trace, steps: the faults of checking, of the trace and of the script.
+releases, illegal: what a script's illegal step is, and which step could stand there.
+warned: what is accepted and hardly meant.
+verdicts, printed, command: the program's verdict, the text or JSON, the command line.
+"""

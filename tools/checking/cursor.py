@@ -1,0 +1,104 @@
+"""A place in the tokens of a line, and what is wrong where the tokens leave the line's form."""
+
+from checking.foreign import about_pair, about_point
+from checking.language import FORMS
+from checking.tokens import Kind
+
+
+class LeavesForm(Exception):
+    """The tokens leave the form of their line: the place, how many bytes it is about, and what is wrong."""
+
+    def __init__(self, column, width, text):
+        super().__init__(text)
+        self.column = column
+        self.width = width
+        self.text = text
+
+
+class Cursor:
+    """Takes the tokens of a line one after another."""
+
+    def __init__(self, tokens, form):
+        self.tokens = tokens
+        self.form = form
+        self.at = 0
+
+    @property
+    def here(self):
+        """The next token, or nothing at the line's end."""
+        return self.tokens[self.at] if self.at < len(self.tokens) else None
+
+    @property
+    def last(self):
+        """The token before the next one."""
+        return self.tokens[self.at - 1]
+
+    def says(self, *texts):
+        """Whether the next token is one of these words and symbols."""
+        return self.here is not None and self.here.says(*texts)
+
+    def takes(self, *texts):
+        """Takes one of these words and symbols, if it comes next."""
+        if self.says(*texts):
+            self.at += 1
+            return self.last
+        return None
+
+    def word(self, *texts):
+        """Takes one of these words and symbols; anything else leaves the form."""
+        return self.takes(*texts) or self.leave(" or ".join(f"`{text}`" for text in texts))
+
+    def name(self, what):
+        """Takes a name."""
+        if self.here is None or self.here.kind is not Kind.NAME:
+            self.leave(what)
+        self.at += 1
+        return self.last
+
+    def number(self, what):
+        """Takes a number."""
+        if self.here is None or self.here.kind is not Kind.NUMBER:
+            self.leave(what)
+        self.at += 1
+        return self.last
+
+    def end(self):
+        """Takes the line's end."""
+        if self.here is not None:
+            self.leave("the line's end")
+
+    def leave(self, wanted, why=""):
+        """Raises what is wrong here, where something else is wanted."""
+        advice = why or self.advice(wanted)
+        self.fail(f"{self.found()} where {wanted} must stand" + (f" ({advice})" if advice else ""))
+
+    def fail(self, text):
+        """Raises what is wrong at the next token."""
+        column, width = (self.here.column, self.here.width) if self.here else (self.tokens[-1].end, 1)
+        raise LeavesForm(column, width, f"{text}; the line is `{self.form}`")
+
+    def found(self):
+        """Returns what stands here."""
+        return f"`{self.here.text}` stands" if self.here else "the line ends"
+
+    def advice(self, wanted):
+        """Returns more about what stands here, or nothing."""
+        if self.here is None:
+            return None
+        more = about_pair(self.tokens, self.at) or about_point(self.tokens, self.at)
+        if more:
+            return more
+        if self.here.kind is Kind.WORD and "name" in wanted:
+            return f"`{self.here.text}` is a reserved word, and no name"
+        if "line's end" in wanted and self.here.kind is Kind.WORD and self.here.text in FORMS:
+            return "each statement has a line of its own"
+        if self.here.says("-") and self.at + 1 < len(self.tokens) and self.tokens[self.at + 1].kind is Kind.NUMBER:
+            return "a number's sign stands directly before its digits"
+        return None
+
+
+def cursor_of(tokens):
+    """Returns a cursor after the first word of a line, which says its form."""
+    cursor = Cursor(tokens, FORMS[tokens[0].text])
+    cursor.at = 1
+    return cursor

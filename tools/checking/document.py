@@ -1,0 +1,99 @@
+"""A document as it was read, with the places of its parts."""
+
+from __future__ import annotations
+
+from dataclasses import dataclass, field
+
+from checking.statements import Statement
+from checking.text import Line
+from checking.tokens import Token
+
+
+@dataclass
+class Task:
+    """A task: its first line, whether that has no fault, and the lines of its body that have none.
+
+    `has_faults` says whether other lines of its body have one, `hides_names` whether such a line hides the name that it
+    declares.
+    """
+
+    head: Statement
+    is_whole: bool
+    body: list[Statement] = field(default_factory=list)
+    has_faults: bool = False
+    hides_names: bool = False
+
+    @property
+    def name(self):
+        """Its name, or nothing if its first line has none."""
+        return self.head.name.text if self.head.name else None
+
+    def lines(self, *words):
+        """Returns the lines of its body that begin with one of these words."""
+        return [it for it in self.body if it.word in words]
+
+    def declared(self, *words):
+        """Returns the names that lines of these kinds declare, each with its first line."""
+        return first_of_each(self.lines(*words))
+
+
+@dataclass(frozen=True)
+class Step:
+    """A line of the script that has tokens."""
+
+    line: int
+    tokens: tuple[Token, ...]
+
+    @property
+    def text(self):
+        """The step as it is kept: its tokens with one space between."""
+        return " ".join(token.text for token in self.tokens)
+
+
+@dataclass
+class Document:
+    """What the lines say.
+
+    `doubtful` has the names in lines with faults, of which nothing is known; `hides_names` says whether such a line hides
+    the name of an input, an event or a task.
+    """
+
+    lines: list[Line]
+    policy: str | None = None
+    until: Statement | None = None
+    declarations: list[Statement] = field(default_factory=list)
+    tasks: list[Task] = field(default_factory=list)
+    trace_at: int | None = None
+    rows: list[Line] = field(default_factory=list)
+    script_at: int | None = None
+    steps: list[Step] = field(default_factory=list)
+    done_at: int | None = None
+    doubtful: set[str] = field(default_factory=set)
+    hides_names: bool = False
+
+    def declared(self, *words):
+        """Returns the names that `input` or `event` lines declare, each with its first line."""
+        return first_of_each(it for it in self.declarations if it.word in words)
+
+    @property
+    def named_tasks(self):
+        """The tasks by their names; of two with one name the first."""
+        found = {}
+        for task in self.tasks:
+            found.setdefault(task.name, task)
+        found.pop(None, None)
+        return found
+
+    @property
+    def reads(self):
+        """The `read` lines of all tasks, each with its task."""
+        return [(task, read) for task in self.tasks for read in task.lines("read")]
+
+
+def first_of_each(statements):
+    """Returns statements by the names that they declare; of two with one name the first."""
+    found = {}
+    for statement in statements:
+        if statement.name:
+            found.setdefault(statement.name.text, statement)
+    return found

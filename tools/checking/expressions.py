@@ -1,0 +1,122 @@
+"""Expressions: which names they use, and where they leave their form."""
+
+from checking.foreign import WORDS
+from checking.language import FORMS
+from checking.tokens import Kind
+
+OPERAND = "an expression (a number, a name, `(`, `-`, `not`, `min`, `max`)"
+COMPARISONS = ("==", "!=", "<", "<=", ">", ">=")
+# From the loosest to the tightest.
+LEVELS = (("or",), ("and",), COMPARISONS, ("+", "-"), ("*", "/", "%"))
+
+
+def expression(cursor, names):
+    """Takes an expression, and adds the tokens of its names to a list."""
+    if not cursor.takes("if"):
+        level(cursor, names, 0)
+        return
+    expression(cursor, names)
+    after(cursor, "then")
+    expression(cursor, names)
+    after(cursor, "else")
+    expression(cursor, names)
+
+
+def level(cursor, names, depth):
+    """Takes operands with the operators of a level and of those that bind tighter."""
+    if depth == len(LEVELS):
+        operand(cursor, names)
+        return
+    level(cursor, names, depth + 1)
+    while cursor.takes(*LEVELS[depth]):
+        level(cursor, names, depth + 1)
+        if LEVELS[depth] is COMPARISONS:
+            if cursor.says(*COMPARISONS):
+                cursor.leave("another operator", "two comparisons in a row need parentheses")
+            return
+
+
+def operand(cursor, names):
+    """Takes an operand with the signs before it."""
+    while cursor.takes("-", "not"):
+        pass
+    here = cursor.here
+    if cursor.takes("("):
+        expression(cursor, names)
+        close(cursor, here)
+    elif cursor.takes("min", "max"):
+        after_call(cursor, names, here)
+    elif here is not None and here.kind in (Kind.NUMBER, Kind.NAME):
+        cursor.at += 1
+        if here.kind is Kind.NAME:
+            names.append(here)
+    elif cursor.says("if"):
+        cursor.leave(OPERAND, "an `if` that is an operand needs parentheses")
+    else:
+        cursor.leave(OPERAND, about_operand(cursor))
+
+
+def about_operand(cursor):
+    """Returns more about what stands in the place of an operand."""
+    if cursor.here is None or cursor.advice("") or cursor.here.kind is not Kind.WORD:
+        return ""
+    if cursor.says("pre"):
+        return "`pre` stands in `read` lines alone; a state keeps a task's own values"
+    return f"`{cursor.here.text}` is a reserved word, and no name"
+
+
+def after_call(cursor, names, call):
+    """Takes the two arguments of `min` or `max`."""
+    if not cursor.says("("):
+        cursor.leave("`(`", f"it is `{call.text}(E, E)`")
+    opened = cursor.takes("(")
+    expression(cursor, names)
+    if cursor.says(")"):
+        cursor.leave("`,`", f"`{call.text}` takes two expressions: `{call.text}(E, E)`")
+    after(cursor, ",")
+    expression(cursor, names)
+    if cursor.says(","):
+        cursor.leave("`)`", f"`{call.text}` takes two expressions: `{call.text}(E, E)`")
+    close(cursor, opened)
+
+
+def after(cursor, text):
+    """Takes a word or symbol that comes after an expression."""
+    if not cursor.takes(text):
+        cursor.leave(end_of(text), about_rest(cursor))
+
+
+def end_of(text):
+    """Returns what may come after an expression that a word or symbol ends."""
+    return f"`{text}` or an operator"
+
+
+def close(cursor, opened):
+    """Takes the parenthesis that closes another."""
+    if not cursor.takes(")"):
+        cursor.leave(end_of(")"), about_rest(cursor) or f"for the `(` in column {opened.column}")
+
+
+def whole(cursor, names):
+    """Takes an expression that goes to the line's end."""
+    expression(cursor, names)
+    if cursor.here is not None:
+        cursor.leave("an operator or the line's end", about_rest(cursor))
+
+
+def about_rest(cursor):
+    """Returns more about what stands after an expression, or nothing."""
+    here, before = cursor.here, cursor.last
+    if here is None or cursor.advice(""):
+        return ""
+    if here.says("="):
+        return "equal is `==`"
+    if here.says(")"):
+        return "no parenthesis is open"
+    if here.says("(") and before.kind is Kind.NAME:
+        return f"`{before.text}` can't be called: there are `min(E, E)` and `max(E, E)` alone"
+    if here.says(".") and before.kind is Kind.NAME:
+        return "the out of a task gets a name by a line `read NAME = TASK.OUT`"
+    if here.kind is Kind.WORD and here.text not in FORMS:
+        return f"`{here.text}` is a reserved word, and no operator"
+    return WORDS.get(here.text, "") if here.kind is Kind.NAME else ""

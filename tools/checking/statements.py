@@ -1,0 +1,198 @@
+"""The lines of a document as statements, by their forms."""
+
+from __future__ import annotations
+
+from dataclasses import dataclass, field
+
+from checking.expressions import whole
+from checking.language import FORMS, GREATEST_DELAY, TASK_ON_EVENT
+from checking.text import listed
+from checking.tokens import Kind, Token
+
+
+@dataclass
+class Statement:
+    """A line with tokens: its kind, and those of its parts that it has.
+
+    `source` and `port` are what a `read` names, `source` alone what `on` and `sense` name; `numbers` has the numbers by
+    the words before them, `names` the names in the expression.
+    """
+
+    line: int
+    head: Token
+    name: Token | None = None
+    value: Token | None = None
+    source: Token | None = None
+    port: Token | None = None
+    numbers: dict[str, Token] = field(default_factory=dict)
+    names: list[Token] = field(default_factory=list)
+    is_delayed: bool = False
+    tokens: tuple[Token, ...] = ()
+
+    @property
+    def word(self):
+        """The word that the line begins with."""
+        return self.head.text
+
+    def number(self, word, default=None):
+        """Returns the value of a number of this line, or what stands for it if it is left out."""
+        return self.numbers[word].value if word in self.numbers else default
+
+    @property
+    def delay(self):
+        """How many occurrences earlier a `read` reads."""
+        return self.number("pre", 1) if self.is_delayed else 0
+
+
+def header(cursor, _):
+    """Takes `1` after `dbp`."""
+    version = cursor.number("the version `1`")
+    if version.value != 1:
+        cursor.at -= 1
+        cursor.leave("the version `1`")
+    cursor.end()
+
+
+def policy(cursor, statement):
+    """Takes the word of a policy."""
+    statement.value = cursor.word("fp", "edf")
+    cursor.end()
+
+
+def until(cursor, statement):
+    """Takes the end of the time."""
+    statement.numbers["until"] = cursor.number("a number of ticks")
+    cursor.end()
+
+
+def with_value(cursor, statement):
+    """Takes the name and the first value of an input or a state."""
+    statement.name = cursor.name("a name")
+    cursor.word("=")
+    statement.value = cursor.number("a number")
+    if cursor.here is not None:
+        more = cursor.advice("the line's end") or "the first value is one number, and no expression"
+        cursor.leave("the line's end", more)
+
+
+def event(cursor, statement):
+    """Takes the name of an event."""
+    statement.name = cursor.name("a name")
+    cursor.end()
+
+
+def task(cursor, statement):
+    """Takes a task's name, clock, priority, deadline and cost."""
+    if cursor.says("every", "on"):
+        cursor.leave("a name", "the name of the task comes before its clock")
+    statement.name = cursor.name("a name")
+    if cursor.here is None or not cursor.says("every", "on"):
+        cursor.form = f"{FORMS['task']}` or `{TASK_ON_EVENT}"
+    if cursor.word("every", "on").text == "every":
+        statement.numbers["every"] = cursor.number("the period, a number,")
+        left = ["from", "prio", "deadline", "cost"]
+    else:
+        cursor.form = TASK_ON_EVENT
+        statement.source = cursor.name("the name of an event")
+        left = ["prio", "deadline", "cost"]
+    given = ["every" if "every" in statement.numbers else "on"]
+    while left:
+        taken = cursor.takes(*left)
+        if taken is None:
+            cursor.leave(listed([f"{word} N" for word in left], "or"), about_task(cursor, given, left))
+        statement.numbers[taken.text] = cursor.number(f"a number after `{taken.text}`")
+        given.append(taken.text)
+        left = left[left.index(taken.text) + 1 :]
+    if cursor.here is not None:
+        cursor.leave("the line's end", about_task(cursor, given, left))
+
+
+def about_task(cursor, given, left):
+    """Returns more about a word in a `task` line that isn't at its place, or nothing."""
+    here = cursor.here
+    if here is None or cursor.advice(""):
+        return ""
+    if here.text in given:
+        return f"`{here.text}` stands here a second time"
+    if here.says("from") and given[0] == "on":
+        return "only a task with `every` has an offset"
+    if here.says("from", "prio", "deadline"):
+        return f"`{here.text} N` comes before `{given[-1]} N`"
+    return "" if left else "`cost N` comes last"
+
+
+def sense(cursor, statement):
+    """Takes the name of a value and of an input."""
+    statement.name = cursor.name("a name")
+    cursor.word("=")
+    statement.source = cursor.name("the name of an input")
+    cursor.end()
+
+
+def read(cursor, statement):
+    """Takes what a `read` names: a task and an out of it, with a delay, at a time."""
+    statement.name = cursor.name("a name")
+    cursor.word("=")
+    statement.is_delayed = bool(cursor.takes("pre"))
+    if statement.is_delayed and cursor.here is not None and cursor.here.kind is Kind.NUMBER:
+        statement.numbers["pre"] = cursor.number("a number")
+    statement.source = cursor.name("the name of a task" if statement.is_delayed else "`pre` or the name of a task")
+    if not cursor.takes("."):
+        cursor.leave("`.`", about_read(cursor, statement))
+    statement.port = cursor.name("the name of an out")
+    if cursor.takes("at"):
+        statement.numbers["at"] = cursor.number("a number of ticks")
+        cursor.end()
+    elif cursor.here is not None:
+        before = "`pre` and its number come before the task" if cursor.says("pre") else ""
+        cursor.leave("`at N` or the line's end", before)
+
+
+def about_read(cursor, statement):
+    """Returns more about what stands after the name of a task in a `read`, or nothing."""
+    if cursor.here is None:
+        return f"an out of the task is named, as `{cursor.last.text}.NAME`"
+    if statement.is_delayed and "pre" not in statement.numbers and cursor.here.kind is Kind.NAME:
+        return f"the delay after `pre` is a number from 1 to {GREATEST_DELAY}"
+    return cursor.advice("")
+
+
+def with_expression(cursor, statement):
+    """Takes a name and its expression."""
+    statement.name = cursor.name("a name")
+    cursor.word("=")
+    whole(cursor, statement.names)
+
+
+def out(cursor, statement):
+    """Takes a name, its first value and its expression."""
+    statement.name = cursor.name("a name")
+    cursor.word("=")
+    statement.value = cursor.number("the first value, a number,")
+    if not cursor.takes("then"):
+        cursor.leave("`then`", cursor.advice("") or "the first value, before `then`, is one number")
+    whole(cursor, statement.names)
+
+
+def alone(cursor, _):
+    """Takes nothing more."""
+    cursor.end()
+
+
+FORM_OF = {
+    "dbp": header,
+    "policy": policy,
+    "until": until,
+    "input": with_value,
+    "event": event,
+    "task": task,
+    "state": with_value,
+    "sense": sense,
+    "read": read,
+    "let": with_expression,
+    "next": with_expression,
+    "out": out,
+    "trace": alone,
+    "script": alone,
+    "done": alone,
+}
