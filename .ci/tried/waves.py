@@ -1,5 +1,5 @@
-"""tools/waves: what it writes is read again, by readers of its formats that know nothing of the tool, and has to be what
-the program printed and what the document says; a few files are compared byte by byte; and its statuses."""
+"""tools/waves: what it writes is read again by readers of its formats that know nothing of the tool, and must be what
+the program prints and the document says. A few files are compared byte by byte, and so are its statuses."""
 
 import csv
 import io
