@@ -4,7 +4,6 @@ import argparse
 import re
 import sys
 from contextlib import contextmanager
-from dataclasses import dataclass
 from enum import IntEnum
 from pathlib import Path
 
@@ -30,12 +29,12 @@ class Status(IntEnum):
     INTERRUPTED = 130
 
 
-@dataclass(frozen=True)
 class Ended(Exception):
-    """The command can't go on: its status, and what it says."""
+    """The command can't go on: the status that it ends with, and what it says."""
 
-    status: int
-    text: str
+    def __init__(self, status, text):
+        super().__init__(text)
+        self.status = status
 
 
 def tick_length(text):
@@ -52,7 +51,7 @@ def options_of(words):
     parser.add_argument("file", metavar="FILE", help="a document; - is standard input")
     parser.add_argument("--command", choices=("mean", "sim", "run"), default="mean", help="what runs it (mean)")
     parser.add_argument("--format", choices=("vcd", "csv"), default="vcd", help="what is written (vcd)")
-    parser.add_argument("--tick", type=tick_length, default="1 ns", help="for vcd: the length of a tick (1ns)")
+    parser.add_argument("--tick", type=tick_length, default="1 ns", metavar="LENGTH", help="for vcd: the length of a tick (1ns)")
     tables = parser.add_mutually_exclusive_group()
     tables.add_argument("--wide", action="store_true", help="for csv: one table of all signals, by tick")
     tables.add_argument("--task", metavar="NAME", help="for csv: the table of this task alone")
@@ -139,7 +138,7 @@ def main(words=None):
     try:
         write_signals(options)
     except Ended as ended:
-        print(ended.text, file=sys.stderr)
+        print(ended, file=sys.stderr)
         return ended.status
     except CannotRun as error:
         print(f"waves: {error}", file=sys.stderr)

@@ -4,6 +4,7 @@ The values are the program's: they are taken from the lines that it prints and f
 """
 
 from dataclasses import dataclass
+from enum import Enum
 from itertools import groupby
 from typing import Iterable, NamedTuple, Tuple
 
@@ -11,27 +12,27 @@ from typing import Iterable, NamedTuple, Tuple
 TRACE_SCOPE = "trace"
 INSTANCE_NAME = "done"
 
-WORD_BITS = 64
+
+class Kind(Enum):
+    """What a signal is: a number that stays until the next one, or 1 at the ticks of an event and 0 at all others."""
+
+    NUMBER = "number"
+    EVENT = "event"
 
 
 @dataclass(frozen=True)
 class Signal:
-    """A value in time: a number that stays until the next one, or, with one bit, 1 at the ticks of an event alone."""
+    """A value in time, with its first one."""
 
     scope: str
     name: str
-    bits: int
+    kind: Kind
     first: int
 
     @property
     def full_name(self):
         """Returns the name that the signal has among all signals of the document."""
         return f"{self.scope}.{self.name}"
-
-    @property
-    def is_event(self):
-        """Returns whether the signal is 1 at the ticks of an event, and 0 at all others."""
-        return self.bits == 1
 
 
 class Change(NamedTuple):
@@ -59,10 +60,10 @@ class Waves:
     signals: Tuple[Signal, ...]
     changes: Tuple[Change, ...]
 
-    def by_tick(self):
-        """Yields each tick at which something changes, with its changes."""
-        for tick, changes in groupby(self.changes, key=lambda change: change.tick):
-            yield tick, list(changes)
+
+def by_tick(changes):
+    """Returns each tick at which something changes, with its changes."""
+    return groupby(changes, key=lambda change: change.tick)
 
 
 def occurrences_of(lines):
@@ -79,14 +80,14 @@ def occurrence_of(line):
 
 def task_signals(task):
     """Returns the signals of a task: how many instances it has had, and its outs with their first values."""
-    instances = Signal(task.name, INSTANCE_NAME, WORD_BITS, 0)
-    return [instances, *(Signal(task.name, out.name, WORD_BITS, out.first) for out in task.outs)]
+    instances = Signal(task.name, INSTANCE_NAME, Kind.NUMBER, 0)
+    return [instances, *(Signal(task.name, out.name, Kind.NUMBER, out.first) for out in task.outs)]
 
 
 def trace_signals(document):
     """Returns the signals that come from outside: the inputs, then the events."""
-    inputs = [Signal(TRACE_SCOPE, it.name, WORD_BITS, it.first) for it in document.inputs]
-    return [*inputs, *(Signal(TRACE_SCOPE, event, 1, 0) for event in document.events)]
+    inputs = [Signal(TRACE_SCOPE, it.name, Kind.NUMBER, it.first) for it in document.inputs]
+    return [*inputs, *(Signal(TRACE_SCOPE, event, Kind.EVENT, 0) for event in document.events)]
 
 
 def trace_changes(document) -> Iterable[Change]:

@@ -2,7 +2,7 @@
 
 import csv
 
-from waveforms.signals import task_signals
+from waveforms.signals import Kind, by_tick, task_signals
 
 TICK_COLUMN = "tick"
 
@@ -19,10 +19,10 @@ def wide_rows(waves):
     """Yields the header and a row for tick 0 and each later one at which something comes, with all values then."""
     yield [TICK_COLUMN, *(signal.full_name for signal in waves.signals)]
     values = [signal.first for signal in waves.signals]
-    events = [index for index, signal in enumerate(waves.signals) if signal.is_event]
+    events = [index for index, signal in enumerate(waves.signals) if signal.kind is Kind.EVENT]
     if waves.until and not (waves.changes and waves.changes[0].tick == 0):
         yield [0, *values]
-    for tick, changes in waves.by_tick():
+    for tick, changes in by_tick(waves.changes):
         for index in events:
             values[index] = 0
         for change in changes:

@@ -2,10 +2,13 @@
 
 from itertools import groupby
 
-from waveforms.signals import WORD_BITS
+from waveforms.signals import Change, Kind, by_tick
 
 # The bytes of which the short names of signals are made: all that are printed, without the space.
 FIRST_CODE, CODES = ord("!"), 94
+
+# The type and the bits of a variable; viewers show an integer with its sign.
+VARIABLES = {Kind.NUMBER: ("integer", 64), Kind.EVENT: ("wire", 1)}
 
 
 def code_of(index):
@@ -16,9 +19,8 @@ def code_of(index):
 
 def change_text(signal, code, value):
     """Returns the line that gives a signal a value: one bit, or a number in two's complement."""
-    if signal.is_event:
-        return f"{value}{code}\n"
-    return f"b{value % (1 << WORD_BITS):b} {code}\n"
+    _, bits = VARIABLES[signal.kind]
+    return f"{value}{code}\n" if bits == 1 else f"b{value % (1 << bits):b} {code}\n"
 
 
 def declarations(signals, codes):
@@ -26,24 +28,15 @@ def declarations(signals, codes):
     for scope, members in groupby(zip(signals, codes), key=lambda member: member[0].scope):
         yield f"$scope module {scope} $end\n"
         for signal, code in members:
-            kind = "wire" if signal.is_event else "integer"
-            yield f"$var {kind} {signal.bits} {code} {signal.name} $end\n"
+            variable, bits = VARIABLES[signal.kind]
+            yield f"$var {variable} {bits} {code} {signal.name} $end\n"
         yield "$upscope $end\n"
 
 
-def with_falls(waves):
-    """Yields each tick with its changes, and with the falls of events that occurred at the tick before, not at this."""
-    risen, last = [], -1
-    for tick, changes in waves.by_tick():
-        if risen and last + 1 < tick:
-            yield last + 1, [(signal, 0) for signal in risen]
-            risen = []
-        now = [change.signal for change in changes if waves.signals[change.signal].is_event]
-        falls = [(signal, 0) for signal in risen if signal not in now]
-        yield tick, [*falls, *((change.signal, change.value) for change in changes)]
-        risen, last = now, tick
-    if risen:
-        yield last + 1, [(signal, 0) for signal in risen]
+def falls_of(waves):
+    """Returns the changes of events to 0: at the tick after each at which they occur, unless they occur again then."""
+    rises = {(it.tick, it.signal) for it in waves.changes if waves.signals[it.signal].kind is Kind.EVENT}
+    return [Change(tick + 1, signal, 0) for tick, signal in rises if (tick + 1, signal) not in rises]
 
 
 def vcd_lines(waves, command, tick_length):
@@ -56,10 +49,11 @@ def vcd_lines(waves, command, tick_length):
         yield change_text(signal, code, signal.first)
     yield "$end\n"
     last = 0
-    for tick, changes in with_falls(waves):
+    for tick, changes in by_tick(sorted([*waves.changes, *falls_of(waves)])):
         if tick > last:
             yield f"#{tick}\n"
-        yield "".join(change_text(waves.signals[signal], codes[signal], value) for signal, value in changes)
+        for change in changes:
+            yield change_text(waves.signals[change.signal], codes[change.signal], change.value)
         last = tick
     if waves.until > last:
         yield f"#{waves.until}\n"
