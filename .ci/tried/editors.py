@@ -37,7 +37,6 @@ class Section(Enum):
     SCRIPT = "script"
 
 
-STEPS = "seen aim claim open start hear look take shut put done end".split()
 LONGEST_NAME = 24
 
 
@@ -54,11 +53,9 @@ def lines_of(document):
 # The tokenizer.
 
 
-def reserved_words():
-    """Returns the reserved words that docs/LANGUAGE.md lists."""
-    text = (TOP / "docs" / "LANGUAGE.md").read_text()
-    return re.search(r"\*\*Reserved words\*\* are `([a-z ]+)`", text)[1].split()
-
+LANGUAGE = (TOP / "docs" / "LANGUAGE.md").read_text()
+RESERVED = re.search(r"\*\*Reserved words\*\* are `([a-z ]+)`", LANGUAGE)[1].split()
+STEPS = list(dict.fromkeys(re.findall(r"(?m)^\| `([a-z]+) T[ `]", LANGUAGE)))
 
 SYMBOLS = r"==|!=|<=|>=|[=<>+\-*/%(),.]"
 NUMBER = r"(?P<sign>-(?=\d))|(?P<number>\d+)(?P<bad>[A-Za-z_]\w*)?"
@@ -70,7 +67,7 @@ def is_allowed(byte):
     return " " <= byte <= "~" or byte == "\t"
 
 
-def classes_of_tokens(line, reserved, section):
+def classes_of_tokens(line, section):
     """Returns the class of each byte of a line of the diagram or the script."""
     found, last = [], None
     while len(found) < len(line):
@@ -85,7 +82,7 @@ def classes_of_tokens(line, reserved, section):
             found += [Class.COMMENT if is_allowed(byte) else Class.ERROR for byte in line[at:]]
         else:
             is_first = section is Section.SCRIPT and last is None
-            size, last = size_and_class(token, TOKEN.match(line, at + 1), last, reserved + STEPS * is_first)
+            size, last = size_and_class(token, TOKEN.match(line, at + 1), last, RESERVED + STEPS * is_first)
             found += [Class.SYMBOL if last is Operand.PARENTHESIS else last] * size
     return found
 
@@ -145,11 +142,10 @@ def section_after(line, section):
 
 def classes_by_language(lines):
     """Returns the class of each byte of each line, by the rules of the language."""
-    found, section, reserved = [], Section.DIAGRAM, reserved_words()
+    found, section = [], Section.DIAGRAM
     for line in lines:
         own, section = section_after(line, section)
-        is_trace = own is Section.TRACE
-        found.append(classes_of_cells(line) if is_trace else classes_of_tokens(line, reserved, own))
+        found.append(classes_of_cells(line) if own is Section.TRACE else classes_of_tokens(line, own))
     return found
 
 
@@ -212,8 +208,10 @@ qall!
 PROBLEMS = (
     ("a b.dbp", 12, 3, "error", "11 Unknown: no state, sense, read or let of its task: z"),
     ("a b.dbp", 4, 10, "warning", "unread: the out y is read by no task"),
+    ("a b.dbp", 3, 6, "note", "the task is declared here"),
 )
 SAID = tuple("{}:{}:{}: {}: {}".format(*problem) for problem in PROBLEMS)
+SHOWN = ("   12 |   let a = z", "      |           ^")
 
 
 def answer_of_vim():
@@ -221,7 +219,7 @@ def answer_of_vim():
     with tempfile.TemporaryDirectory() as room:
         answer, script, checker = (Path(room) / name for name in ("answer", "script.vim", "a checker"))
         script.write_text(VIM_SCRIPT)
-        checker.write_text("#!/bin/sh\ncat << 'END'\n{}\nEND\nexit 1\n".format("\n".join(SAID)))
+        checker.write_text("#!/bin/sh\ncat << 'END'\n{}\nEND\nexit 1\n".format("\n".join([*SAID, *SHOWN])))
         checker.chmod(0o755)
         values = {"documents": [str(it) for it in documents()], "checker": str(checker), "answer": str(answer)}
         settings = [f"let g:{name} = {json.dumps(value)}" for name, value in values.items()]
@@ -365,8 +363,15 @@ def fault_of_extension():
     return None if found == wanted else f"the problems are {found}"
 
 
+def fault_of_words():
+    """Returns the words of the language that the document of all tokens lacks."""
+    missing = {*RESERVED, *STEPS} - {*TOKENS.read_text().split()}
+    return f"{TOKENS.name} lacks {sorted(missing)}" if missing or len(STEPS) < 12 else None
+
+
 def trials(_program):
     """Yields the trials of the editors, each a name and a call that returns what differs, or None."""
+    yield "every word", fault_of_words
     yield "vim", fault_of_vim
     yield "vscode", fault_of_extension
     for document in documents():

@@ -8,4 +8,6 @@ let current_compiler = "dbp"
 let s:beside = fnamemodify(resolve(expand("<sfile>:p")), ":h:h:h:h") . "/tools/check"
 let s:command = shellescape(get(g:, "dbp_check", s:beside)) . " %:S"
 execute "CompilerSet makeprg=" . escape(s:command, " \\|\"")
-CompilerSet errorformat=%f:%l:%c:\ %trror:\ %m,%f:%l:%c:\ %tarning:\ %m
+CompilerSet errorformat=%f:%l:%c:\ %trror:\ %m,%f:%l:%c:\ %tarning:\ %m,%f:%l:%c:\ %tote:\ %m
+" Lines of the document, which the checker shows under a problem.
+CompilerSet errorformat+=%-G%*[\ 0-9]\|%.%#
