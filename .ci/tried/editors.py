@@ -37,6 +37,12 @@ class Section(Enum):
     SCRIPT = "script"
 
 
+class Operand(Enum):
+    """A symbol after which a minus is an operator."""
+
+    PARENTHESIS = ")"
+
+
 LONGEST_NAME = 24
 
 
@@ -51,7 +57,6 @@ def lines_of(document):
 
 
 # The tokenizer.
-
 
 LANGUAGE = (TOP / "docs" / "LANGUAGE.md").read_text()
 RESERVED = re.search(r"\*\*Reserved words\*\* are `([a-z ]+)`", LANGUAGE)[1].split()
@@ -85,12 +90,6 @@ def classes_of_tokens(line, section):
             size, last = size_and_class(token, TOKEN.match(line, at + 1), last, RESERVED + STEPS * is_first)
             found += [Class.SYMBOL if last is Operand.PARENTHESIS else last] * size
     return found
-
-
-class Operand(Enum):
-    """The symbol after which a minus is an operator."""
-
-    PARENTHESIS = ")"
 
 
 def size_and_class(token, after_sign, last, reserved):
@@ -137,7 +136,7 @@ def section_after(line, section):
     if section is Section.SCRIPT and tokens != ["done"]:
         return Section.SCRIPT, Section.SCRIPT
     openings = {} if section is Section.SCRIPT else {"trace": Section.TRACE, "script": Section.SCRIPT}
-    return Section.DIAGRAM, openings.get("".join(tokens), Section.DIAGRAM)
+    return Section.DIAGRAM, openings.get(" ".join(tokens), Section.DIAGRAM)
 
 
 def classes_by_language(lines):
