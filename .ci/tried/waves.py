@@ -232,9 +232,8 @@ def fault_of_wide_table(waves, lines, outside):
     return None if found == lines else f"the lines of the wide table are {found[:9]}"
 
 
-def fault_of_document(program, document):
+def fault_of_document(program, text):
     """Returns what the files of a document say differently than the program and the document."""
-    text = document.read_bytes()
     printed, form = run_program(program, ["mean"], text).stdout, run_program(program, ["form"], text).stdout
     lines, outside = printed.decode().splitlines(), outside_of(form.decode())
     diagram, occurrences = read_document(form), occurrences_of(printed)
@@ -279,18 +278,29 @@ def fault_of_folder(program):
         return None if is_wanted else "filter.csv differs from that of --task filter"
 
 
-def is_accepted(program, document):
-    """Returns whether `mean` accepts a document."""
-    return run_program(program, ["mean"], document.read_bytes()).status == 0
+def most_signals():
+    """Returns a document with as many signals as there can be."""
+    heads = [f"input i{number} = {number}\nevent e{number}\n" for number in range(16)]
+    outs = "".join(f"  out y{number} = -{number} then n * {number} - 9\n" for number in range(8))
+    body = f"  state n = 0\n  next n = n + 1\n{outs}"
+    tasks = [f"task t{number} every {number + 3} from 1 prio 1 cost 1\n{body}" for number in range(32)]
+    return "".join(["dbp 1\npolicy fp\nuntil 40\n", *heads, *tasks, "done\n"]).encode()
+
+
+def accepted_documents(program):
+    """Yields the name and the text of each document that `mean` accepts, and of one more."""
+    for folder in FOLDERS:
+        for document in sorted((TOP / folder).rglob("*.dbp")):
+            text = document.read_bytes()
+            if run_program(program, ["mean"], text).status == 0:
+                yield document.relative_to(TOP), text
+    yield "as many signals as there can be", most_signals()
 
 
 def trials(program):
     """Yields the trials of the tool, each a name and a call that returns what differs, or None."""
-    for folder in FOLDERS:
-        for document in sorted((TOP / folder).rglob("*.dbp")):
-            if is_accepted(program, document):
-                name = f"{document.relative_to(TOP)} read again"
-                yield name, partial(fault_of_document, program, document)
+    for name, text in accepted_documents(program):
+        yield f"{name}, read again", partial(fault_of_document, program, text)
     for words, document, wanted in WRITTEN:
         yield " ".join([*words, document]), partial(fault_of_written, program, words, document, wanted)
     for words, status, text in ENDED:
