@@ -56,8 +56,9 @@ ENDED = (
 
 @dataclass
 class Dump:
-    """What a VCD file says: the signals by name, with their kind, bits and first value, and what they take when."""
+    """What a VCD file says: names by code, then by name the kind, the bits and the first value; and the changes."""
 
+    names: dict = field(default_factory=dict)
     kinds: dict = field(default_factory=dict)
     first: dict = field(default_factory=dict)
     changes: list = field(default_factory=list)
@@ -65,8 +66,8 @@ class Dump:
 
 
 def read_declarations(words, dump):
-    """Reads the words of a VCD file up to the end of its declarations, and returns the name of each code."""
-    names, scopes = {}, []
+    """Reads the words of a VCD file up to the end of its declarations."""
+    scopes = []
     for word in words:
         parts = []
         for part in words:
@@ -79,18 +80,17 @@ def read_declarations(words, dump):
             scopes.pop()
         elif word == "$var":
             kind, bits, code, name = parts
-            names[code] = ".".join([*scopes, name])
-            dump.kinds[names[code]] = kind, int(bits)
+            dump.names[code] = ".".join([*scopes, name])
+            dump.kinds[dump.names[code]] = kind, int(bits)
         elif word == "$enddefinitions":
             break
-    return names
 
 
 def read_dump(text):
     """Returns what a VCD file says."""
     dump = Dump()
     words = iter(text.split())
-    names = read_declarations(words, dump)
+    read_declarations(words, dump)
     is_first = False
     for word in words:
         if word.startswith("#"):
@@ -98,7 +98,7 @@ def read_dump(text):
         elif word.startswith("$"):
             is_first = word == "$dumpvars"
         else:
-            name = names[next(words) if word[0] == "b" else word[1:]]
+            name = dump.names[next(words) if word[0] == "b" else word[1:]]
             value = number_of(word[1:], *dump.kinds[name]) if word[0] == "b" else int(word[0])
             if is_first:
                 dump.first[name] = value
@@ -181,6 +181,8 @@ def ticks_at_one(dump, name):
 def fault_of_dump(waves, lines, outside, until):
     """Returns what a VCD file says differently than the program and the document."""
     dump = read_dump("".join(vcd_lines(waves, "mean", "1 ns")))
+    if len(dump.names) != len(dump.kinds) or not re.fullmatch("[!-~]+", "".join(dump.names) or "!"):
+        return f"the codes of the VCD file are {list(dump.names)}"
     if lines_of_dump(dump) != lines:
         return f"the lines of the VCD file are {lines_of_dump(dump)[:9]}"
     if dump.end != until or set(dump.first) != set(dump.kinds):
