@@ -1,0 +1,70 @@
+"""The manual page docs/dbp.1: its commands are those that the program lists, its statuses those of README.md, and its
+examples run. What lays it out says nothing; a program for that is skipped if it isn't on the machine."""
+
+import os
+import re
+import shutil
+import subprocess
+from functools import partial
+from pathlib import Path
+
+TOP = Path(__file__).resolve().parents[2]
+PAGE = TOP / "docs" / "dbp.1"
+
+# Commands that lay the page out, and warn of its faults.
+LAID_OUT = (
+    ["mandoc", "-T", "lint", "-W", "warning"],
+    ["groff", "-ww", "-z", "-m", "mdoc", "-T", "utf8"],
+)
+
+
+def text_of_macros(words):
+    """Returns how the words of a line of the page are printed: Fl puts a dash before its word, Ns leaves no space."""
+    parts = [it for it in words.split() if it not in ("Cm", "Ar")]
+    return re.sub(r"Fl ", "-", " ".join(parts)).replace(" Ns ", "")
+
+
+def commands_of_page(page):
+    """Returns the words of each command that the page has."""
+    return [text_of_macros(it) for it in re.findall(r"(?m)^\.It (Cm .*)$", page)]
+
+
+def fault_of_commands(program):
+    """Returns how the commands of the page differ from those that the program lists."""
+    ran = subprocess.run([program], stdin=subprocess.DEVNULL, capture_output=True, check=False)
+    listed = [line.strip() for line in ran.stderr.decode().splitlines()[1:]]
+    found = commands_of_page(PAGE.read_text())
+    return None if found == listed else f"the page has {found}, the program lists {listed}"
+
+
+def fault_of_statuses():
+    """Returns how the statuses of the page differ from those of README.md."""
+    rows = re.findall(r"(?m)^\| ([0-9, ]+) \|", (TOP / "README.md").read_text())
+    wanted = [number for row in rows for number in row.split(", ")]
+    found = re.findall(r"(?m)^\.It (\d+)$", PAGE.read_text())
+    return None if found == wanted else f"the page has {found}, README.md has {wanted}"
+
+
+def fault_of_layout(command):
+    """Returns what a program says that lays the page out."""
+    if not shutil.which(command[0]):
+        return None
+    ran = subprocess.run([*command, PAGE], capture_output=True, check=False)
+    return (ran.stdout + ran.stderr).decode() or None
+
+
+def fault_of_example(program, line):
+    """Returns what is wrong with the end of an example of the page."""
+    words = ["sh", "-c", f'dbp() {{ "$PROGRAM" "$@"; }}\n{line}']
+    ran = subprocess.run(words, cwd=TOP, env={**os.environ, "PROGRAM": str(program)}, capture_output=True, check=False)
+    return None if ran.returncode == 0 and ran.stdout else f"the status is {ran.returncode}: {ran.stderr.decode()}"
+
+
+def trials(program):
+    """Yields the trials of the page, each a name and a call that returns what differs, or None."""
+    yield "commands", partial(fault_of_commands, program)
+    yield "statuses", fault_of_statuses
+    for command in LAID_OUT:
+        yield command[0], partial(fault_of_layout, command)
+    for line in re.findall(r"(?m)^\.Dl (.*)$", PAGE.read_text()):
+        yield line, partial(fault_of_example, program, line)

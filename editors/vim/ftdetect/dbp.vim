@@ -1,0 +1,2 @@
+" Files of the language dbp, by their names.
+autocmd BufNewFile,BufRead *.dbp setfiletype dbp

@@ -1,0 +1,1 @@
+"""Waveforms and tables of the values that the program prints."""
