@@ -22,7 +22,7 @@ class Refused(Exception):
 
 @dataclass(frozen=True)
 class Simulated:
-    """A document with its simulation: the service, the steps of the record, and the overrun if there is one.
+    """A document with its simulation: the service, the steps to be drawn, and the overrun if there is one.
 
     If it overruns, service and steps are those of the releases before the overrun.
     """

@@ -12,7 +12,11 @@ from pictures.slot_rows import draw_slots
 from pictures.timeline import draw_timeline
 from program import CannotRun, add_program_option
 
-DIFFERS, CANNOT_READ, CANNOT_WRITE, CANNOT_RUN = 1, 4, 5, 70
+DIFFERS, USAGE, CANNOT_READ, CANNOT_WRITE, CANNOT_RUN = 1, 2, 4, 5, 70  # exit statuses
+
+
+class NoTask(Exception):
+    """A word of a command names no task of the document."""
 
 
 def say(tool, text):
@@ -41,6 +45,26 @@ def write_picture(text, name):
         sys.stdout.buffer.flush()
 
 
+def tick(word):
+    """Returns the tick that a word of a command names."""
+    if not (word.isascii() and word.isdigit()):
+        raise argparse.ArgumentTypeError(f"{word} is no tick")
+    return int(word)
+
+
+def must_name_tasks(document, names):
+    """Refuses a name that isn't one of the document's tasks."""
+    for name in names:
+        if name is not None and name not in {task.name for task in document.tasks}:
+            raise NoTask(f"it has no task {name}")
+
+
+def shown_name(name):
+    """Returns the name of a document as pictures show it."""
+    last = "document" if name == "-" else Path(name).name
+    return "".join(letter if letter.isprintable() else "?" for letter in last)
+
+
 def run(tool, options, draw):
     """Draws the picture of a document and returns the exit status; what goes wrong is said on standard error."""
     try:
@@ -48,7 +72,7 @@ def run(tool, options, draw):
     except OSError as error:
         say(tool, f"{options.file}: {error.strerror}")
         return CANNOT_READ
-    name = "document" if options.file == "-" else Path(options.file).name
+    name = shown_name(options.file)
     try:
         picture = draw(text, name)
     except Refused as refused:
@@ -57,6 +81,9 @@ def run(tool, options, draw):
     except Disagreement as differing:
         say(tool, f"{name}: the record and the computed order differ at {differing}")
         return DIFFERS
+    except NoTask as error:
+        say(tool, f"{name}: {error}")
+        return USAGE
     except CannotRun as error:
         say(tool, error)
         return CANNOT_RUN
@@ -72,21 +99,24 @@ def timeline(words):
     """Draws a timeline, and returns the exit status."""
     parser = argparse.ArgumentParser("timeline", description="Draws the simulation of a document as SVG.")
     add_file_options(parser)
-    parser.add_argument("--from", dest="start", type=int, metavar="T", help="the first tick that is shown (0)")
-    parser.add_argument("--to", dest="stop", type=int, metavar="T", help="the last tick that is shown")
+    parser.add_argument("--from", dest="start", type=tick, metavar="T", help="the first tick that is shown (0)")
+    parser.add_argument("--to", dest="stop", type=tick, metavar="T", help="the last tick that is shown")
     parser.add_argument("--claims", metavar="TASK", help="draw the claims of this task and on its outs alone")
     parser.add_argument("--slots", metavar="TASK", help="draw this task, its readers, and its slots over time")
     options = parser.parse_args(words)
+    asked = (options.start, options.stop)
+    if options.stop is not None and (options.start or 0) >= options.stop:
+        parser.error("--to must be after --from")
 
     def draw(text, name):
         found = simulated(options.program, text)
-        asked = (options.start, options.stop)
+        must_name_tasks(found.document, (options.claims, options.slots))
         if options.slots:
             picture, window = draw_slots(found, name, asked, options.slots)
         else:
             picture, window = draw_timeline(found, name, asked, options.claims)
         if window.is_cut:
-            say("timeline", f"{name}: drawn up to tick {window.stop}; --from and --to choose other ticks")
+            say("timeline", f"{name}: drawn are ticks {window.start} to {window.stop}; --from and --to choose others")
         return picture
 
     return run("timeline", options, draw)

@@ -23,7 +23,7 @@ def node_line(document, task):
     outs = [field(out.name, f"o{number}") for number, out in enumerate(task.outs)]
     about = "\\n".join(field(line) for line in (task.name, *about_task(document, task)))
     columns = ["|".join(column) for column in ([*reads, *senses], [about], outs) if column]
-    return f'  {quoted(task.name)} [label="' + "|".join(f"{{{column}}}" for column in columns) + '"];'
+    return f'  {quoted(task.name)} [label="{{' + "|".join(f"{{{column}}}" for column in columns) + '}"];'
 
 
 def edge_line(document, task, number):
@@ -32,7 +32,7 @@ def edge_line(document, task, number):
     writer = document.task(read.writer)
     port = [out.name for out in writer.outs].index(read.port)
     delay = f"pre {read.delay}" if read.delay > 1 else "pre"
-    style = f' [style=dashed, color="#5c2d86", label="{delay}", constraint=false]' if read.delay else ""
+    style = f' [style=dashed, color="#5c2d86", label="{delay}"]' if read.delay else ""
     return f"  {quoted(writer.name)}:o{port} -> {quoted(task.name)}:r{number}{style};"
 
 

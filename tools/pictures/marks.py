@@ -25,6 +25,7 @@ class Mark(Enum):
     KEPT = "kept"
     CLAIMED = "claimed"
     UNSEEN = "unseen"
+    STEP = "step"
 
 
 def draw_flag(canvas, mark, x, base, about=""):
@@ -65,6 +66,8 @@ def sample_of(mark):
         return lambda canvas, x, y: draw_flag(canvas, mark, x + left, y - 7), 8
     if mark in (Mark.READ, Mark.FIRST):
         return lambda canvas, x, y: draw_read(canvas, x + 4, y, is_first=mark is Mark.FIRST), 8
+    if mark is Mark.STEP:
+        return lambda canvas, x, y: canvas.text(x, y + 4, "[3]", "label"), 20
     if mark is Mark.END:
         return lambda canvas, x, y: canvas.line(Layer.MARKS, x + 2, y - 9, x + 2, y + 9, mark.value), 4
     return bar_sample(mark, 8 if mark in (Mark.PREEMPTED, Mark.WAITING) else 14), 26
@@ -86,7 +89,8 @@ WORDS = {
     Mark.HELD: "filled with a row",
     Mark.KEPT: "kept for reads with pre",
     Mark.CLAIMED: "claimed by a reader's instance",
-    Mark.UNSEEN: "its end isn't seen yet by the releaser",
+    Mark.UNSEEN: "its end, not seen yet by the releaser",
+    Mark.STEP: "made by step 3 of the record",
 }
 
 

@@ -5,7 +5,7 @@ The steps and their order are those of "The record of a simulation" in docs/PROT
 
 from dataclasses import dataclass
 from enum import Enum
-from typing import Optional
+from typing import NamedTuple, Optional
 
 from pictures.service import Begin, End, Reading, Release, rank_order
 
@@ -44,9 +44,11 @@ class Order:
     row: int
 
 
-@dataclass(frozen=True)
-class Step:
-    """A step: its number in the record, its tick, the task that it is of, that task's instance, and its line."""
+class Step(NamedTuple):
+    """A step: its number in the record, its tick, the task that it is of, that task's instance, and its line.
+
+    An aim, a claim and a hear have their order, a claim its link too.
+    """
 
     number: int
     time: int
@@ -56,6 +58,9 @@ class Step:
     line: str
     order: Optional[Order] = None
     link: Optional[Link] = None
+
+
+DRAWN = {StepKind.SEEN, StepKind.AIM, StepKind.CLAIM, StepKind.DONE, StepKind.END}  # the steps that pictures show
 
 
 class Disagreement(Exception):
@@ -158,9 +163,10 @@ class Recorder:
     def begun(self, event):
         """Yields the steps by which an instance begins."""
         it = event.instance
+        claims = [self.releaser.claims[link][0] for link in self.into[it.task]]
         yield self.step(event.time, StepKind.START, it)
-        for _ in range(1 + len(self.into[it.task])):
-            yield self.step(event.time, StepKind.HEAR, it)
+        for order in (Order(self.releaser.current[it.task], it.number), *claims):
+            yield self.step(event.time, StepKind.HEAR, it, order=order)
 
     def made(self, event):
         """Yields the steps of a read."""
@@ -184,16 +190,19 @@ def steps_of(document, events):
 
 
 def agreed_steps(document, service, lines):
-    """Returns the steps of the record, if the program's lines are theirs; a tick is named where they differ."""
-    found = []
+    """Returns the steps that pictures show, if the program's lines are those of the computed record.
+
+    A tick is named where the two differ.
+    """
+    found, count, tick = [], 0, 0
     for step in steps_of(document, service.events):
-        if len(found) == len(lines):
+        if count == len(lines):
             raise Disagreement(step.time, f"step {step.number} is `{step.line}`, and the record has ended")
-        line = lines[len(found)]
-        if line != step.line:
-            raise Disagreement(step.time, f"step {step.number} is `{step.line}`, and the record has `{line}`")
-        found.append(step)
-    if len(lines) > len(found):
-        tick = found[-1].time if found else 0
-        raise Disagreement(tick, f"the last step is {len(found)}, and the record goes on with `{lines[len(found)]}`")
+        if lines[count] != step.line:
+            raise Disagreement(step.time, f"step {step.number} is `{step.line}`, and the record has `{lines[count]}`")
+        if step.kind in DRAWN:
+            found.append(step)
+        count, tick = step.number, step.time
+    if len(lines) > count:
+        raise Disagreement(tick, f"the last step is {count}, and the record goes on with `{lines[count]}`")
     return found

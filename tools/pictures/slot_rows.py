@@ -8,6 +8,7 @@ from pictures.timeline import MARGIN, Timeline
 
 LANE, BETWEEN, HEAD = 19, 12, 30
 SIZE = 11
+TICK = 80  # the width of a tick, unless there are many
 
 
 def tasks_around(document, task):
@@ -84,7 +85,7 @@ class SlotRows:
         words = words_of(stay)
         end_text = "" if stay.stop is None else f" to {stay.stop}"
         about = f"slot {stay.slot}, {words[0]}, from {stay.start}{end_text}"
-        self.timeline.used.add(mark)
+        self.timeline.used |= {mark, Mark.STEP}
         self.canvas.box(Layer.BARS, x, y, to_x - x, LANE - 3, mark.value, about)
         if stay.ended is not None and stay.ended < end:
             seen_from = self.scale.x(stay.ended)
@@ -99,7 +100,7 @@ def draw_slots(simulated, name, window_asked, task_name):
     """Returns the picture of a task, its readers and its slots as SVG, and its window."""
     document = simulated.document
     task = next(at for at, it in enumerate(document.tasks) if it.name == task_name)
-    timeline = Timeline(simulated, window_asked, tasks_around(document, task), claims_of=task_name)
+    timeline = Timeline(simulated, window_asked, tasks_around(document, task), task_name, TICK)
     rows = SlotRows(timeline, task)
     timeline.draw()
     rows.draw()

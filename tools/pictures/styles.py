@@ -14,10 +14,10 @@ STYLES = [
     ".on-held{font-size:11px;fill:#ffffff}",
     ".slot{fill:#f4f4f4}",
     ".aimed{fill:#ffffff;stroke:#1a1a1a;stroke-dasharray:4 2}",
-    ".held{fill:#2f6299}",
+    ".held{fill:#35684b;stroke:#ffffff}",
     ".kept{fill:#bfd4ea;stroke:#2f6299}",
     ".claimed{fill:#fbe3cd;stroke:#b8500a;stroke-width:2}",
-    ".unseen{fill:url(#dots);stroke:#b8500a;stroke-width:2}",
+    ".unseen{fill:#ffffff;stroke:#b8500a;stroke-dasharray:5 3}",
     ".grid{stroke:#e4e4e4;fill:none}",
     ".base{stroke:#909090;fill:none}",
     ".served{fill:#2f6299}",
@@ -62,10 +62,5 @@ DEFINITIONS = "".join([
         "pattern",
         element("rect", width=5, height=5, fill="#ffffff") + element("path", d="M 0 5 L 5 0", stroke="#2f6299"),
         id="stripes", width=5, height=5, patternUnits="userSpaceOnUse",
-    ),
-    element(
-        "pattern",
-        element("rect", width=6, height=6, fill="#ffffff") + element("circle", cx=3, cy=3, r=1, fill="#b8500a"),
-        id="dots", width=6, height=6, patternUnits="userSpaceOnUse",
     ),
 ])

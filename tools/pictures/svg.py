@@ -4,7 +4,7 @@ from enum import IntEnum
 from xml.sax.saxutils import escape, quoteattr
 
 FONT = "Verdana, 'DejaVu Sans', Arial, sans-serif"
-NARROW = {letter: width for letters, width in (("ijlI.,:;'|!", 0.36), (" ()ft-r/\"", 0.46)) for letter in letters}
+NARROW = {letter: width for letters, width in (("ijlI.,:;'|!", 0.36), (" ()[]ft-r/\"", 0.46)) for letter in letters}
 WIDE = {letter: 1.0 for letter in "mwMW%@#+=<>~"}
 
 

@@ -26,7 +26,7 @@ def grouped_reads(document, course):
 class Timeline:
     """A timeline that is being drawn, of the tasks that are given by their places."""
 
-    def __init__(self, simulated, window_asked, tasks=None, claims_of=None):
+    def __init__(self, simulated, window_asked, tasks=None, claims_of=None, per_tick=28):
         self.simulated = simulated
         self.claims_of = claims_of
         self.document = simulated.document
@@ -44,7 +44,7 @@ class Timeline:
         self.rows = {task: TOP + ROW * number for number, task in enumerate(self.tasks)}
         self.bottom = TOP + ROW * len(self.tasks)
         left = MARGIN + self.label_width() + 18
-        width = plot_width(self.courses, self.window, self.read_labels())
+        width = plot_width(self.courses, self.window, self.read_labels(), per_tick)
         self.scale = Scale(self.window, left, width)
 
     def label_width(self):
@@ -218,7 +218,7 @@ class Timeline:
         title = f"{name}: {what}"
         about = f"{about_policy(self.document)}, one processor, ticks {window.start} to {window.stop}"
         if window.is_cut:
-            about += "; more instances come later"
+            about += "; not all instances are shown"
         width = self.scale.left + self.scale.width + self.right_margin()
         width = max(width, 2 * MARGIN + max(text_width(title, 16) * 1.15, text_width(about, 12)))
         self.canvas.text(MARGIN, 28, title, "title")

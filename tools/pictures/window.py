@@ -8,7 +8,7 @@ MOST_INSTANCES = 60  # that are drawn unless the window is asked for
 
 @dataclass(frozen=True)
 class Window:
-    """The ticks from `start` to `stop`; `is_cut` if instances come after it that nobody left out."""
+    """The ticks from `start` to `stop`; `is_cut` if there were too many instances to show all that was asked for."""
 
     start: int
     stop: int
@@ -45,28 +45,30 @@ def last_time(courses, until):
 
 
 def choose_window(courses, simulated, start, stop):
-    """Returns the window that is asked for, or up to the overrun, or as many instances as one picture takes."""
-    courses = sorted(courses, key=lambda course: course.instance.release)
-    start = start or 0
+    """Returns the window that is asked for, up to the overrun if there is one, with few enough instances."""
+    releases = sorted(course.instance.release for course in courses if course.last >= (start or 0))
+    is_cut = len(releases) > MOST_INSTANCES
     if stop is not None:
-        return Window(start, stop)
+        return Window(start or 0, stop)
     if simulated.overrun:
-        return Window(min(start, simulated.overrun.time - 1), simulated.overrun.time)
-    later = [course for course in courses if course.last >= start]
-    if len(later) > MOST_INSTANCES:
-        return Window(start, max(later[MOST_INSTANCES].instance.release, start + 1), True)
+        stop = simulated.overrun.time
+        asked = releases[-MOST_INSTANCES] if is_cut and start is None else start or 0
+        return Window(min(asked, stop - 1), stop, is_cut and start is None)
+    start = start or 0
+    if is_cut:
+        return Window(start, max(releases[MOST_INSTANCES], start + 1), True)
     return Window(start, max(start + 1, last_time(courses, simulated.document.until)))
 
 
-def plot_width(courses, window, labels):
-    """Returns a width of the plot in which most labels fit.
+def plot_width(courses, window, labels, per_tick):
+    """Returns a width of the plot in which most labels fit, with so much room for a tick unless there are many.
 
     `labels` has pairs of a time and a width, row by row: each label should end before the next one begins.
     """
     ticks = window.stop - window.start
     busiest = max(Counter(course.instance.task for course in courses).values(), default=1)
     asked = [ticks * room / (later - time) for row in labels for (time, room), (later, _) in zip(row, row[1:])]
-    return max(560, min(1600, max([28 * ticks, *asked])), 32 * busiest)
+    return max(560, min(1600, max([per_tick * ticks, *asked])), 32 * busiest)
 
 
 def tick_step(window, width, room):
