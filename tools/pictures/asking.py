@@ -1,7 +1,7 @@
 """What the pictures ask the program for: a checked document, and the record of its simulation."""
 
 from dataclasses import dataclass
-from typing import List, Optional
+from typing import List, Optional, Tuple
 
 from canonical import Document, read_document
 from pictures.record import Disagreement, Step, agreed_steps
@@ -24,10 +24,11 @@ class Refused(Exception):
 class Simulated:
     """A document with its simulation: the service, the steps to be drawn, and the overrun if there is one.
 
-    If it overruns, service and steps are those of the releases before the overrun.
+    If it overruns, service and steps are those of the releases before the overrun. `slots` has how many each task has.
     """
 
     document: Document
+    slots: Tuple[int, ...]
     service: Service
     steps: List[Step]
     overrun: Optional[Overrun]
@@ -42,14 +43,14 @@ def answer(program, words, text):
 
 
 def canonical_text(program, text):
-    """Returns the canonical text of a document that the program accepts as a whole."""
-    answer(program, ["plan"], text)
-    return answer(program, ["form"], text)
+    """Returns the canonical text of a document that the program accepts as a whole, and the lines of its plan."""
+    plan = answer(program, ["plan"], text).decode().splitlines()
+    return answer(program, ["form"], text), plan
 
 
 def checked_document(program, text):
     """Returns a document that the program accepts as a whole."""
-    return read_document(canonical_text(program, text))
+    return read_document(canonical_text(program, text)[0])
 
 
 def overrun_of(line):
@@ -92,7 +93,8 @@ def must_agree(computed, told):
 
 def simulated(program, text):
     """Returns the simulation of a document, in which the program's record and the computed order agree."""
-    form = canonical_text(program, text)
+    form, plan = canonical_text(program, text)
+    slots = tuple(int(line.split(",")[4]) for line in plan)
     document = read_document(form)
     lines, overrun = record_of(program, form)
     service = serve(document)
@@ -102,4 +104,4 @@ def simulated(program, text):
         document = read_document(form)
         service = serve(document)
         lines, _ = record_of(program, form)
-    return Simulated(document, service, agreed_steps(document, service, lines), overrun)
+    return Simulated(document, slots, service, agreed_steps(document, service, lines), overrun)

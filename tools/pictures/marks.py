@@ -31,7 +31,7 @@ class Mark(Enum):
 def draw_flag(canvas, mark, x, base, about=""):
     """Draws the flag of a release, to the right of its time, or of what is due, to the left."""
     side = 7 if mark is Mark.RELEASE else -7
-    data = path("M", x, base, "L", x, base + 14, "L", x + side, base + 10, "L", x, base + 6)
+    data = path("M", x, base + 4, "L", x, base + 18, "L", x + side, base + 14, "L", x, base + 10)
     canvas.add(Layer.MARKS, "path", tip(about), d=data, cls=mark.value)
 
 
@@ -63,7 +63,7 @@ def sample_of(mark):
         return arrow_sample(mark), 32
     if mark in (Mark.RELEASE, Mark.DUE, Mark.DEADLINE):
         left = 0 if mark is Mark.RELEASE else 8
-        return lambda canvas, x, y: draw_flag(canvas, mark, x + left, y - 7), 8
+        return lambda canvas, x, y: draw_flag(canvas, mark, x + left, y - 12), 8
     if mark in (Mark.READ, Mark.FIRST):
         return lambda canvas, x, y: draw_read(canvas, x + 4, y, is_first=mark is Mark.FIRST), 8
     if mark is Mark.STEP:
@@ -89,7 +89,7 @@ WORDS = {
     Mark.HELD: "filled with a row",
     Mark.KEPT: "kept for reads with pre",
     Mark.CLAIMED: "claimed by a reader's instance",
-    Mark.UNSEEN: "its end, not seen yet by the releaser",
+    Mark.UNSEEN: "its instance has ended, not seen yet",
     Mark.STEP: "made by step 3 of the record",
 }
 

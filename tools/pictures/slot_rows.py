@@ -56,8 +56,8 @@ class SlotRows:
             for stay in stays_of(timeline.simulated, task)
             if window.shows(stay.start, window.stop if stay.stop is None else stay.stop)
         ]
-        slots = sorted({stay.slot for stay in shown})
-        self.lanes = {slot: lanes_of([stay for stay in shown if stay.slot == slot]) for slot in slots}
+        slots = range(timeline.simulated.slots[task])
+        self.lanes = {slot: lanes_of([stay for stay in shown if stay.slot == slot]) or [[]] for slot in slots}
         self.top = timeline.bottom + HEAD
         timeline.bottom = self.top + sum(LANE * len(lanes) + BETWEEN for lanes in self.lanes.values())
 

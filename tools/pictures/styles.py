@@ -22,7 +22,7 @@ STYLES = [
     ".base{stroke:#909090;fill:none}",
     ".served{fill:#2f6299}",
     ".preempted{fill:url(#stripes);stroke:#2f6299;stroke-width:0.8}",
-    ".waiting{fill:#ffffff;stroke:#707070;stroke-dasharray:2 2}",
+    ".waiting{fill:none;stroke:#707070;stroke-dasharray:2 2}",
     ".end{stroke:#1a1a1a;stroke-width:2.5;fill:none}",
     ".release{fill:#1a1a1a;stroke:#1a1a1a}",
     ".due,.deadline{fill:#ffffff;stroke:#1a1a1a}",

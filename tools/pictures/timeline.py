@@ -5,7 +5,7 @@ from pictures.legend import draw_legend, legend_height
 from pictures.marks import WORDS, Mark, draw_flag, draw_read, entries_of
 from pictures.service import rank_order
 from pictures.styles import DEFINITIONS, STYLES
-from pictures.svg import Canvas, Layer, path, text_width
+from pictures.svg import Canvas, Layer, path, text_width, tip
 from pictures.window import Scale, choose_window, plot_width, tick_step
 from pictures.words import about_policy, about_task
 
@@ -162,17 +162,14 @@ class Timeline:
         names = [self.document.tasks[at].name for at in (reader, claim.writer)]
         if reader not in self.rows or claim.writer not in self.rows or self.claims_of not in (None, *names):
             return
-        is_below = self.rows[reader] > self.rows[claim.writer]
         for time in claim.times:
             if self.window.shows(time, time):
-                x = self.scale.x(time)
-                y = self.rows[reader] + BAR_AT + (0 if is_below else BAR)
+                is_below = self.rows[reader] > self.rows[claim.writer]
+                x, y = self.scale.x(time), self.rows[reader] + BAR_AT + (0 if is_below else BAR)
                 about = self.about_claim(claim, time)
-                self.used.add(Mark.READ)
+                self.used.add(Mark.READ if claim.row else Mark.FIRST)
                 if claim.row:
-                    self.arrow(claim, x, y - 4 if is_below else y + 4, is_below, about)
-                else:
-                    self.used.add(Mark.FIRST)
+                    self.arrow(claim, x, y, about)
                 draw_read(self.canvas, x, y, about, is_first=not claim.row)
 
     def about_claim(self, claim, time):
@@ -182,18 +179,20 @@ class Timeline:
         delay = f" (pre {claim.delay})" if claim.delay else ""
         return f"{self.title_of(claim.reader)} reads {row} at {time}{delay}"
 
-    def arrow(self, claim, to_x, to_y, is_below, about):
-        """Draws the arrow from the end of the instance whose outs are read."""
-        end = self.all_courses[claim.writer, claim.row].end
-        x = self.scale.x(end)
-        y = self.rows[claim.writer] + BAR_AT + (BAR + 3 if is_below else -3)
-        bend = (to_y - y) / 2
-        data = path("M", x, y, "C", x, y + bend, to_x, to_y - bend, to_x, to_y)
+    def arrow(self, claim, to_x, to_y, about):
+        """Draws the arrow from the end of the instance whose outs are read: down to a read, or up and from the left."""
+        x, y = self.scale.x(self.all_courses[claim.writer, claim.row].end), self.rows[claim.writer] + BAR_AT
+        if y < to_y:
+            y, to_y = y + BAR + 3, to_y - 4
+            bend = (to_y - y) / 2
+            data = path("M", x, y, "C", x, y + bend, to_x, to_y - bend, to_x, to_y)
+        else:
+            y, reach = y - 3, min(60, (to_x - x) / 2)
+            data = path("M", x, y, "C", x, (y + to_y) / 2, to_x - reach, to_y + 4, to_x - min(4, reach), to_y + 2)
         mark = Mark.DELAYED if claim.delay else Mark.DIRECT
         self.used.add(mark)
         self.canvas.add(Layer.ARROWS, "path", d=data, cls="halo")
-        about = f"<title>{about}</title>"
-        self.canvas.add(Layer.ARROWS, "path", about, d=data, cls=mark.value, marker_end=f"url(#{mark.value}-head)")
+        self.canvas.add(Layer.ARROWS, "path", tip(about), d=data, cls=mark.value, marker_end=f"url(#{mark.value}-head)")
 
     def draw_overrun(self):
         """Marks the tick and the task of the overrun."""
