@@ -93,7 +93,7 @@ class SlotRows:
             self.canvas.box(Layer.BARS, seen_from, y, to_x - seen_from, LANE - 3, Mark.UNSEEN.value, about)
         fitting = next((text for text in words if text_width(text, SIZE) + 8 <= to_x - x), "")
         if fitting:
-            self.canvas.text(x + 5, y + 12, fitting, "on-held" if stay.use is Use.HELD else "label")
+            self.canvas.text(x + 5, y + 12, fitting, "label")
 
 
 def draw_slots(simulated, name, window_asked, task_name):

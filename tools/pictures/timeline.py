@@ -49,8 +49,9 @@ class Timeline:
 
     def label_width(self):
         """Returns the width of the column with the names of the tasks."""
-        names = [text_width(self.document.tasks[at].name, 13) * 1.15 for at in self.tasks]
-        lines = [text_width(line, 11) for at in self.tasks for line in about_task(self.document, self.document.tasks[at])]
+        tasks = [self.document.tasks[at] for at in self.tasks]
+        names = [text_width(task.name, 13) * 1.15 for task in tasks]
+        lines = [text_width(line, 11) for task in tasks for line in about_task(self.document, task)]
         return max([60, *names, *lines])
 
     def read_labels(self):
@@ -203,7 +204,8 @@ class Timeline:
         self.canvas.line(Layer.MARKS, x, TOP - 6, x, self.bottom, "overrun")
         for task, y in self.rows.items():
             if self.document.tasks[task].name == overrun.task:
-                draw_flag(self.canvas, Mark.RELEASE, x, y + BAR_AT + BAR, f"{overrun.task} {overrun.number} is released")
+                about = f"release of {overrun.task} {overrun.number}: {overrun.time}"
+                draw_flag(self.canvas, Mark.RELEASE, x, y + BAR_AT + BAR, about)
                 self.canvas.text(x + 8, y + BAR_AT + 14, overrun.line(), "loud")
 
     def right_margin(self):
