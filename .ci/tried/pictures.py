@@ -15,16 +15,16 @@ TOP = Path(__file__).resolve().parent.parent.parent
 WANTED = Path(__file__).resolve().parent / "pictures"
 sys.path.insert(0, str(TOP / "tools"))
 
-from pictures import asking, diagram, dot, gallery, record, slot_rows, styles, svg, timeline  # noqa: E402
+from pictures import asking, commands, diagram, dot, gallery, record, slot_rows, styles, svg, timeline  # noqa: E402
 
 EXACT = {
-    "modes.timeline.svg": ["timeline", "examples/modes.dbp"],
-    "speed_control.part.svg": ["timeline", "examples/speed_control.dbp", "--from", "78", "--to", "107"],
-    "logger.claims.svg": ["timeline", "examples/logger.dbp", "--claims", "doors"],
-    "logger.slots.svg": ["timeline", "examples/logger.dbp", "--slots", "monitor"],
-    "two_late.svg": ["timeline", "cases/sim/documents/two_late_at_one_time.dbp"],
-    "speed_control.diagram.svg": ["diagram", "examples/speed_control.dbp"],
-    "logger.dot": ["diagram", "examples/logger.dbp", "--dot"],
+    "modes.timeline.svg": (commands.timeline, "examples/modes.dbp"),
+    "speed_control.part.svg": (commands.timeline, "examples/speed_control.dbp", "--from", "78", "--to", "107"),
+    "logger.claims.svg": (commands.timeline, "examples/logger.dbp", "--claims", "doors"),
+    "logger.slots.svg": (commands.timeline, "examples/logger.dbp", "--slots", "monitor"),
+    "two_late.svg": (commands.timeline, "cases/sim/documents/two_late_at_one_time.dbp"),
+    "speed_control.diagram.svg": (commands.diagram, "examples/speed_control.dbp"),
+    "logger.dot": (commands.diagram, "examples/logger.dbp", "--dot"),
 }
 
 STATUSES = {
@@ -70,12 +70,12 @@ def difference(found, wanted):
     return None if found == wanted else f"it has {len(lines)} lines, and {len(others)} are wanted"
 
 
-def exact_fault(program, file, words):
-    """Returns how the text of a call differs from the one that is wanted."""
-    ran = run_tool(program, words)
-    if ran.returncode != 0:
-        return f"the status is {ran.returncode}: {ran.stderr[:200]!r}"
-    return difference(ran.stdout, (WANTED / file).read_bytes())
+def exact_fault(program, file, tool, document, *words):
+    """Returns how the picture of a call differs from the one that is wanted."""
+    with tempfile.TemporaryDirectory() as room:
+        out = Path(room) / file
+        status = tool([str(TOP / document), *words, "-o", str(out), "--program", str(program)])
+        return f"the status is {status}" if status else difference(out.read_bytes(), (WANTED / file).read_bytes())
 
 
 def status_fault(program, status, words, said):
@@ -86,19 +86,35 @@ def status_fault(program, status, words, said):
     return None
 
 
+def tampering(program, room, edit, status):
+    """Returns a program that gives the lines of `sim --record` through sed, and ends with a status then."""
+    between = Path(room) / "program"
+    between.write_text(
+        "#!/bin/sh\n"
+        f"""case "$*" in "sim --record") '{program}' "$@" | sed '{edit}'; exit {status};; esac\n"""
+        f"""exec '{program}' "$@"\n"""
+    )
+    between.chmod(0o755)
+    return between
+
+
 def tampered_fault(program, edit, status, tick):
     """Returns how a record that isn't the program's is taken."""
     with tempfile.TemporaryDirectory() as room:
-        between = Path(room) / "program"
-        between.write_text(
-            "#!/bin/sh\n"
-            f"""case "$*" in "sim --record") '{program}' "$@" | sed '{edit}'; exit {status};; esac\n"""
-            f"""exec '{program}' "$@"\n"""
-        )
-        between.chmod(0o755)
-        ran = run_tool(between, ["timeline", "examples/preempted.dbp"])
-    said = f"differ at tick {tick}:".encode()
-    return None if (ran.returncode, ran.stdout) == (1, b"") and said in ran.stderr else f"it said {ran.stderr!r}"
+        try:
+            asking.simulated(tampering(program, room, edit, status), (TOP / "examples" / "preempted.dbp").read_bytes())
+        except record.Disagreement as differing:
+            return None if differing.tick == tick else f"the tick is {differing.tick}, and {tick} is wanted"
+    return "it was taken"
+
+
+def refused_record_fault(program):
+    """Returns how a call ends whose record isn't the program's."""
+    with tempfile.TemporaryDirectory() as room:
+        ran = run_tool(tampering(program, room, "33d", 0), ["timeline", "examples/preempted.dbp"])
+    said = b"timeline: preempted.dbp: the record and the computed order differ at tick 4: step 33 is `end control`"
+    is_right = ran.returncode == 1 and not ran.stdout and ran.stderr.startswith(said)
+    return None if is_right else f"the status is {ran.returncode}, and it said {ran.stderr!r}"
 
 
 def picture_fault(program, picture):
@@ -168,11 +184,12 @@ def documents():
 def trials(program):
     """Yields the trials: a name, and a call that returns what differs, or nothing."""
     for file, words in EXACT.items():
-        yield f"exact {file}", lambda it=(file, words): exact_fault(program, *it)
+        yield f"exact {file}", lambda it=(file, *words): exact_fault(program, *it)
     for name, wanted in STATUSES.items():
         yield f"status of {name}", lambda it=wanted: status_fault(program, *it)
     for name, wanted in TAMPERED.items():
         yield f"a record with {name}", lambda it=wanted: tampered_fault(program, *it)
+    yield "status of a record that differs", lambda: refused_record_fault(program)
     for picture in gallery.PICTURES:
         yield f"docs/pictures/{picture.file}", lambda it=picture: picture_fault(program, it)
     for file in documents():

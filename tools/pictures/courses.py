@@ -9,23 +9,28 @@ from pictures.service import Begin, End, Instance, Reading, Release
 
 @dataclass
 class Course:
-    """What happened to an instance. `due` is its deadline, or without one the next release of its task."""
+    """What happened to an instance. `due` is its deadline, or without one the next release of its task.
+
+    `cut` is the time of the overrun, if that came before its end.
+    """
 
     instance: Instance
     due: Optional[int] = None
     begin: Optional[int] = None
     end: Optional[int] = None
+    cut: Optional[int] = None
     spans: List[Tuple[int, int]] = field(default_factory=list)
     reads: List[Tuple[int, int]] = field(default_factory=list)
 
     @property
     def last(self):
         """Returns the last time of which it has something to show."""
-        return max(self.instance.release, self.end or 0, *(stop for _, stop in self.spans))
+        return max(self.instance.release, self.end or 0, self.cut or 0)
 
     def gaps(self):
-        """Returns the times between its spans: there it was preempted."""
-        return [(before[1], after[0]) for before, after in zip(self.spans, self.spans[1:])]
+        """Returns the times between its spans, and after the last one if it was cut: there it was preempted."""
+        gaps = [(before[1], after[0]) for before, after in zip(self.spans, self.spans[1:])]
+        return gaps + [(self.spans[-1][1], self.cut)] * (self.cut is not None and self.spans != [])
 
 
 @dataclass(frozen=True)
@@ -74,6 +79,8 @@ def courses_of(simulated):
         if span.start < limit:
             course = courses[span.instance.task, span.instance.number]
             course.spans.append((span.start, min(span.stop, limit)))
+    for course in courses.values():
+        course.cut = limit if course.end is None else None
     return courses
 
 

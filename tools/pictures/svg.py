@@ -4,8 +4,8 @@ from enum import IntEnum
 from xml.sax.saxutils import escape, quoteattr
 
 FONT = "Verdana, 'DejaVu Sans', Arial, sans-serif"
-NARROW = {letter: width for letters, width in (("ijlI.,:;'|!", 0.36), (" ()[]ft-r/\"", 0.46)) for letter in letters}
-WIDE = {letter: 1.0 for letter in "mwMW%@#+=<>~"}
+LETTERS = {"ijlI.,:;'|!": 0.36, " ()[]ft-r/\"": 0.46, "ABCDEFGHJKLNOPQRSTUVXYZ": 0.75, "mwMW%@#+=<>~": 1.0}
+WIDTHS = {letter: width for letters, width in LETTERS.items() for letter in letters}  # of a font of size 1
 
 
 class Layer(IntEnum):
@@ -20,8 +20,7 @@ class Layer(IntEnum):
 
 def text_width(text, size):
     """Returns the width of a text in a font of this size, rather too much than too little."""
-    table = {**NARROW, **WIDE}
-    return size * sum(table.get(letter, 0.75 if letter.isupper() else 0.65) for letter in text)
+    return size * sum(WIDTHS.get(letter, 0.65) for letter in text)
 
 
 def number(value):

@@ -103,12 +103,10 @@ class Timeline:
         """Draws how an instance waits, is served, is preempted, and ends."""
         y = self.rows[course.instance.task] + BAR_AT
         title = self.title_of(course)
-        waits_until = self.window.stop if course.begin is None else course.begin
+        waits_until = course.cut if course.begin is None else course.begin
         self.stretch(course.instance.release, waits_until, y + BAR - 8, 8, Mark.WAITING, f"{title} waits")
         for start, stop in course.gaps():
             self.stretch(start, stop, y + BAR - 8, 8, Mark.PREEMPTED, f"{title} is preempted")
-        if course.end is None and course.spans:
-            self.stretch(course.last, self.window.stop, y + BAR - 8, 8, Mark.PREEMPTED, f"{title} is preempted")
         for start, stop in course.spans:
             about = f"{title} is served from {start} to {stop}"
             width = self.stretch(start, stop, y, BAR, Mark.SERVED, about)
