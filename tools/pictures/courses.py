@@ -29,8 +29,8 @@ class Course:
 
     def gaps(self):
         """Returns the times between its spans, and after the last one if it was cut: there it was preempted."""
-        gaps = [(before[1], after[0]) for before, after in zip(self.spans, self.spans[1:])]
-        return gaps + [(self.spans[-1][1], self.cut)] * (self.cut is not None and self.spans != [])
+        spans = self.spans if self.cut is None else [*self.spans, (self.cut, self.cut)]
+        return [(before[1], after[0]) for before, after in zip(spans, spans[1:])]
 
 
 @dataclass(frozen=True)
