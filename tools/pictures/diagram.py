@@ -1,6 +1,6 @@
 """The drawing of a diagram: a box for each task, with its reads on the left and its outs on the right."""
 
-from canonical import Every
+from canonical import On
 from pictures.layers import Edge, Layout
 from pictures.legend import Entry, draw_legend, legend_height
 from pictures.marks import Mark, arrow_sample
@@ -47,6 +47,11 @@ def port_at(number):
     return HEAD + PORT * number + PORT / 2 + 2
 
 
+def head_sample(canvas, x, y):
+    """Draws the sample of the head of a task on an event."""
+    canvas.box(Layer.MARKS, x, y - 7, 26, 14, "event-head")
+
+
 def edges_of(document):
     """Returns an edge for each read."""
     names = [task.name for task in document.tasks]
@@ -74,7 +79,7 @@ class Diagram:
     def place_layers(self):
         """Finds the left side and the width of each layer: between two is room for the pieces that go there."""
         x = MARGIN
-        for number, layer in enumerate(self.layout.layers):
+        for number in range(len(self.layout.layers)):
             nodes = [box.width for box, node in zip(self.boxes, self.layout.nodes) if node.layer == number]
             x += self.room_before(number)
             self.lefts.append(x)
@@ -131,9 +136,9 @@ class Diagram:
 
     def draw_box(self, box, x, y, width):
         """Draws the box of a task."""
-        is_timed = isinstance(box.task.clock, Every)
+        head = "event-head" if isinstance(box.task.clock, On) else "head"
         self.canvas.box(Layer.BARS, x, y, width, box.height, "box")
-        self.canvas.box(Layer.BARS, x, y, width, HEAD, "head" if is_timed else "event-head")
+        self.canvas.box(Layer.BARS, x, y, width, HEAD, head)
         self.canvas.text(x + PAD, y + 19, box.task.name, "name")
         for number, line in enumerate(box.lines):
             self.canvas.text(x + PAD, y + 33 + 14 * number, line, "about")
@@ -155,21 +160,22 @@ class Diagram:
         else:
             self.canvas.text(x + 9, y + 4, words, "label" if kind == "in" else "sense-label")
 
+    def sense_sample(self, canvas, x, y):
+        """Draws the sample of a sense."""
+        self.draw_port(x + 5, y, "sense", "")
+
     def entries(self):
-        """Returns the entries of the legend."""
-        stems = {edge.stem[2] for edge in edges_of(self.document)}
-        tasks = self.document.tasks
-        entries = []
-        if False in stems:
-            entries.append(Entry(arrow_sample(Mark.DIRECT), 32, "link"))
-        if True in stems:
-            entries.append(Entry(arrow_sample(Mark.DELAYED), 32, "delayed link, with pre"))
-        if any(task.senses for task in tasks):
-            entries.append(Entry(lambda canvas, x, y: self.draw_port(x + 5, y, "sense", ""), 10, "sense of an input"))
-        if any(not isinstance(task.clock, Every) for task in tasks):
-            box = lambda canvas, x, y: canvas.box(Layer.MARKS, x, y - 7, 26, 14, "event-head")  # noqa: E731
-            entries.append(Entry(box, 26, "task on an event"))
-        return entries
+        """Returns the entries of the legend for what the diagram has."""
+        delays = {read.delay > 0 for task in self.document.tasks for read in task.reads}
+        has_senses = any(task.senses for task in self.document.tasks)
+        has_events = any(isinstance(task.clock, On) for task in self.document.tasks)
+        found = [
+            (False in delays, Entry(arrow_sample(Mark.DIRECT), 32, "link")),
+            (True in delays, Entry(arrow_sample(Mark.DELAYED), 32, "delayed link, with pre")),
+            (has_senses, Entry(self.sense_sample, 10, "sense of an input")),
+            (has_events, Entry(head_sample, 26, "task on an event")),
+        ]
+        return [entry for is_there, entry in found if is_there]
 
     def finish(self, name):
         """Returns the text of the picture."""
