@@ -24,8 +24,13 @@ class Course:
 
     @property
     def last(self):
-        """Returns the last time of which it has something to show."""
+        """Returns the time until which it waits or is served."""
         return max(self.instance.release, self.end or 0, self.cut or 0)
+
+    @property
+    def last_mark(self):
+        """Returns the last time at which something of it is drawn."""
+        return max(self.last, self.due or 0)
 
     def gaps(self):
         """Returns the times between its spans, and after the last one if it was cut: there it was preempted."""

@@ -2,7 +2,7 @@
 
 from pictures.courses import claims_of, courses_of
 from pictures.legend import draw_legend, legend_height
-from pictures.marks import WORDS, Mark, draw_flag, draw_read, entries_of
+from pictures.marks import Mark, draw_flag, draw_read, entries_of
 from pictures.service import rank_order
 from pictures.styles import DEFINITIONS, STYLES
 from pictures.svg import Canvas, Layer, path, text_width, tip
@@ -37,7 +37,7 @@ class Timeline:
         self.courses = [
             course
             for course in courses.values()
-            if course.instance.task in self.tasks and self.window.shows(course.instance.release, course.last)
+            if course.instance.task in self.tasks and self.window.shows(course.instance.release, course.last_mark)
         ]
         self.canvas = Canvas()
         self.used = set()
@@ -131,10 +131,11 @@ class Timeline:
     def draw_flags(self, course):
         """Draws the flags of an instance below the base line: its release, and when it is due."""
         base = self.rows[course.instance.task] + BAR_AT + BAR
-        due = Mark.DUE if course.instance.deadline is None else Mark.DEADLINE
+        title = self.title_of(course)
+        due, words = (Mark.DUE, "release after") if course.instance.deadline is None else (Mark.DEADLINE, "deadline of")
         flags = {
-            Mark.RELEASE: (course.instance.release, f"release of {self.title_of(course)}"),
-            due: (course.due, f"{WORDS[due]} of {self.title_of(course)}"),
+            Mark.RELEASE: (course.instance.release, f"release of {title}"),
+            due: (course.due, f"{words} {title}"),
         }
         for mark, (time, about) in flags.items():
             if time is not None and self.window.shows(time, time):
