@@ -53,6 +53,10 @@ TAMPERED = {
     "an overrun": ("$s/.*/overrun: control 2 at 3/;$!d", 3, 3),
 }
 
+RULES = "".join([*styles.STYLES, *styles.BOX_STYLES])
+SIZES = {name: int(size) for name, size in re.findall(r"\.([a-z-]+)\{font-size:(\d+)px", RULES)}
+ANCHORS = dict(re.findall(r"\.([a-z-]+)\{[^}]*text-anchor:(\w+)", RULES))
+
 
 def run_tool(program, words):
     """Runs a tool at the top of the repository, with this program unless the words name another."""
@@ -124,14 +128,11 @@ def picture_fault(program, picture):
 
 def text_boxes(picture):
     """Returns the place of each text of a picture: its left, top, right and bottom, and the text."""
-    rules = "".join([*styles.STYLES, *styles.BOX_STYLES])
-    sizes = {name: int(size) for name, size in re.findall(r"\.([a-z-]+)\{font-size:(\d+)px", rules)}
-    anchors = dict(re.findall(r"\.([a-z-]+)\{[^}]*text-anchor:(\w+)", rules))
     boxes = []
     for it in ElementTree.fromstring(picture).iter("{http://www.w3.org/2000/svg}text"):
-        size = sizes.get(it.get("class"), 12)
+        size = SIZES.get(it.get("class"), 12)
         width = svg.text_width(it.text or "", size) * 0.9
-        left = float(it.get("x")) - {"middle": width / 2, "end": width}.get(anchors.get(it.get("class")), 0)
+        left = float(it.get("x")) - {"middle": width / 2, "end": width}.get(ANCHORS.get(it.get("class")), 0)
         boxes.append((left, float(it.get("y")) - 0.7 * size, left + width, float(it.get("y")), it.text))
     return boxes
 
@@ -169,7 +170,7 @@ def drawn_fault(program, text):
         return f"the record and the computed order differ at {differing}"
     document = found.document
     pictures = [timeline.draw_timeline(found, "document", (None, None))[0], diagram.draw_diagram(document, "document")]
-    pictures += [slot_rows.draw_slots(found, "document", (None, None), task.name)[0] for task in document.tasks[:4]]
+    pictures += [slot_rows.draw_slots(found, "document", (None, None), task.name)[0] for task in document.tasks[:2]]
     dot.dot_text(document, "document")
     form, _ = asking.canonical_text(program, text)
     lines, overrun = asking.record_of(program, form)

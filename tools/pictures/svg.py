@@ -33,7 +33,7 @@ def number(value):
 def attribute(name, value):
     """Returns an attribute; `cls` stands for class, and `_` for `-`."""
     name = {"cls": "class"}.get(name, name.replace("_", "-"))
-    return f"{name}={quoteattr(value if isinstance(value, str) else number(value))}"
+    return f"{name}={quoteattr(value)}" if isinstance(value, str) else f'{name}="{number(value)}"'
 
 
 def element(kind, content="", **attributes):
