@@ -1,0 +1,197 @@
+"""tools/timeline and tools/diagram on the examples and on cases of simulations, and the pictures of docs/.
+
+.ci/tried/pictures/ has the texts that are wanted of some calls. Of every document that the program accepts, the order
+that the tools compute is compared with the record, and what they draw must be well-formed, without texts that overlap.
+"""
+
+import re
+import subprocess
+import sys
+import tempfile
+from pathlib import Path
+from xml.etree import ElementTree
+
+TOP = Path(__file__).resolve().parent.parent.parent
+WANTED = Path(__file__).resolve().parent / "pictures"
+sys.path.insert(0, str(TOP / "tools"))
+
+from pictures import asking, commands, diagram, dot, gallery, record, slot_rows, styles, svg, timeline  # noqa: E402
+
+EXACT = {
+    "modes.timeline.svg": (commands.timeline, "examples/modes.dbp"),
+    "speed_control.part.svg": (commands.timeline, "examples/speed_control.dbp", "--from", "78", "--to", "107"),
+    "logger.claims.svg": (commands.timeline, "examples/logger.dbp", "--claims", "doors"),
+    "logger.slots.svg": (commands.timeline, "examples/logger.dbp", "--slots", "monitor"),
+    "two_late.svg": (commands.timeline, "cases/sim/documents/two_late_at_one_time.dbp"),
+    "speed_control.diagram.svg": (commands.diagram, "examples/speed_control.dbp"),
+    "logger.dot": (commands.diagram, "examples/logger.dbp", "--dot"),
+}
+
+STATUSES = {
+    "a document that overruns": (0, ["timeline", "examples/sim/late.dbp"], b""),
+    "a refused document": (1, ["timeline", "examples/refused/10_duplicate.dbp"], b"10 Duplicate"),
+    "a refused document's diagram": (1, ["diagram", "examples/refused/18_undelayed_upward.dbp"], b"18 UndelayedUpward"),
+    "no document": (2, ["timeline"], b"usage"),
+    "another word": (2, ["diagram", "examples/logger.dbp", "--slots", "monitor"], b"usage"),
+    "ticks in the wrong order": (2, ["timeline", "examples/logger.dbp", "--from", "5", "--to", "5"], b"--to"),
+    "a tick below 0": (2, ["timeline", "examples/logger.dbp", "--from=-1"], b"-1 is no tick"),
+    "slots of no task": (2, ["timeline", "examples/logger.dbp", "--slots", "nobody"], b"no task nobody"),
+    "no such file": (4, ["timeline", "examples/none.dbp"], b"none.dbp"),
+    "a picture that can't be written": (5, ["diagram", "examples/logger.dbp", "-o", "examples/none/x.svg"], b"none"),
+    "no such program": (70, ["diagram", "examples/logger.dbp", "--program", "examples/none"], b"none"),
+}
+
+# What a program in between does to the lines of `sim --record` of examples/preempted.dbp, its exit status, and the
+# tick that must be named. Step 17 is the last one of tick 1, and the steps 18 to 27 are those of tick 2.
+TAMPERED = {
+    "another slot": ("19s/1/0/", 0, 2),
+    "two steps exchanged": ("16{h;d};17{G}", 0, 1),
+    "no end": ("33d", 0, 4),
+    "another task begins": ("21s/sensor/control/", 0, 2),
+    "it ends early": ("43d", 0, 5),
+    "it goes on": ("$p", 0, 5),
+    "an overrun": ("$s/.*/overrun: control 2 at 3/;$!d", 3, 3),
+}
+
+RULES = "".join([*styles.STYLES, *styles.BOX_STYLES])
+SIZES = {name: int(size) for name, size in re.findall(r"\.([a-z-]+)\{font-size:(\d+)px", RULES)}
+ANCHORS = dict(re.findall(r"\.([a-z-]+)\{[^}]*text-anchor:(\w+)", RULES))
+
+
+def run_tool(program, words):
+    """Runs a tool at the top of the repository, with this program unless the words name another."""
+    named = [] if "--program" in words else ["--program", str(program)]
+    tool = [sys.executable, "-B", f"tools/{words[0]}"]
+    return subprocess.run([*tool, *words[1:], *named], cwd=TOP, capture_output=True, timeout=60, check=False)
+
+
+def difference(found, wanted):
+    """Returns the first line that differs, or nothing."""
+    lines, others = found.splitlines(), wanted.splitlines()
+    for number, (line, other) in enumerate(zip(lines, others), 1):
+        if line != other:
+            return f"line {number} is {line[:200]!r}, and {other[:200]!r} is wanted"
+    return None if found == wanted else f"it has {len(lines)} lines, and {len(others)} are wanted"
+
+
+def exact_fault(program, file, tool, document, *words):
+    """Returns how the picture of a call differs from the one that is wanted."""
+    with tempfile.TemporaryDirectory() as room:
+        out = Path(room) / file
+        status = tool([str(TOP / document), *words, "-o", str(out), "--program", str(program)])
+        return f"the status is {status}" if status else difference(out.read_bytes(), (WANTED / file).read_bytes())
+
+
+def status_fault(program, status, words, said):
+    """Returns how the status of a call, or what it says on standard error, differs."""
+    ran = run_tool(program, words)
+    if ran.returncode != status or said not in ran.stderr or (status and ran.stdout):
+        return f"the status is {ran.returncode}, and {status} is wanted; it said {ran.stderr[-200:]!r}"
+    return None
+
+
+def tampering(program, room, edit, status):
+    """Returns a program that gives the lines of `sim --record` through sed, and ends with a status then."""
+    between = Path(room) / "program"
+    between.write_text(
+        "#!/bin/sh\n"
+        f"""case "$*" in "sim --record") '{program}' "$@" | sed '{edit}'; exit {status};; esac\n"""
+        f"""exec '{program}' "$@"\n"""
+    )
+    between.chmod(0o755)
+    return between
+
+
+def tampered_fault(program, edit, status, tick):
+    """Returns how a record that isn't the program's is taken."""
+    with tempfile.TemporaryDirectory() as room:
+        try:
+            asking.simulated(tampering(program, room, edit, status), (TOP / "examples" / "preempted.dbp").read_bytes())
+        except record.Disagreement as differing:
+            return None if differing.tick == tick else f"the tick is {differing.tick}, and {tick} is wanted"
+    return "it was taken"
+
+
+def refused_record_fault(program):
+    """Returns how a call ends whose record isn't the program's."""
+    with tempfile.TemporaryDirectory() as room:
+        ran = run_tool(tampering(program, room, "33d", 0), ["timeline", "examples/preempted.dbp"])
+    said = b"timeline: preempted.dbp: the record and the computed order differ at tick 4: step 33 is `end control`"
+    is_right = ran.returncode == 1 and not ran.stdout and ran.stderr.startswith(said)
+    return None if is_right else f"the status is {ran.returncode}, and it said {ran.stderr!r}"
+
+
+def picture_fault(program, picture):
+    """Returns how a picture of docs/ differs from one that is drawn anew."""
+    return difference(picture.draw(program), (gallery.FOLDER / picture.file).read_bytes())
+
+
+def text_boxes(picture):
+    """Returns the place of each text of a picture: its left, top, right and bottom, and the text."""
+    boxes = []
+    for it in ElementTree.fromstring(picture).iter("{http://www.w3.org/2000/svg}text"):
+        size = SIZES.get(it.get("class"), 12)
+        width = svg.text_width(it.text or "", size) * 0.9
+        left = float(it.get("x")) - {"middle": width / 2, "end": width}.get(ANCHORS.get(it.get("class")), 0)
+        boxes.append((left, float(it.get("y")) - 0.7 * size, left + width, float(it.get("y")), it.text))
+    return boxes
+
+
+def overlap(picture):
+    """Returns two texts of a picture that overlap, or nothing. An error comes if the picture isn't well-formed."""
+    boxes = sorted(text_boxes(picture), key=lambda box: box[:2])
+    for number, (_, top, right, bottom, text) in enumerate(boxes):
+        for other in boxes[number + 1 :]:
+            if other[0] >= right:
+                break
+            if other[1] < bottom and top < other[3]:
+                return f"{text!r} and {other[4]!r} overlap"
+    return None
+
+
+def heard_fault(program, form, lines):
+    """Returns how the computed orders differ from what tasks hear when the program replays the record."""
+    document = asking.read_document(form)
+    steps = record.steps_of(document, asking.serve(document).events)
+    wanted = [f"{it.line} -> slot {it.order.slot} number {it.order.row}" for it in steps if it.line.startswith("hear ")]
+    kept = form.decode().split("\n")[: -2 - (0 if document.script is None else 1 + len(document.script))]
+    script = "\n".join([*kept, "script", *lines, "done", ""]).encode()
+    heard = asking.answer(program, ["replay", "--ranked"], script).decode().splitlines()
+    return difference("\n".join(it for it in heard if it.startswith("hear ")), "\n".join(wanted))
+
+
+def drawn_fault(program, text):
+    """Returns what is wrong with the pictures of a document, if the program accepts it."""
+    try:
+        found = asking.simulated(program, text)
+    except asking.Refused:
+        return None
+    except record.Disagreement as differing:
+        return f"the record and the computed order differ at {differing}"
+    document = found.document
+    pictures = [timeline.draw_timeline(found, "document", (None, None))[0], diagram.draw_diagram(document, "document")]
+    pictures += [slot_rows.draw_slots(found, "document", (None, None), task.name)[0] for task in document.tasks[:2]]
+    dot.dot_text(document, "document")
+    form, _ = asking.canonical_text(program, text)
+    lines, overrun = asking.record_of(program, form)
+    return next(filter(None, map(overlap, pictures)), None) or (None if overrun else heard_fault(program, form, lines))
+
+
+def documents():
+    """Returns the documents whose pictures are tried."""
+    return sorted([*(TOP / "examples").rglob("*.dbp"), *(TOP / "cases" / "sim").rglob("*.dbp")])
+
+
+def trials(program):
+    """Yields the trials: a name, and a call that returns what differs, or nothing."""
+    for file, words in EXACT.items():
+        yield f"exact {file}", lambda it=(file, *words): exact_fault(program, *it)
+    for name, wanted in STATUSES.items():
+        yield f"status of {name}", lambda it=wanted: status_fault(program, *it)
+    for name, wanted in TAMPERED.items():
+        yield f"a record with {name}", lambda it=wanted: tampered_fault(program, *it)
+    yield "status of a record that differs", lambda: refused_record_fault(program)
+    for picture in gallery.PICTURES:
+        yield f"docs/pictures/{picture.file}", lambda it=picture: picture_fault(program, it)
+    for file in documents():
+        yield f"drawn {file.relative_to(TOP)}", lambda it=file: drawn_fault(program, it.read_bytes())

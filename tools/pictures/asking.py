@@ -1,0 +1,107 @@
+"""What the pictures ask the program for: a checked document, and the record of its simulation."""
+
+from dataclasses import dataclass
+from typing import List, Optional, Tuple
+
+from canonical import Document, read_document
+from pictures.record import Disagreement, Step, agreed_steps
+from pictures.service import Overrun, Service, serve
+from program import run_program
+
+OVERRUN = 3  # the exit status of a simulation that overruns
+
+
+class Refused(Exception):
+    """The program gave no text for a document: its line, and its exit status."""
+
+    def __init__(self, ran):
+        said = (ran.stdout or ran.stderr).decode(errors="replace").strip()
+        super().__init__(said or f"the program ended with status {ran.status}")
+        self.status = ran.status
+
+
+@dataclass(frozen=True)
+class Simulated:
+    """A document with its simulation: the service, the steps to be drawn, and the overrun if there is one.
+
+    If it overruns, service and steps are those of the releases before the overrun. `slots` has how many each task has.
+    """
+
+    document: Document
+    slots: Tuple[int, ...]
+    service: Service
+    steps: List[Step]
+    overrun: Optional[Overrun]
+
+
+def answer(program, words, text):
+    """Returns what the program prints for a document, if its status is 0."""
+    ran = run_program(program, words, text)
+    if ran.status != 0:
+        raise Refused(ran)
+    return ran.stdout
+
+
+def canonical_text(program, text):
+    """Returns the canonical text of a document that the program accepts as a whole, and the lines of its plan."""
+    plan = answer(program, ["plan"], text).decode().splitlines()
+    return answer(program, ["form"], text), plan
+
+
+def checked_document(program, text):
+    """Returns a document that the program accepts as a whole."""
+    return read_document(canonical_text(program, text)[0])
+
+
+def overrun_of(line):
+    """Returns the overrun that a line of `dbp sim` tells."""
+    _, task, number, _, time = line.split()
+    return Overrun(task, int(number), int(time))
+
+
+def record_of(program, text):
+    """Returns the lines of the record, or the overrun that the program prints instead."""
+    ran = run_program(program, ["sim", "--record"], text)
+    if ran.status == OVERRUN:
+        return [], overrun_of(ran.stdout.decode())
+    if ran.status != 0:
+        raise Refused(ran)
+    return ran.stdout.decode().splitlines(), None
+
+
+def cut_text(form, tick):
+    """Returns a canonical text without the releases from a tick on."""
+    document = read_document(form)
+    lines = form.decode().split("\n")
+    lines[2] = f"until {tick}"
+    if document.trace:
+        first = len(lines) - 2 - len(document.trace.lines)
+        if document.script is not None:
+            first -= 1 + len(document.script)
+        late = [at for at, row in enumerate(document.trace.rows, first + 1) if row.time >= tick]
+        lines = [line for at, line in enumerate(lines) if at not in set(late)]
+    return "\n".join(lines).encode()
+
+
+def must_agree(computed, told):
+    """Compares the overrun that was computed with the one that the program tells; both may be none."""
+    if computed != told:
+        tick = min(it.time for it in (computed, told) if it)
+        lines = [it.line() if it else "no overrun" for it in (computed, told)]
+        raise Disagreement(tick, f"computed is `{lines[0]}`, and the program says `{lines[1]}`")
+
+
+def simulated(program, text):
+    """Returns the simulation of a document, in which the program's record and the computed order agree."""
+    form, plan = canonical_text(program, text)
+    slots = tuple(int(line.split(",")[4]) for line in plan)
+    document = read_document(form)
+    lines, overrun = record_of(program, form)
+    service = serve(document)
+    must_agree(service.overrun, overrun)
+    if overrun:
+        form = cut_text(form, overrun.time)
+        document = read_document(form)
+        service = serve(document)
+        lines, _ = record_of(program, form)
+    return Simulated(document, slots, service, agreed_steps(document, service, lines), overrun)

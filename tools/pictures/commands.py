@@ -1,0 +1,136 @@
+"""The command lines of tools/timeline and tools/diagram."""
+
+import argparse
+import sys
+from pathlib import Path
+
+from pictures.asking import Refused, checked_document, simulated
+from pictures.diagram import draw_diagram
+from pictures.dot import dot_text
+from pictures.record import Disagreement
+from pictures.slot_rows import draw_slots
+from pictures.timeline import draw_timeline
+from program import CannotRun, add_program_option
+
+DIFFERS, USAGE, CANNOT_READ, CANNOT_WRITE, CANNOT_RUN = 1, 2, 4, 5, 70  # exit statuses
+
+
+class NoTask(Exception):
+    """A word of a command names no task of the document."""
+
+
+def say(tool, text):
+    """Writes a line on standard error."""
+    print(f"{tool}: {text}", file=sys.stderr)
+
+
+def add_file_options(parser):
+    """Adds the document and the picture to the words of a command."""
+    parser.add_argument("file", metavar="FILE", help="the document, or - for standard input")
+    parser.add_argument("-o", dest="out", metavar="OUT", help="the file of the picture (standard output)")
+    add_program_option(parser)
+
+
+def read_file(name):
+    """Returns the bytes of a document."""
+    return sys.stdin.buffer.read() if name == "-" else Path(name).read_bytes()
+
+
+def write_picture(text, name):
+    """Writes a picture to a file or to standard output."""
+    if name:
+        Path(name).write_bytes(text.encode())
+    else:
+        sys.stdout.buffer.write(text.encode())
+        sys.stdout.buffer.flush()
+
+
+def tick(word):
+    """Returns the tick that a word of a command names."""
+    if not (word.isascii() and word.isdigit()):
+        raise argparse.ArgumentTypeError(f"{word} is no tick")
+    return int(word)
+
+
+def must_name_tasks(document, names):
+    """Refuses a name that isn't one of the document's tasks."""
+    for name in names:
+        if name is not None and name not in {task.name for task in document.tasks}:
+            raise NoTask(f"it has no task {name}")
+
+
+def shown_name(name):
+    """Returns the name of a document as pictures show it."""
+    last = "document" if name == "-" else Path(name).name
+    return "".join(letter if letter.isprintable() else "?" for letter in last)
+
+
+def run(tool, options, draw):
+    """Draws the picture of a document and returns the exit status; what goes wrong is said on standard error."""
+    try:
+        text = read_file(options.file)
+    except OSError as error:
+        say(tool, f"{options.file}: {error.strerror}")
+        return CANNOT_READ
+    name = shown_name(options.file)
+    try:
+        picture = draw(text, name)
+    except Refused as refused:
+        say(tool, f"{name}: {refused}")
+        return refused.status
+    except Disagreement as differing:
+        say(tool, f"{name}: the record and the computed order differ at {differing}")
+        return DIFFERS
+    except NoTask as error:
+        say(tool, f"{name}: {error}")
+        return USAGE
+    except CannotRun as error:
+        say(tool, error)
+        return CANNOT_RUN
+    try:
+        write_picture(picture, options.out)
+    except OSError as error:
+        say(tool, f"{options.out or 'standard output'}: {error.strerror}")
+        return CANNOT_WRITE
+    return 0
+
+
+def timeline(words):
+    """Draws a timeline, and returns the exit status."""
+    parser = argparse.ArgumentParser("timeline", description="Draws the simulation of a document as SVG.")
+    add_file_options(parser)
+    parser.add_argument("--from", dest="start", type=tick, metavar="T", help="the first tick that is shown (0)")
+    parser.add_argument("--to", dest="stop", type=tick, metavar="T", help="the last tick that is shown")
+    parser.add_argument("--claims", metavar="TASK", help="draw the claims of this task and on its outs alone")
+    parser.add_argument("--slots", metavar="TASK", help="draw this task, its readers, and its slots over time")
+    options = parser.parse_args(words)
+    asked = (options.start, options.stop)
+    if options.stop is not None and (options.start or 0) >= options.stop:
+        parser.error("--to must be after --from")
+
+    def draw(text, name):
+        found = simulated(options.program, text)
+        must_name_tasks(found.document, (options.claims, options.slots))
+        if options.slots:
+            picture, window = draw_slots(found, name, asked, options.slots)
+        else:
+            picture, window = draw_timeline(found, name, asked, options.claims)
+        if window.is_cut:
+            say("timeline", f"{name}: drawn are ticks {window.start} to {window.stop}; --from and --to choose others")
+        return picture
+
+    return run("timeline", options, draw)
+
+
+def diagram(words):
+    """Draws a diagram, and returns the exit status."""
+    parser = argparse.ArgumentParser("diagram", description="Draws the tasks of a document and their links as SVG.")
+    add_file_options(parser)
+    parser.add_argument("--dot", action="store_true", help="write text for Graphviz's dot in place of SVG")
+    options = parser.parse_args(words)
+
+    def draw(text, name):
+        document = checked_document(options.program, text)
+        return dot_text(document, name) if options.dot else draw_diagram(document, name)
+
+    return run("diagram", options, draw)

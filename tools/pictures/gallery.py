@@ -1,0 +1,64 @@
+"""The pictures of README.md and docs/, each with the document that it is drawn from."""
+
+from dataclasses import dataclass
+from enum import Enum
+from pathlib import Path
+from typing import Optional, Tuple
+
+from pictures.asking import checked_document, simulated
+from pictures.diagram import draw_diagram
+from pictures.slot_rows import draw_slots
+from pictures.timeline import draw_timeline
+
+TOP = Path(__file__).resolve().parent.parent.parent
+FOLDER = TOP / "docs" / "pictures"
+
+
+class Kind(Enum):
+    """What is drawn of a document."""
+
+    DIAGRAM = "diagram"
+    TIMELINE = "timeline"
+    SLOTS = "slots"
+
+
+@dataclass(frozen=True)
+class Picture:
+    """A picture: its document, what is drawn, the ticks that are shown, and the task whose slots are."""
+
+    document: str
+    kind: Kind
+    ticks: Tuple[Optional[int], Optional[int]] = (None, None)
+    task: str = ""
+
+    @property
+    def file(self):
+        """Returns the name of its file."""
+        return f"{Path(self.document).stem}_{self.kind.value}.svg"
+
+    def draw(self, program):
+        """Returns its bytes, drawn anew."""
+        text = (TOP / self.document).read_bytes()
+        name = Path(self.document).name
+        if self.kind is Kind.DIAGRAM:
+            return draw_diagram(checked_document(program, text), name).encode()
+        found = simulated(program, text)
+        if self.kind is Kind.SLOTS:
+            return draw_slots(found, name, self.ticks, self.task)[0].encode()
+        return draw_timeline(found, name, self.ticks)[0].encode()
+
+
+PICTURES = (
+    Picture("examples/preempted.dbp", Kind.DIAGRAM),
+    Picture("examples/preempted.dbp", Kind.TIMELINE),
+    Picture("examples/two_rates.dbp", Kind.DIAGRAM),
+    Picture("examples/two_rates.dbp", Kind.TIMELINE),
+    Picture("examples/cascade.dbp", Kind.DIAGRAM),
+    Picture("examples/cascade.dbp", Kind.TIMELINE),
+    Picture("examples/filter.dbp", Kind.DIAGRAM),
+    Picture("examples/logger.dbp", Kind.DIAGRAM),
+    Picture("examples/sim/late.dbp", Kind.TIMELINE),
+    Picture("examples/sim/mended.dbp", Kind.TIMELINE),
+    Picture("docs/pictures/served.dbp", Kind.TIMELINE),
+    Picture("docs/pictures/kept.dbp", Kind.SLOTS, (0, 12), "sensor"),
+)

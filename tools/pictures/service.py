@@ -1,0 +1,198 @@
+"""The order of service: which instance is served in which ticks, on one processor, by the policy of a document.
+
+The rules are those of "The order of service" in docs/PROTOCOL.md, taken from one event to the next.
+"""
+
+import heapq
+from dataclasses import dataclass
+from typing import Optional, Tuple
+
+from canonical import Every, Policy
+
+
+@dataclass(frozen=True)
+class Instance:
+    """An instance of a task, by the task's place in the document; its deadline is a time, under `edf` alone."""
+
+    task: int
+    number: int
+    release: int
+    deadline: Optional[int]
+
+
+@dataclass(frozen=True)
+class Release:
+    """The release of a batch."""
+
+    time: int
+    batch: Tuple[Instance, ...]
+
+
+@dataclass(frozen=True)
+class Begin:
+    """An instance is served for the first time."""
+
+    time: int
+    instance: Instance
+
+
+@dataclass(frozen=True)
+class Reading:
+    """A read of an instance is made, by the read's place among those of its task."""
+
+    time: int
+    instance: Instance
+    read: int
+
+
+@dataclass(frozen=True)
+class End:
+    """An instance ends."""
+
+    time: int
+    instance: Instance
+
+
+@dataclass(frozen=True)
+class Span:
+    """Ticks in a row in which one instance is served, the last one not among them."""
+
+    instance: Instance
+    start: int
+    stop: int
+
+
+@dataclass(frozen=True)
+class Overrun:
+    """The first release of an instance while something is left of the one before it."""
+
+    task: str
+    number: int
+    time: int
+
+    def line(self):
+        """Returns the line that `dbp sim` prints for it."""
+        return f"overrun: {self.task} {self.number} at {self.time}"
+
+
+@dataclass(frozen=True)
+class Service:
+    """What happens, in order, and who is served when: all of it, or up to the overrun."""
+
+    events: Tuple[object, ...]
+    spans: Tuple[Span, ...]
+    overrun: Optional[Overrun]
+
+    def of(self, kind):
+        """Returns the events of one kind."""
+        return [event for event in self.events if isinstance(event, kind)]
+
+
+def rank_order(document):
+    """Returns the places of the tasks in the order of their ranks, the highest first."""
+    is_fixed = document.policy is Policy.FIXED_PRIORITIES
+    tasks = document.tasks
+    return sorted(range(len(tasks)), key=lambda at: -tasks[at].prio if is_fixed else tasks[at].deadline)
+
+
+def release_times(document, task):
+    """Returns the times of a task's occurrences."""
+    if isinstance(task.clock, Every):
+        return range(task.clock.offset, document.until, task.clock.period)
+    return document.event_times(task.clock.event)
+
+
+def batches(document):
+    """Returns the time and the instances of each batch, in the order of time and of declaration."""
+    found = {}
+    is_fixed = document.policy is Policy.FIXED_PRIORITIES
+    for at, task in enumerate(document.tasks):
+        for number, time in enumerate(release_times(document, task), 1):
+            deadline = None if is_fixed else time + task.deadline
+            found.setdefault(time, []).append(Instance(at, number, time, deadline))
+    return sorted(found.items())
+
+
+class Job:
+    """An instance that was released and hasn't ended."""
+
+    def __init__(self, instance, task):
+        self.instance = instance
+        self.cost = task.cost
+        self.served = 0
+        self.due = sorted(range(len(task.reads)), key=lambda read: task.reads[read].at)
+        self.ticks = [task.reads[read].at for read in self.due]
+
+    def next_stop(self):
+        """Returns how many ticks it is served until its next read or its end."""
+        return (self.ticks[0] if self.ticks else self.cost) - self.served
+
+
+class Processor:
+    """The processor of a simulation: its time, the instances that wait, and what has happened."""
+
+    def __init__(self, document):
+        self.document = document
+        self.ranks = {task: rank for rank, task in enumerate(rank_order(document))}
+        self.now = 0
+        self.waiting = []
+        self.events = []
+        self.spans = []
+
+    def release(self, time, batch):
+        """Releases a batch, of whose tasks no instance waits."""
+        self.events.append(Release(time, tuple(batch)))
+        for it in batch:
+            key = (it.deadline or 0, self.ranks[it.task])
+            heapq.heappush(self.waiting, (key, Job(it, self.document.tasks[it.task])))
+
+    def serve_until(self, limit):
+        """Serves those that wait up to a time, or all to their ends if there is none."""
+        while self.waiting and (limit is None or self.now < limit):
+            job = self.waiting[0][1]
+            self.work(job)
+            stop = self.now + job.next_stop()
+            self.serve(job, stop if limit is None else min(stop, limit))
+            if job.served == job.cost:
+                heapq.heappop(self.waiting)
+                self.events.append(End(self.now, job.instance))
+        self.now = self.now if limit is None else limit
+
+    def work(self, job):
+        """Lets the served instance begin, if it hasn't, and make the reads that are due."""
+        if job.served == 0:
+            self.events.append(Begin(self.now, job.instance))
+        while job.ticks and job.ticks[0] == job.served:
+            job.ticks.pop(0)
+            self.events.append(Reading(self.now, job.instance, job.due.pop(0)))
+
+    def serve(self, job, stop):
+        """Serves an instance up to a time."""
+        start = self.now
+        if self.spans and self.spans[-1].instance is job.instance and self.spans[-1].stop == start:
+            start = self.spans.pop().start
+        self.spans.append(Span(job.instance, start, stop))
+        job.served += stop - self.now
+        self.now = stop
+
+    def late_of(self, batch):
+        """Returns the highest-ranked instance of a batch that is late, or nothing."""
+        unfinished = {job.instance.task for _, job in self.waiting}
+        late = [it for it in batch if it.task in unfinished]
+        return min(late, key=lambda it: self.ranks[it.task], default=None)
+
+
+def serve(document):
+    """Returns the service of a document."""
+    processor = Processor(document)
+    overrun = None
+    for time, batch in batches(document):
+        processor.serve_until(time)
+        late = processor.late_of(batch)
+        if late:
+            overrun = Overrun(document.tasks[late.task].name, late.number, time)
+            break
+        processor.release(time, batch)
+    else:
+        processor.serve_until(None)
+    return Service(tuple(processor.events), tuple(processor.spans), overrun)
