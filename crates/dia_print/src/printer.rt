@@ -94,8 +94,11 @@ impl Printer {
 
     fn push_gap(&mut self, token: &Token) -> Result<(), NoMemory>
         ensures { OnOk result (self.new
-            ≡ record { text = self.old.text
-            ++ gap self.old.edge token.now; edge = self.old.edge }) }
+            ≡ record {
+              text = self.old.text
+                  ++ gap self.old.edge token.now;
+              edge = self.old.edge;
+            }) }
     {
         if is_apart(self.edge, token) {
             self.push_text(b" ")?;

@@ -63,9 +63,7 @@ fn is_allowed_byte(byte: u8) -> bool
 fn bad_bytes(line: &[u8]) -> usize
     ensures { result ≡ length (filter (λ b. not (is_allowed b)) line.now) }
 {
-    line.iter()
-        .filter(|byte| !is_allowed_byte(**byte))
-        .count()
+    line.iter().filter(|byte| !is_allowed_byte(**byte)).count()
 }
 
 /// Whether a line may have each of these bytes.

@@ -1,14 +1,15 @@
 -- The links into a task: each once.
-use Rattle.std.proofs.Common.{◌≡◌, ◌≢◌, ℕ, zero, suc, ◌+◌, ◌<◌, ◌≤◌, inl, inr, Bool, true, false, cond, List, [], ◌∷◌, ◌++◌, length, refl, ap, ◌∙◌, sym, arith, add-one}
+use Rattle.std.proofs.Common.{◌≡◌, ◌≢◌, ℕ, zero, suc, ◌+◌, ◌<◌, ◌≤◌, inl, inr, Bool, true, false, cond, List, [], ◌∷◌, ◌++◌, length, get_or, refl, ap, ◌∙◌, sym, arith, add-one}
 use Rattle.std.specs.Prelude.{◌==◌, count_by, filter}
 use Rattle.std.specs.List.{range_with_len}
 use Rattle.std.proofs.lemmas.Bool.{cases_eq, eq-eqb, ne_eqb}
-use Rattle.std.proofs.lemmas.List.{map-id, append-nil}
-use Rattle.std.proofs.lemmas.List.FromFn.{filter_of_map_range_with_len_more, length-range_with_len}
+use Rattle.std.proofs.lemmas.List.{length-map, map-id, append-nil}
+use Rattle.std.proofs.lemmas.List.FromFn.{filter_of_map_range_with_len_more, get_or-map-range_with_len, length-range_with_len}
 use Rattle.std.proofs.lemmas.List.Sums.{length-filter, count_by-le-length}
 use Rattle.dbp_plan.specs.declared.diagram.Link.{Link}
 use Rattle.dbp_plan.specs.Lookups.{link_at}
-use Rattle.release_list.specs.Releases.{into_among}
+use Rattle.release_list.specs.declared.release.Release.{Release}
+use Rattle.release_list.specs.Releases.{claims_by_task, claims_into, into_among}
 use Rattle.dbp_plan.proofs.Counts.{count-append, count-cons}
 
 -- the numbers that pass, of one number more, and how many there are at most
@@ -62,3 +63,16 @@ once_into links task (suc n) link below =
       | inl same ↦ count_more links task n link ∙ rw (same, none_into links task n n (omega arith), eq-eqb n n refl) (omega arith)
       | inr apart ↦ count_more links task n link ∙ rw (ne_eqb link n apart, cond_same ((link_at links n).reader == task), once_into links task n link (omega arith)) (omega arith)
     ]
+
+-- the claims for each task stand at its index
+pub claims_at : (links : List Link) (n i : ℕ) (d : List Release) → i < n → get_or (claims_by_task links n) i d ≡ claims_into links i
+claims_at links n i d below = get_or-map-range_with_len (claims_into links) 0 n i i d below (omega arith)
+
+pub claims_size : (links : List Link) (n : ℕ) → length (claims_by_task links n) ≡ n
+claims_size links n = length-map (range_with_len 0 n) (claims_into links) ∙ length-range_with_len 0 n
+
+-- what stands at a task's index in the claims of so many tasks
+pub claims_found : (links : List Link) (claims : List (List Release)) (task : ℕ) (item found : List Release) → found ≡ item → item ≡ get_or claims task item → claims ≡ claims_by_task links (length claims) → task < length claims
+    → found ≡ claims_into links task
+claims_found links claims task item found same is known below =
+    same ∙ is ∙ ap (λ (l : List (List Release)). get_or l task item) known ∙ claims_at links (length claims) task item below

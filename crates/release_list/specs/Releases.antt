@@ -21,6 +21,10 @@ claims_into links task = map Claim (links_into links task)
 abbrev pub claims_of : List Link → List ℕ → List Release
 claims_of links tasks = flat_map (claims_into links) tasks
 
+-- the claims for an instance of each of so many tasks
+abbrev pub claims_by_task : List Link → ℕ → List (List Release)
+claims_by_task links tasks = map (claims_into links) (range_with_len 0 tasks)
+
 -- a batch: all aims, then all claims, then all gates
 abbrev pub releases_at : List Link → Batch → List Release
 releases_at links batch = map Aim batch.tasks ++ (claims_of links batch.tasks ++ map OpenGate batch.tasks)

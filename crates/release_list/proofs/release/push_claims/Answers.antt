@@ -6,8 +6,14 @@ use Rattle.release_list.specs.Releases.{claims_of}
 use Rattle.release_list.proofs.Room.{claims_few}
 use Rattle.release_list.proofs.release.push_claims.Goals as goal
 
-pub push_claims_into-requires : goal.push_claims_into-requires
-push_claims_into-requires c =
+pub push_claims_into-requires-clause-claims : goal.push_claims_into-requires-clause-claims
+push_claims_into-requires-clause-claims c = c.requires.claims
+
+pub push_claims_into-requires-clause-task : goal.push_claims_into-requires-clause-task
+push_claims_into-requires-clause-task c = c.requires.named c.loop-task.task-index 0 c.loop-task-test.true
+
+pub push_claims_into-requires-clause-room : goal.push_claims_into-requires-clause-room
+push_claims_into-requires-clause-room c =
     let links = c.args.links.now in
     let front = take c.loop-task.task-index c.args.tasks.now in
     let one : (length front + 1) * length links ≤ length c.args.tasks.now * length links = mul-le-mul_right (length links) (omega (arith, length-take-le c.loop-task.task-index c.args.tasks.now)) in

@@ -1,35 +1,19 @@
--- One link more.
-use Rattle.std.proofs.Common.{◌≡◌, ◌≢◌, ◌∙◌, ◌+◌, ◌++◌, ◌∷◌, [], List, ℕ, append_assoc, ap, sym, arith, length, length-append, map}
-use Rattle.std.proofs.lemmas.List.{length-map, map-append}
-use Rattle.dbp_plan.specs.declared.diagram.Link.{Link}
-use Rattle.dbp_plan.specs.Lookups.{link_at}
+-- The claims of the task are those at its index.
+use Rattle.std.proofs.Common.{◌≡◌, ◌++◌, List, OnOk, arith, ap, length, subst}
+use Rattle.std.proofs.lemmas.List.{length-map}
 use Rattle.release_list.specs.declared.release.Release.{Release}
-use Rattle.release_list.specs.Releases.{into_among}
+use Rattle.release_list.specs.Releases.{links_into}
 use Rattle.release_list.specs.declared.release.Release.TheVariants.{Claim}
-use Rattle.release_list.proofs.IntoLinks.{into_few, one_more, no_more}
-use Rattle.release_list.proofs.release.push_claims_into.Goals.{then-items-link+in_ok-push, else-items-link}
+use Rattle.release_list.proofs.IntoLinks.{claims_found, into_few}
 use Rattle.release_list.proofs.release.push_claims_into.Goals as goal
 
-pub push-requires : goal.push-requires
-push-requires c =
-    let into = into_among c.args.links.now c.args.task c.loop-link.link in
-    omega (arith, ap length c.loop-link.invariant, length-append c.args.list.now (map Claim into), length-map into Claim, into_few c.args.links.now c.args.task c.loop-link.link)
+pub extend_from_slice-requires : goal.extend_from_slice-requires
+extend_from_slice-requires c =
+    let found = claims_found c.args.links.now c.args.claims.now c.args.task c.index-claims-task.result c.items.result.now c.items.ensures.value c.index-claims-task.is c.requires.claims c.requires.task in
+    let into = links_into c.args.links.now c.args.task in
+    omega (arith, c.requires.room, ap length found, length-map into Claim, into_few c.args.links.now c.args.task (length c.args.links.now))
 
--- the link is into the task, or it isn't
-claimed : (links : List Link) (task n : ℕ) (old list : List Release) → list ≡ old ++ map Claim (into_among links task n) → (link_at links n).reader ≡ task → list ++ Claim n ∷ [] ≡ old ++ map Claim (into_among links task (n + 1))
-claimed links task n old list so_far is =
-    ap (λ l. l ++ Claim n ∷ []) so_far ∙ append_assoc old (map Claim (into_among links task n)) (Claim n ∷ [])
-    ∙ ap (λ l. old ++ l) (sym (map-append Claim (into_among links task n) (n ∷ [])))
-    ∙ ap (λ l. old ++ map Claim l) (sym (one_more links task n is))
-
-passed : (links : List Link) (task n : ℕ) (old list : List Release) → list ≡ old ++ map Claim (into_among links task n) → (link_at links n).reader ≢ task → list ≡ old ++ map Claim (into_among links task (n + 1))
-passed links task n old list so_far isnt = so_far ∙ ap (λ l. old ++ map Claim l) (sym (no_more links task n isnt))
-
-pub loop-link-preserved : goal.loop-link-preserved
-loop-link-preserved c =
-    elim c.if-items-link.branch [
-      | then-items-link+in_ok-push w ↦
-          w.list-is ∙ w.in_ok-push.ensures.ok ∙ claimed c.args.links.now c.args.task c.loop-link.link c.args.list.now c.loop-link.list c.loop-link.invariant (rw c.items.ensures.value at w.if-items-link.true)
-      | else-items-link w ↦
-          w.list-is ∙ passed c.args.links.now c.args.task c.loop-link.link c.args.list.now c.loop-link.list c.loop-link.invariant (rw c.items.ensures.value at w.if-items-link.false)
-    ]
+pub returns : goal.returns
+returns c =
+    let found = claims_found c.args.links.now c.args.claims.now c.args.task c.index-claims-task.result c.items.result.now c.items.ensures.value c.index-claims-task.is c.requires.claims c.requires.task in
+    subst (λ (l : List Release). OnOk c.extend_from_slice.result (c.extend_from_slice.new.self ≡ c.args.list.now ++ l)) found c.extend_from_slice.ensures.ok

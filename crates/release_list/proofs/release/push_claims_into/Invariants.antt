@@ -1,8 +1,0 @@
--- The links so far.
-use Rattle.std.proofs.Common.{◌≡◌, ◌++◌, map}
-use Rattle.release_list.specs.Releases.{into_among}
-use Rattle.release_list.specs.declared.release.Release.TheVariants.{Claim}
-use Rattle.release_list.proofs.release.push_claims_into.Given as goal
-
-abbrev pub invariant-loop-link : goal.invariant-loop-link
-invariant-loop-link l = l.list ≡ l.fn.list ++ map Claim (into_among l.links l.task l.link)
