@@ -1,17 +1,18 @@
 -- Steps of the two loops over the clocks.
-use Rattle.std.proofs.Common.{◌≡◌, ◌≢◌, ℕ, ◌+◌, ◌<◌, true, false, All, List, [], ◌∷◌, ◌++◌, length, get_or, set, arith, refl, ap, ◌∙◌, sym, inl, inr}
+use Rattle.std.proofs.Common.{◌≡◌, ◌≢◌, ℕ, ◌+◌, ◌<◌, true, false, All, List, [], ◌∷◌, ◌++◌, length, get_or, set, arith, refl, ap, ◌∙◌, sym, inl, inr, Option}
 use Rattle.std.specs.Prelude.{◌==◌, ◌||◌}
 use Rattle.std.specs.List.{list_any}
 use Rattle.std.specs.List.Sorted.{IsStrictlyIncreasing}
 use Rattle.std.proofs.Math.Bool.{or-false, or-true}
-use Rattle.std.proofs.lemmas.Bool.{cases_lt, eq-eqb, ne_eqb}
+use Rattle.std.proofs.lemmas.Bool.{cases_eq, cases_lt, eq-eqb, ne_eqb}
 use Rattle.std.proofs.lemmas.List.{length_push, length-set, get_or-set_other, get_or-set_same}
 use Rattle.std.proofs.lemmas.List.Elements.{All-push, All-weaker}
 use Rattle.std.proofs.lemmas.List.Folds.{list_any-append}
 use Rattle.std.proofs.lemmas.List.Sums.{sum_by-set}
 use Rattle.dbp_plan.specs.declared.diagram.Clock.{Clock}
 use Rattle.dbp_plan.proofs.BatchTasks.{named_below}
-use Rattle.trace_io.specs.Merging.{TakesDue, is_at, next_of}
+use Rattle.dbp_plan.specs.Clocks.{time_at}
+use Rattle.trace_io.specs.Merging.{AreNext, TakesDue, is_at, next_of}
 use Rattle.std.proofs.lemmas.Grind.{common_steps}
 
 -- a list of numbers stays in order where a greater one is added
@@ -75,3 +76,19 @@ pass-one until events clocks before after time n tasks t here = record {
   kept = λ i less. t.kept i (omega arith);
   counted = t.counted;
 }
+
+-- an occurrence of clock n is taken, and its next time is found anew
+pub next-one : (until : ℕ) (events : List (List ℕ)) (clocks : List Clock) (taken : List ℕ) (next : List (Option ℕ)) (n : ℕ) (t : Option ℕ)
+    → n < length taken → n < length next → AreNext until events clocks taken next
+    → ((d : Clock) → t ≡ time_at until events (get_or clocks n d) (get_or taken n 0 + 1))
+    → AreNext until events clocks (set taken n (get_or taken n 0 + 1)) (set next n t)
+next-one until events clocks taken next n t fits room are here = (
+  length-set next n t ∙ are.0,
+  λ i d e less. elim (cases_eq i n) [
+    | inl same ↦
+        rw same (get_or-set_same next n t e room ∙ here d ∙ ap (λ k. time_at until events (get_or clocks n d) k) (sym (get_or-set_same taken n (get_or taken n 0 + 1) 0 fits)))
+    | inr other ↦
+        get_or-set_other next n i t e (λ same. other same) ∙ are.1 i d e less
+        ∙ ap (λ k. time_at until events (get_or clocks i d) k) (sym (get_or-set_other taken n i (get_or taken n 0 + 1) 0 (λ same. other same)))
+  ],
+)

@@ -1,5 +1,5 @@
 -- Batch by batch, all clocks are taken to their ends.
-use Rattle.std.proofs.Common.{◌≡◌, ◌≢◌, ℕ, zero, suc, ◌+◌, ◌*◌, ◌-◌, ◌<◌, ◌≤◌, true, false, All, List, [], ◌∷◌, ◌++◌, length, map, replicate, get_or, sum, arith, refl, ap, ◌∙◌, sym, inl, inr, Option, Some, None}
+use Rattle.std.proofs.Common.{◌≡◌, ◌≢◌, ℕ, zero, suc, ◌+◌, ◌*◌, ◌-◌, ◌<◌, ◌≤◌, true, false, All, List, [], ◌∷◌, ◌++◌, length, map, replicate, get_or, sum, arith, refl, ap, ◌∙◌, sym, subst, inl, inr, Option, Some, None}
 use Rattle.std.specs.Prelude.{◌==◌, nat_lt, max, IfSome, slice_index, slice_index_or, slice_get, sum_by}
 use Rattle.std.specs.List.{list_any}
 use Rattle.std.specs.List.Sorted.{IsStrictlyIncreasing}
@@ -21,7 +21,7 @@ use Rattle.dbp_plan.specs.Places.{front_place, last_place}
 use Rattle.dbp_plan.proofs.BatchTasks.{some_item}
 use Rattle.dbp_plan.proofs.TaskTimes.{times-named, times-other}
 use Rattle.trace_io.specs.Batches.{AreBatches, HasNumbersInRange, IsClockOf, IsTimetable, count_of}
-use Rattle.trace_io.specs.Merging.{IsLeastNext, TakesDue, is_at, next_of}
+use Rattle.trace_io.specs.Merging.{AreNext, IsLeast, IsLeastNext, TakesDue, is_at, next_of}
 use Rattle.trace_io.proofs.Due.{rising-push}
 
 -- a clock's next time is later
@@ -31,6 +31,29 @@ clock-rises until events (Every period offset) k t table is here = grind (arith,
 clock-rises until events (On event) k t table is here =
     let up = All-get_or IsStrictlyIncreasing events event [] is table.rising in
     grind (arith, common_steps, gets, up k)
+
+-- a clock's times are below the end
+pub clock-ends : (until : ℕ) (events : List (List ℕ)) (clock : Clock) (k t : ℕ) → IsTimetable until events → IsClockOf (length events) clock
+    → time_at until events clock k ≡ Some t → t < until
+clock-ends until events (Every period offset) k t table is here = grind (arith, common_steps)
+clock-ends until events (On event) k t table is here =
+    let ends = All-get_or (All (λ u. u < until)) events event [] is table.ends in
+    grind (arith, common_steps, gets, ends k t)
+
+-- the least of the times of the clocks' next occurrences
+pub least-next : (until : ℕ) (events : List (List ℕ)) (clocks : List Clock) (taken : List ℕ) (next : List (Option ℕ)) (r : Option ℕ)
+    → IsTimetable until events → All (IsClockOf (length events)) clocks → AreNext until events clocks taken next → IsLeast next (length next) r
+    → IsLeastNext until events clocks taken (length clocks) r
+least-next until events clocks taken next None table is are none = λ i d less. sym (are.1 i d None less) ∙ none i None (omega (arith, are.0))
+least-next until events clocks taken next (Some time) table is are least =
+    let i = least.0.0 in
+    let less : i < length clocks = omega (arith, least.0.1, are.0) in
+    let here : (d : Clock) → next_of until events clocks taken i d ≡ Some time = λ d. sym (are.1 i d None less) ∙ least.0.2 None in
+    let first : Clock = Every 0 0 in (
+      clock-ends until events (slice_index_or clocks i first) (slice_index taken i) time table (is i first less) (here first),
+      (i, less, here),
+      λ j d within. subst (λ (o : Option ℕ). IfSome o (λ t. time ≤ t)) (are.1 j d None within) (least.1 j None (omega (arith, are.0))),
+    )
 
 -- once it has ended it has no further time
 pub clock-stops : (until : ℕ) (events : List (List ℕ)) (clock : Clock) (k m : ℕ) → IsClockOf (length events) clock

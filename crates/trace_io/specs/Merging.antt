@@ -18,6 +18,18 @@ IsLeastNext until events clocks taken n r = MatchOption r
     × ((i : ℕ) × (i < n) × ((d : Clock) → next_of until events clocks taken i d ≡ Some time))
     × ((i : ℕ) (d : Clock) → i < n → IfSome (next_of until events clocks taken i d) (λ t. time ≤ t)))
 
+-- the times of all clocks' next occurrences
+abbrev pub AreNext : ℕ → List (List ℕ) → List Clock → List ℕ → List (Option ℕ) → Type 0
+AreNext until events clocks taken next = (length next ≡ length clocks)
+    × ((i : ℕ) (d : Clock) (e : Option ℕ) → i < length clocks → slice_index_or next i e ≡ next_of until events clocks taken i d)
+
+-- none of the first n is a time, or the least of them is this one
+abbrev pub IsLeast : List (Option ℕ) → ℕ → Option ℕ → Type 0
+IsLeast times n r = MatchOption r
+    ((i : ℕ) (e : Option ℕ) → i < n → slice_index_or times i e ≡ None)
+    (λ time. ((i : ℕ) × (i < n) × ((e : Option ℕ) → slice_index_or times i e ≡ Some time))
+    × ((i : ℕ) (e : Option ℕ) → i < n → IfSome (slice_index_or times i e) (λ t. time ≤ t)))
+
 -- whether a next occurrence is at this time
 abbrev pub is_at : ℕ → Option ℕ → Bool
 is_at time r = option_eq nat_eq r (Some time)

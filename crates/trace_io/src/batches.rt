@@ -1,8 +1,8 @@
 // The batches of many clocks.
 
-ghost use Rattle.std.specs.Prelude.{◌≡◌, ◌<◌, ◌≤◌, All, IfOk, length, map};
+ghost use Rattle.std.specs.Prelude.{◌≡◌, ◌<◌, ◌≤◌, All, IfOk, OnOk, length, map};
 ghost use Rattle.trace_io.specs.Batches.{AreBatches, HasNumbersInRange, IsClockOf, IsTimetable, total_of};
-ghost use Rattle.trace_io.specs.Merging.{IsLeastNext, TakesDue};
+ghost use Rattle.trace_io.specs.Merging.{AreNext, IsLeast, TakesDue};
 
 use crate::clocks::{nth_time, occurrences};
 use dbp_plan::{Batch, Clock, List, MAX_OCCURRENCES, MAX_TASKS, MAX_TIME, NoMemory, Task};
@@ -37,25 +37,43 @@ pub(crate) fn merged(
     ensures { IfOk result (λ batches. AreBatches until events.now clocks.now batches) }
 {
     let mut taken = vec![in alloc; 0u64; clocks.len()]?;
+    let mut next = next_times(alloc, until, events, clocks, &taken)?;
     let mut made = List::new(alloc);
-    while let Some(time) = least_next(until, events, clocks, &taken) {
-        let tasks = take_due(alloc, until, events, clocks, &mut taken, time)?;
+    while let Some(time) = least(&next) {
+        let tasks = take_due(alloc, until, events, clocks, &mut taken, &mut next, time)?;
         made.push(Batch { time, tasks })?;
     }
     Ok(made)
 }
 
-// The least time of a next occurrence.
-fn least_next(until: u64, events: &[List<u64>], clocks: &[Clock], taken: &[u64]) -> Option<u64>
+// The time of each clock's next occurrence, where so many of each were taken.
+fn next_times(
+    alloc: Global,
+    until: u64,
+    events: &[List<u64>],
+    clocks: &[Clock],
+    taken: &[u64],
+) -> Result<Vec<Option<u64>>, NoMemory>
     requires clocks { All (IsClockOf (length events.now)) clocks.now }
     requires table { IsTimetable until events.now }
     requires places { length taken.now ≡ length clocks.now }
     requires few { All (λ n. n ≤ MAX_OCCURRENCES) taken.now }
-    ensures { IsLeastNext until events.now clocks.now taken.now (length clocks.now) result }
+    ensures { IfOk result (λ next. AreNext until events.now clocks.now taken.now next.items) }
+{
+    let mut next = Vec::new(alloc);
+    for i in 0..clocks.len() {
+        next.push(nth_time(until, events, clocks[i], taken[i]))?;
+    }
+    Ok(next)
+}
+
+// The least of the times.
+fn least(times: &[Option<u64>]) -> Option<u64>
+    ensures { IsLeast times.now (length times.now) result }
 {
     let mut least = None;
-    for i in 0..clocks.len() {
-        if let Some(time) = nth_time(until, events, clocks[i], taken[i]) {
+    for i in 0..times.len() {
+        if let Some(time) = times[i] {
             least = match least {
                 Some(other) if other <= time => Some(other),
                 _ => Some(time),
@@ -72,6 +90,7 @@ fn take_due(
     events: &[List<u64>],
     clocks: &[Clock],
     taken: &mut [u64],
+    next: &mut [Option<u64>],
     time: u64,
 ) -> Result<List<u32>, NoMemory>
     requires clocks { All (IsClockOf (length events.now)) clocks.now }
@@ -79,14 +98,17 @@ fn take_due(
     requires table { IsTimetable until events.now }
     requires places { length taken.old ≡ length clocks.now }
     requires few { All (λ n. n ≤ MAX_OCCURRENCES) taken.old }
-    ensures { IfOk result (λ tasks.
+    requires next { AreNext until events.now clocks.now taken.old next.old }
+    ensures due { IfOk result (λ tasks.
         TakesDue until events.now clocks.now taken.old taken.new time (length clocks.now) tasks) }
+    ensures next { OnOk result (AreNext until events.now clocks.now taken.new next.new) }
 {
     let mut tasks = List::new(alloc);
     for i in 0..clocks.len() {
-        if nth_time(until, events, clocks[i], taken[i]) == Some(time) {
+        if next[i] == Some(time) {
             tasks.push(i as u32)?;
             taken[i] += 1;
+            next[i] = nth_time(until, events, clocks[i], taken[i]);
         }
     }
     Ok(tasks)
