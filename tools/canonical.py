@@ -5,6 +5,7 @@ Only text that the program wrote is read here, so a text that isn't canonical ha
 
 from dataclasses import dataclass
 from enum import Enum
+from functools import cached_property
 from typing import Optional, Tuple, Union
 
 
@@ -121,12 +122,12 @@ class Trace:
 
     lines: Tuple[str, ...]
 
-    @property
+    @cached_property
     def columns(self):
         """Returns the names of inputs and events in the header, after `time`."""
         return cells_of(self.lines[0])[1:]
 
-    @property
+    @cached_property
     def rows(self):
         """Returns the rows after the header."""
         cut = [cells_of(line) for line in self.lines[1:]]

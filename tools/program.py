@@ -1,10 +1,13 @@
 """The program dbp, run by the tools beside this file: every verdict and value of theirs comes from it."""
 
 import subprocess
+import sys
 from dataclasses import dataclass
 from pathlib import Path
 
-LAUNCHER = Path(__file__).resolve().parent.parent / "dbp"
+TOP = Path(__file__).resolve().parent.parent
+LAUNCHER = TOP / "dbp"
+BUILT = TOP / "crates" / "dbp" / "out" / "dbp"
 
 
 class CannotRun(Exception):
@@ -26,7 +29,9 @@ def add_program_option(parser):
 
 
 def run_program(program, words, document):
-    """Runs the program with these words on the bytes of a document."""
+    """Runs the program with these words on the bytes of a document. The launcher builds it first if it isn't there."""
+    if program == str(LAUNCHER) and not BUILT.exists():
+        print(f"{LAUNCHER} proves and builds the program first, in half an hour on four processors", file=sys.stderr)
     try:
         ran = subprocess.run([program, *words], input=document, capture_output=True, check=False)
     except OSError as error:
