@@ -76,23 +76,49 @@ def rows_of_texts():
         yield Row(command, "", b"")
 
 
-def figures_of(programs, row, options):
-    """Returns for each program its figures, in the order of MEASURES, and whether all runs ended alike."""
-    commands = [[it, *row.command.split()] for it in programs]
-    runs, millions = [[] for _ in programs], [None for _ in programs]
+class Trial:
+    """A program on a row: its timed runs, and the run whose instructions are counted."""
+
+    def __init__(self, path, row):
+        self.command = [path, *row.command.split()]
+        self.document = row.document
+        self.timed = []
+        self.counted = []
+        self.million_instructions = None
+
+    def time(self):
+        self.timed.append(run(self.command, self.document))
+
+    def count(self, profile):
+        counted, self.million_instructions = counted_run(self.command, self.document, profile)
+        self.counted.append(counted)
+
+    def ends(self):
+        return {(it.status, it.stdout) for it in self.timed + self.counted}
+
+    def figures(self):
+        """Returns what was measured, in the order of MEASURES."""
+        seconds = median(it.seconds for it in self.timed) if self.timed else None
+        processor_seconds = median(it.processor_seconds for it in self.timed) if self.timed else None
+        return self.million_instructions, seconds, processor_seconds, peak_megabytes(self.command, self.document)
+
+
+def trials_of(programs, row, options):
+    """Returns the trials of the programs, whose runs take turns."""
+    trials = [Trial(it, row) for it in programs]
     for number in range(options.runs):
-        for place in sorted(range(len(programs)), reverse=number % 2):
-            runs[place].append(run(commands[place], row.document))
-    times = [[median(it) for it in zip(*((it.seconds, it.processor_seconds) for it in own))] for own in runs]
+        for trial in trials[:: -1 if number % 2 else 1]:
+            trial.time()
     if options.instructions or options.profiles:
-        for place, command in enumerate(commands):
-            profile = options.profiles and options.profiles / f"{row.title().replace(' ', '_')}.{place}"
-            counted, millions[place] = counted_run(command, row.document, profile)
-            runs[place].append(counted)
-    peaks = [peak_megabytes(it, row.document) for it in commands]
-    ends = {(it.status, it.stdout) for own in runs for it in own}
-    figures = [(count, *(own or (None, None)), peak) for count, own, peak in zip(millions, times, peaks)]
-    return figures, len(ends) < 2 and all(status == 0 for status, _ in ends)
+        for place, trial in enumerate(trials):
+            trial.count(options.profiles and options.profiles / f"{row.title().replace(' ', '_')}.{place}")
+    return trials
+
+
+def are_alike(trials):
+    """Whether all runs ended with status 0 and the same output."""
+    ends = set().union(*(it.ends() for it in trials))
+    return len(ends) == 1 and all(status == 0 for status, _ in ends)
 
 
 def cells_of(figures):
@@ -123,9 +149,9 @@ def main():
     differing = []
     for row in [*rows_of_tables(), *rows_of_texts()]:
         if options.only in row.title():
-            figures, are_alike = figures_of(programs, row, options)
-            differing += [] if are_alike else [row.title()]
-            print(line_of(row.title(), cells_of(figures)), flush=True)
+            trials = trials_of(programs, row, options)
+            differing += [] if are_alike(trials) else [row.title()]
+            print(line_of(row.title(), cells_of(it.figures() for it in trials)), flush=True)
     for title in differing:
         print(f"not all runs ended with status 0 and the same output: {title}")
     return 1 if differing else 0
