@@ -143,7 +143,8 @@ def chain_steps(tasks, batch):
     steps += [f"open {name}" for name in names]
     for name in names:
         reads = [f"hear {name}", f"look {name} x", f"take {name} x"] if name != names[0] else []
-        steps += [f"start {name}", f"hear {name}", *reads, f"shut {name}", f"put {name} y", f"done {name}", f"end {name}"]
+        steps += [f"start {name}", f"hear {name}", *reads]
+        steps += [f"shut {name}", f"put {name} y", f"done {name}", f"end {name}"]
     return steps
 
 
