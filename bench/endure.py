@@ -49,7 +49,7 @@ def row_of(name, runs, wanted):
     """Returns the line of a document, and whether all its runs gave what is wanted."""
     outputs, statuses = {it.stdout for it in runs}, {it.status for it in runs}
     times = [it.seconds for it in runs]
-    is_right = outputs == {wanted.stdout} and statuses == {wanted.status}
+    is_right = outputs == {wanted.stdout} and statuses == {wanted.status} == {0}
     cells = [len(runs), len(outputs), "/".join(map(str, sorted(statuses))), "yes" if is_right else "NO"]
     cells += [f"{it:.3f}" for it in (min(times), median(times), max(times))]
     return line_of(name, cells), is_right
