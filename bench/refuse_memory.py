@@ -20,13 +20,23 @@ from running import add_program_option, run
 
 REFUSING = r"""
 #include <errno.h>
-#include <stdio.h>
+#include <fcntl.h>
 #include <stdlib.h>
+#include <sys/mman.h>
 
 extern void *__libc_malloc(size_t), *__libc_calloc(size_t, size_t), *__libc_realloc(void *, size_t),
     *__libc_memalign(size_t, size_t);
 
-static long seen;
+// How many allocations were seen, in the file that is named, since the program may end by _exit.
+static long *seen(void) {
+  static long own, *at;
+  if (!at) {
+    const char *name = getenv("ALLOCATIONS_SEEN");
+    int file = name ? open(name, O_RDWR) : -1;
+    at = file < 0 ? &own : mmap(NULL, sizeof own, PROT_READ | PROT_WRITE, MAP_SHARED, file, 0);
+  }
+  return at;
+}
 
 static long number_in(const char *name) {
   const char *text = getenv(name);
@@ -34,7 +44,7 @@ static long number_in(const char *name) {
 }
 
 static int refuses(void) {
-  long number = __atomic_add_fetch(&seen, 1, __ATOMIC_SEQ_CST), from = number_in("REFUSED_FROM");
+  long number = __atomic_add_fetch(seen(), 1, __ATOMIC_SEQ_CST), from = number_in("REFUSED_FROM");
   return number == number_in("REFUSED_ALLOCATION") || (from > 0 && number >= from);
 }
 
@@ -45,13 +55,6 @@ void *aligned_alloc(size_t a, size_t n) { return refuses() ? NULL : __libc_memal
 int posix_memalign(void **p, size_t a, size_t n) {
   *p = refuses() ? NULL : __libc_memalign(a, n);
   return *p ? 0 : ENOMEM;
-}
-
-__attribute__((destructor)) static void tell(void) {
-  const char *name = getenv("ALLOCATIONS_SEEN");
-  long count = seen;
-  FILE *file = name ? fopen(name, "w") : NULL;
-  if (file) fprintf(file, "%ld", count), fclose(file);
 }
 """
 
@@ -85,8 +88,9 @@ class Trial:
     def allocations(self, folder):
         """Returns how many allocations a run makes."""
         told = Path(folder) / "seen"
+        told.write_bytes(bytes(8))
         self.under(ALLOCATIONS_SEEN=str(told))
-        return int(told.read_text())
+        return int.from_bytes(told.read_bytes(), sys.byteorder)
 
     def end(self, usual, refusal, number):
         found = self.under(**{refusal.value: str(number)})
