@@ -45,7 +45,9 @@ static long number_in(const char *name) {
 
 static int refuses(void) {
   long number = __atomic_add_fetch(seen(), 1, __ATOMIC_SEQ_CST), from = number_in("REFUSED_FROM");
-  return number == number_in("REFUSED_ALLOCATION") || (from > 0 && number >= from);
+  if (number != number_in("REFUSED_ALLOCATION") && (from <= 0 || number < from)) return 0;
+  errno = ENOMEM;
+  return 1;
 }
 
 void *malloc(size_t n) { return refuses() ? NULL : __libc_malloc(n); }
