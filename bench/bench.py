@@ -1,140 +1,161 @@
 #!/usr/bin/env python3
-"""Times the built program on documents at its limits: prints a table of seconds and peak memory.
+"""Measures every command of the program on documents at its limits, and prints a table.
 
-  bench/bench.py [PROGRAM]      the program that ./dbp has built, where none is named
+  bench/bench.py [--program PROGRAM] [--against OTHER] [--only TEXT] [--runs N] [--instructions] [--profiles FOLDER]
+
+Times and processor times are medians over the runs; with another program beside it, the runs of the two take turns,
+the outputs are compared, and each measure has its ratio. Instructions are counted in a run of their own, by valgrind,
+50 times as slow: they don't depend on other load, except those of `run`, whose tasks wait for each other.
 """
 
-import os
-import subprocess
+import argparse
 import sys
-import tempfile
-import time
+from dataclasses import dataclass
 from pathlib import Path
+from statistics import median
 
-TOP = Path(__file__).resolve().parent.parent
+import documents
+from running import add_program_option, counted_run, peak_megabytes, program, run
 
-
-def one_task(occurrences: int) -> str:
-    return (f"dbp 1\npolicy fp\nuntil {occurrences}\ntask k every 1 from 0 prio 1 cost 1\n"
-            "  state n = 0\n  next n = n + 1\n  out y = 0 then n + 1\ndone\n")
-
-
-def wide_rows(occurrences: int) -> str:
-    """Lines of 170 bytes: eight outs of 19 digits and a sign."""
-    outs = [f"  out y{place} = 0 then -1234567890123456789 - n" for place in range(8)]
-    lines = ["dbp 1", "policy fp", f"until {occurrences}", "task k every 1 from 0 prio 1 cost 1", "  state n = 0", "  next n = n + 1"]
-    return "\n".join(lines + outs + ["done"]) + "\n"
+MEASURES = ("Minstr", "wall s", "cpu s", "peak MB")  # Minstr: millions of instructions
 
 
-def many_tasks(occurrences: int) -> str:
-    lines = ["dbp 1", "policy fp", f"until {occurrences}"]
-    for task in range(32):
-        lines.append(f"task t{task} every 32 from {task} prio {32 - task} cost 1")
-        lines += ["  state n = 0", "  next n = n + 1"]
-        terms = ["n"] + ["1"] * 31
-        if task:
-            lines.append(f"  read x = t{task - 1}.y")
-            terms[-1] = "x"
-        lines.append("  out y = 0 then " + " + ".join(terms))
-    return "\n".join(lines + ["done"]) + "\n"
+@dataclass(frozen=True)
+class Row:
+    """A row of the table: a command, and its document with the document's name."""
+
+    command: str
+    name: str
+    document: bytes
+
+    def title(self):
+        return f"{self.command}: {self.name}" if self.name else self.command
 
 
-def preempted(releases: int) -> str:
-    """A short task that is released each other tick, and takes the processor from a long one each time."""
-    ticks = 2 * releases
-    return (f"dbp 1\npolicy fp\nuntil {ticks}\ntask short every 2 prio 2 cost 1\n  state n = 0\n  next n = n + 1\n"
-            f"  out y = 0 then n + 1\ntask long every {ticks} prio 1 cost {releases - 1}\n  read x = short.y\n"
-            "  out z = 0 then x\ndone\n")
+def rows_of_tables():
+    """Yields the rows of the commands that write a table."""
+    for n in (12_500, 25_000, 50_000, 100_000):
+        yield Row("mean", f"a task, {n} occurrences", documents.one_task(n))
+    for n in (12_000, 24_000, 48_000, 96_000):
+        yield Row("mean", f"32 tasks of 63 nodes, {n}", documents.many_tasks(n))
+    for n in (25_000, 50_000, 100_000):
+        yield Row("mean", f"{n} lines of 170 bytes", documents.wide_rows(n))
+    yield Row("mean", "128 reads", documents.many_reads(100_000))
+    yield Row("mean", "0.9 MB of expressions", documents.expressions())
+    for n in (12_500, 25_000, 50_000):
+        yield Row("mean", f"{n} rows of 12 columns", documents.trace(n, 6, 6))
+    yield Row("mean", "25000 rows of 32 columns", documents.trace(25_000, 16, 16))
+    for command in ("sim", "sim --record"):
+        for n in (25_000, 50_000, 99_999):
+            yield Row(command, f"{n} preemptions", documents.preempted(n))
+        yield Row(command, "preemptions in turn", documents.preempted_in_turn(103_190))
+        for n in (24_000, 48_000, 96_000):
+            yield Row(command, f"32 tasks of 63 nodes, {n}", documents.many_tasks(n))
+        yield Row(command, "128 reads", documents.many_reads(100_000))
+        yield Row(command, "32 tasks by deadlines", documents.by_deadlines(99_000))
+    for command in ("run --turns 1", "run"):
+        yield Row(command, "a task, 100000 occurrences", documents.one_task(100_000))
+        yield Row(command, "32 tasks of 63 nodes, 96000", documents.many_tasks(96_000))
+        yield Row(command, "128 reads", documents.many_reads(100_000))
 
 
-def expressions() -> str:
-    """0.9 MB of lets of 63 nodes with long names."""
-    lines = ["dbp 1", "policy fp", "until 1"]
-    for task in range(32):
-        lines.append(f"task t{task} every 1 prio {task} cost 1")
-        names = [f"a_name_of_{place:03}" for place in range(63)]
-        for place, name in enumerate(names):
-            terms = [names[(place + term) % place] if place else "11111111111111" for term in range(32)]
-            lines.append(f"let {name} = " + "+".join(terms))
-        lines.append("out y = 0 then 0")
-    return "\n".join(lines + ["done"]) + "\n"
+def rows_of_texts():
+    """Yields the rows of the other commands."""
+    yield Row("plan", "0.9 MB of expressions", documents.expressions())
+    yield Row("plan", "128 reads", documents.many_reads(100_000))
+    yield Row("form", "0.9 MB of expressions", documents.expressions())
+    yield Row("form", "50000 rows of 12 columns", documents.trace(50_000, 6, 6))
+    yield Row("form", "1,000,000 blank lines", documents.script_of(""))
+    yield Row("form", "500,000 steps of a letter", documents.script_of("a"))
+    yield Row("form", "a step of 500,000 names", documents.script_of("a " * 523_000))
+    for command in ("replay", "replay --ranked"):
+        for n in (4_000, 8_000, 16_000):
+            yield Row(command, f"{9 * n} steps of a task", documents.instances(n))
+        yield Row(command, "1 MB of steps of 32 tasks", documents.chain_script(32))
+    for command in ("gen 7 32", "soak 7 8", "soak 7 32"):
+        yield Row(command, "", b"")
 
 
-def trace(rows: int, inputs: int, events: int) -> str:
-    """A trace of so many rows and columns; one task senses all inputs, and one occurs at each event of the first column."""
-    lines = ["dbp 1", "policy fp", f"until {rows}"]
-    lines += [f"input i{place} = 0" for place in range(inputs)]
-    lines += [f"event e{place}" for place in range(events)]
-    lines += ["task all every 10 prio 1 cost 1"]
-    lines += [f"sense s{place} = i{place}" for place in range(inputs)]
-    lines += ["out y = 0 then " + " + ".join(f"s{place}" for place in range(inputs))]
-    lines += ["task count on e0 prio 2 cost 1", "state n = 0", "next n = n + 1", "out y = 0 then n + 1", "trace"]
-    lines += ["time," + ",".join([f"i{place}" for place in range(inputs)] + [f"e{place}" for place in range(events)])]
-    for row in range(rows):
-        cells = [""] * (inputs + events)
-        cells[row % inputs] = str(row % 10)
-        if row % 7 == 0:
-            cells[inputs] = "1"
-        lines.append(f"{row}," + ",".join(cells))
-    return "\n".join(lines + ["done"]) + "\n"
+class Trial:
+    """A program on a row: its timed runs, and the run whose instructions are counted."""
+
+    def __init__(self, path, row):
+        self.command = [path, *row.command.split()]
+        self.document = row.document
+        self.timed = []
+        self.counted = []
+        self.million_instructions = None
+
+    def time(self):
+        self.timed.append(run(self.command, self.document))
+
+    def count(self, profile):
+        counted, self.million_instructions = counted_run(self.command, self.document, profile)
+        self.counted.append(counted)
+
+    def ends(self):
+        return {(it.status, it.stdout) for it in self.timed + self.counted}
+
+    def figures(self):
+        """Returns what was measured, in the order of MEASURES."""
+        seconds = median(it.seconds for it in self.timed) if self.timed else None
+        processor_seconds = median(it.processor_seconds for it in self.timed) if self.timed else None
+        return self.million_instructions, seconds, processor_seconds, peak_megabytes(self.command, self.document)
 
 
-def many_lines(line: str) -> str:
-    """A script section of nearly as many bytes as a document may have."""
-    head = "dbp 1\npolicy fp\nuntil 0\nscript\n"
-    return head + line * ((1_048_576 - len(head) - 5) // len(line)) + "done\n"
+def trials_of(programs, row, options):
+    """Returns the trials of the programs, whose runs take turns."""
+    trials = [Trial(it, row) for it in programs]
+    for number in range(options.runs):
+        for trial in trials[:: -1 if number % 2 else 1]:
+            trial.time()
+    if options.instructions or options.profiles:
+        for place, trial in enumerate(trials):
+            trial.count(options.profiles and options.profiles / f"{row.title().replace(' ', '_')}.{place}")
+    return trials
 
 
-def instances(count: int) -> str:
-    """A script in which a task is released and served so often, step by step."""
-    head = "dbp 1\npolicy fp\nuntil 20000\ntask k every 1 prio 1 cost 1\nstate n = 0\nnext n = n + 1\nout y = 0 then n + 1\nscript\n"
-    steps = ["aim k 0", "open k", "start k", "hear k", "shut k", "put k y", "done k", "end k", "seen k"]
-    return head + ("\n".join(steps) + "\n") * count + "done\n"
+def are_alike(trials):
+    """Whether all runs ended with status 0 and the same output."""
+    ends = set().union(*(it.ends() for it in trials))
+    return len(ends) == 1 and all(status == 0 for status, _ in ends)
 
 
-def measured(program: str, command: str, text: str) -> tuple[float, float, float]:
-    """Seconds, processor seconds and peak memory in MB of one run from a file into a file. The memory is told by
-    Debian's `time`, since a child of this script begins with the script's own."""
-    with tempfile.TemporaryFile() as document, tempfile.TemporaryFile() as lines, tempfile.NamedTemporaryFile() as peak:
-        document.write(text.encode())
-        document.seek(0)
-        start = time.perf_counter()
-        timed = ["/usr/bin/time", "-f", "%M", "-o", peak.name, program, *command.split()]
-        running = subprocess.Popen(timed, stdin=document, stdout=lines)
-        _, status, used = os.wait4(running.pid, 0)
-        wall = time.perf_counter() - start
-        kilobytes = int(peak.read())
-    assert status == 0, status
-    return wall, used.ru_utime + used.ru_stime, kilobytes / 1024
+def cells_of(figures):
+    """Returns the cells of a row: each measure of each program, and the ratio of two."""
+    for measures in zip(*figures):
+        yield from ("" if it is None else f"{it:.3f}" if it < 100 else f"{it:.1f}" for it in measures)
+        if len(measures) == 2:
+            yield "" if None in measures or not measures[1] else f"{measures[0] / measures[1]:.2f}"
 
 
-def main() -> None:
-    program = sys.argv[1] if len(sys.argv) > 1 else str(TOP / "crates/dbp/out/dbp")
-    if not os.access(program, os.X_OK):
-        sys.exit(f"{program} is no program; ./dbp builds it at its first call")
-    print(f"{'document':<45}{'wall s':>9}{'cpu s':>9}{'peak MB':>10}")
-    for command, name, text in [
-        *(("mean", f"1 task, {n} occurrences", one_task(n)) for n in (12_500, 25_000, 50_000, 100_000)),
-        *(("mean", f"32 tasks of 63 nodes, {n}", many_tasks(n)) for n in (12_000, 24_000, 48_000, 96_000)),
-        *(("mean", f"{n} lines of 170 bytes", wide_rows(n)) for n in (25_000, 50_000, 100_000)),
-        ("mean", "0.9 MB of expressions", expressions()),
-        *(("mean", f"{n} rows of 12 columns", trace(n, 6, 6)) for n in (12_500, 25_000, 50_000)),
-        ("mean", "25000 rows of 32 columns", trace(25_000, 16, 16)),
-        *(("sim", f"{n} preemptions", preempted(n)) for n in (25_000, 50_000, 99_999)),
-        *(("sim --record", f"{n} preemptions", preempted(n)) for n in (25_000, 50_000, 99_999)),
-        *(("sim", f"32 tasks of 63 nodes, {n}", many_tasks(n)) for n in (24_000, 48_000, 96_000)),
-        ("sim --record", "32 tasks of 63 nodes, 96000", many_tasks(96_000)),
-        *((command, "32 tasks of 63 nodes, 96000", many_tasks(96_000)) for command in ("run", "run --turns 1")),
-        ("plan", "0.9 MB of expressions", expressions()),
-        ("form", "0.9 MB of expressions", expressions()),
-        ("form", "1,000,000 blank lines", many_lines("\n")),
-        ("form", "500,000 steps of a letter", many_lines("a\n")),
-        ("form", "a step of 500,000 names", many_lines("a " * 523_000 + "\n")),
-        *(("replay", f"{9 * n} steps of a task", instances(n)) for n in (4_000, 8_000, 16_000)),
-    ]:
-        wall, cpu, peak = measured(program, command, text)
-        print(f"{command + ' ' + name:<45}{wall:>9.3f}{cpu:>9.3f}{peak:>10.1f}")
+def line_of(title, cells):
+    return f"| {title:<42} |" + "".join(f" {it:>9} |" for it in cells)
+
+
+def main():
+    parser = argparse.ArgumentParser(description=__doc__, formatter_class=argparse.RawDescriptionHelpFormatter)
+    add_program_option(parser)
+    parser.add_argument("--against", type=program, help="another program, measured side by side")
+    parser.add_argument("--only", default="", help="the rows that have this text")
+    parser.add_argument("--runs", type=int, default=3, help="timed runs of each row (3)")
+    parser.add_argument("--instructions", action="store_true", help="count instructions")
+    parser.add_argument("--profiles", type=Path, help="a folder for the files of callgrind")
+    options = parser.parse_args()
+    programs = [options.program] + ([options.against] if options.against else [])
+    columns = [it for measure in MEASURES for it in [measure] + ["other", "ratio"] * (len(programs) - 1)]
+    print(line_of("command and document", columns))
+    print(line_of(":--", ["--:"] * len(columns)), flush=True)
+    differing = []
+    for row in [*rows_of_tables(), *rows_of_texts()]:
+        if options.only in row.title():
+            trials = trials_of(programs, row, options)
+            differing += [] if are_alike(trials) else [row.title()]
+            print(line_of(row.title(), cells_of(it.figures() for it in trials)), flush=True)
+    for title in differing:
+        print(f"not all runs ended with status 0 and the same output: {title}")
+    return 1 if differing else 0
 
 
 if __name__ == "__main__":
-    main()
+    sys.exit(main())

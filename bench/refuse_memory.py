@@ -1,37 +1,53 @@
 #!/usr/bin/env python3
-"""Refuses each allocation of the built program in turn: each run must end with status 6 and write nothing, or give
-the usual answer. Needs gcc, whose library stands before the C library's allocator.
+"""Refuses allocations of the built program: each of them in turn, and all from each of them on. Each run must end with
+status 6 and write nothing, or give the usual answer. Needs gcc, whose library stands before the C library's allocator.
 
-  bench/refuse_memory.py COMMAND DOCUMENT
+  bench/refuse_memory.py [--program PROGRAM] DOCUMENT WORDS
+
+The words are the command, as `sim --record`. A command that reads nothing takes /dev/null as its document.
 """
 
-import os
+import argparse
 import subprocess
 import sys
 import tempfile
+from collections import Counter
+from dataclasses import dataclass
+from enum import Enum
 from pathlib import Path
 
-TOP = Path(__file__).resolve().parent.parent
-PROGRAM = TOP / "crates/dbp/out/dbp"
-
-# How many runs with the usual answer end the search: their allocation is behind the last one.
-ENOUGH = 10
+from running import add_program_option, run
 
 REFUSING = r"""
 #include <errno.h>
+#include <fcntl.h>
 #include <stdlib.h>
+#include <sys/mman.h>
 
 extern void *__libc_malloc(size_t), *__libc_calloc(size_t, size_t), *__libc_realloc(void *, size_t),
     *__libc_memalign(size_t, size_t);
 
-static long seen, refused = -1;
+// How many allocations were seen, in the file that is named, since the program may end by _exit.
+static long *seen(void) {
+  static long own, *at;
+  if (!at) {
+    const char *name = getenv("ALLOCATIONS_SEEN");
+    int file = name ? open(name, O_RDWR) : -1;
+    at = file < 0 ? &own : mmap(NULL, sizeof own, PROT_READ | PROT_WRITE, MAP_SHARED, file, 0);
+  }
+  return at;
+}
+
+static long number_in(const char *name) {
+  const char *text = getenv(name);
+  return text ? atol(text) : -1;
+}
 
 static int refuses(void) {
-  if (refused < 0) {
-    const char *number = getenv("REFUSED_ALLOCATION");
-    refused = number ? atol(number) : 0;
-  }
-  return ++seen == refused;
+  long number = __atomic_add_fetch(seen(), 1, __ATOMIC_SEQ_CST), from = number_in("REFUSED_FROM");
+  if (number != number_in("REFUSED_ALLOCATION") && (from <= 0 || number < from)) return 0;
+  errno = ENOMEM;
+  return 1;
 }
 
 void *malloc(size_t n) { return refuses() ? NULL : __libc_malloc(n); }
@@ -45,32 +61,72 @@ int posix_memalign(void **p, size_t a, size_t n) {
 """
 
 
-def built(folder: str) -> str:
+class Refusal(Enum):
+    """Which allocations are refused, by the variable that tells the library."""
+
+    ONE = "REFUSED_ALLOCATION"
+    ALL_FROM = "REFUSED_FROM"
+
+
+class End(Enum):
+    """How a run ended."""
+
+    OUT_OF_MEMORY = "with status 6"
+    USUAL = "with the usual answer"
+    WRONG = "with another"
+
+
+@dataclass(frozen=True)
+class Trial:
+    """A command and its document, with the library that refuses its allocations."""
+
+    command: list
+    document: bytes
+    library: str
+
+    def under(self, **variables):
+        return run(self.command, self.document, limit=60, environment={"LD_PRELOAD": self.library, **variables})
+
+    def allocations(self, folder):
+        """Returns how many allocations a run makes."""
+        told = Path(folder) / "seen"
+        told.write_bytes(bytes(8))
+        self.under(ALLOCATIONS_SEEN=str(told))
+        return int.from_bytes(told.read_bytes(), sys.byteorder)
+
+    def end(self, usual, refusal, number):
+        found = self.under(**{refusal.value: str(number)})
+        if (found.status, found.stdout) == (6, b""):
+            return End.OUT_OF_MEMORY
+        if (found.status, found.stdout) == (usual.status, usual.stdout):
+            return End.USUAL
+        print(f"{refusal.value} {number}: status {found.status}, {len(found.stdout)} bytes written")
+        return End.WRONG
+
+
+def built(folder):
     source, library = f"{folder}/refusing.c", f"{folder}/refusing.so"
     Path(source).write_text(REFUSING)
     subprocess.run(["gcc", "-shared", "-fPIC", "-O2", "-o", library, source], check=True)
     return library
 
 
-def main() -> int:
-    command, document = sys.argv[1], Path(sys.argv[2]).read_bytes()
-    usual = subprocess.run([PROGRAM, command], input=document, capture_output=True, check=False)
-    gave_up, answered, wrong = 0, 0, 0
+def main():
+    parser = argparse.ArgumentParser(description=__doc__, formatter_class=argparse.RawDescriptionHelpFormatter)
+    add_program_option(parser)
+    parser.add_argument("document", type=Path)
+    parser.add_argument("words", nargs=argparse.REMAINDER)
+    options = parser.parse_args()
+    is_wrong = False
     with tempfile.TemporaryDirectory() as folder:
-        library = built(folder)
-        while answered < ENOUGH:
-            number = gave_up + answered + wrong + 1
-            environment = {"LD_PRELOAD": library, "REFUSED_ALLOCATION": str(number)}
-            run = subprocess.run([PROGRAM, command], input=document, capture_output=True, check=False, env=environment)
-            if run.returncode == 6 and not run.stdout:
-                gave_up += 1
-            elif (run.returncode, run.stdout) == (usual.returncode, usual.stdout):
-                answered += 1
-            else:
-                wrong += 1
-                print(f"allocation {number}: status {run.returncode}, {len(run.stdout)} bytes written")
-    print(f"{command} {sys.argv[2]}: {gave_up} runs with status 6, {answered} with the usual answer, {wrong} with another")
-    return 1 if wrong else 0
+        trial = Trial([options.program, *options.words], options.document.read_bytes(), built(folder))
+        usual, count = run(trial.command, trial.document), trial.allocations(folder)
+        for refusal in Refusal:
+            ends = Counter(trial.end(usual, refusal, number) for number in range(1, count + 1))
+            is_wrong |= bool(ends[End.WRONG])
+            told = ", ".join(f"{ends[it]} {it.value}" for it in End)
+            print(f"{' '.join(options.words)} {options.document}, {refusal.value}, {count} allocations: {told}")
+    return 1 if is_wrong else 0
 
 
 if __name__ == "__main__":

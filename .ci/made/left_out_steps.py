@@ -1,4 +1,4 @@
-"""A script in which a task waits for a row, without one of its steps: where `replay` then stops, and why."""
+"""A script in which a task waits for a row, without one of its steps: where `replay` then stops, and why, or its lines."""
 
 DOCUMENT = """dbp 1
 policy fp
@@ -17,33 +17,34 @@ script
 RELEASE = "not the next release step"
 TASK = "not the next step of the task"
 
-# Each step, and the number of the step that isn't allowed without it, and why. Without the look that isn't ready yet, or
-# without the last step, all others are allowed; without the second `hear b` the script is as without the first.
+# Each step, what it hears, and the number of the step that isn't allowed without it, and why. Without the look that isn't
+# ready yet, or without the last step, all others are allowed.
 STEPS = [
-    ("aim a 0", 1, RELEASE),
-    ("aim b 0", 2, RELEASE),
-    ("claim b a", 3, RELEASE),
-    ("open a", 4, RELEASE),
-    ("open b", 6, TASK),
-    ("start b", 6, TASK),
-    ("hear b", 8, TASK),
-    ("hear b", None, None),
-    ("look b x", None, None),
-    ("start a", 10, TASK),
-    ("hear a", 11, TASK),
-    ("shut a", 12, TASK),
-    ("put a y", 13, TASK),
-    ("done a", 15, TASK),
-    ("look b x", 15, TASK),
-    ("take b x", None, None),
+    ("aim a 0", "", 1, RELEASE),
+    ("aim b 0", "", 2, RELEASE),
+    ("claim b a", "", 3, RELEASE),
+    ("open a", "", 4, RELEASE),
+    ("open b", "", 6, TASK),
+    ("start b", " -> started", 6, TASK),
+    ("hear b", " -> slot 0 number 1", 8, TASK),
+    ("hear b", " -> slot 0 number 1", 8, TASK),
+    ("look b x", " -> notyet", None, None),
+    ("start a", " -> started", 10, TASK),
+    ("hear a", " -> slot 0 number 1", 11, TASK),
+    ("shut a", "", 12, TASK),
+    ("put a y", "", 13, TASK),
+    ("done a", "", 15, TASK),
+    ("look b x", " -> ready", 15, TASK),
+    ("take b x", " -> 1", None, None),
 ]
 
 
 def cases():
-    for place, (left_out, number, why) in enumerate(STEPS):
-        if number is None:
-            continue
-        script = "".join(step + "\n" for at, (step, _, _) in enumerate(STEPS) if at != place)
-        name = "without_step_%d_%s" % (place + 1, left_out.replace(" ", "_"))
-        line = "illegal step %d: %s\n" % (number, why)
-        yield name, ["replay"], (DOCUMENT % script).encode(), 1, line.encode()
+    for place, (left_out, _, number, why) in enumerate(STEPS):
+        others = STEPS[:place] + STEPS[place + 1 :]
+        document = DOCUMENT % "".join(f"{step}\n" for step, _, _, _ in others)
+        lines = "".join(f"{step}{heard}\n" for step, heard, _, _ in others)
+        if number is not None:
+            lines = f"illegal step {number}: {why}\n"
+        name = f"without_step_{place + 1}_{left_out.replace(' ', '_')}"
+        yield name, ["replay"], document.encode(), 0 if number is None else 1, lines.encode()

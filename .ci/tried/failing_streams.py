@@ -1,0 +1,48 @@
+"""Standard streams that fail: a folder can't be read, and /dev/full takes no byte."""
+
+import os
+import subprocess
+import tempfile
+from functools import partial
+from pathlib import Path
+
+EXAMPLE = Path(__file__).resolve().parents[2] / "examples" / "two_rates.dbp"
+NO_LINES = b"dbp 1\npolicy fp\nuntil 0\ndone\n"
+
+# The name, the words, the document or None for one that can't be read, whether the output can't be written, and the
+# exit status. What is written if the output can be written isn't compared, except that a failed read writes nothing.
+TRIALS = [
+    ("unread document", ["mean"], None, False, 4),
+    ("unread document of a run", ["run"], None, False, 4),
+    ("unwritten lines", ["mean"], EXAMPLE.read_bytes(), True, 5),
+    ("unwritten lines of a run", ["run"], EXAMPLE.read_bytes(), True, 5),
+    ("unwritten refusal", ["mean"], b"", True, 5),
+    ("unwritten overrun", ["sim"], EXAMPLE.read_bytes(), True, 5),
+    ("unread document, and no output", ["mean"], None, True, 4),
+    ("nothing to be written", ["mean"], NO_LINES, True, 0),
+    ("no command", ["men"], None, True, 2),
+    ("no document is needed", ["soak", "0", "1"], None, False, 0),
+]
+
+
+def fault_of(program, words, document, is_full, status):
+    """Returns what differs, or nothing."""
+    with tempfile.TemporaryFile() as given, tempfile.TemporaryFile() as kept, open("/dev/full", "wb") as full:
+        given.write(document or b"")
+        given.seek(0)
+        folder = os.open("/", os.O_RDONLY)
+        try:
+            streams = {"stdin": folder if document is None else given, "stdout": full if is_full else kept}
+            ran = subprocess.run([program, *words], stderr=subprocess.DEVNULL, timeout=60, check=False, **streams)
+        finally:
+            os.close(folder)
+        kept.seek(0)
+        written = kept.read()
+    if ran.returncode != status:
+        return f"the status is {ran.returncode}, and {status} is wanted"
+    return f"{len(written)} bytes were written" if status == 4 and written else None
+
+
+def trials(program):
+    for name, words, document, is_full, status in TRIALS:
+        yield name, partial(fault_of, program, words, document, is_full, status)

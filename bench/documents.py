@@ -1,0 +1,166 @@
+"""Documents at the limits of what dbp accepts."""
+
+MOST_BYTES = 1_048_576
+
+
+def text_of(*lines):
+    """Returns the document of these lines between the header and `done`."""
+    document = "\n".join(("dbp 1", *lines, "done", "")).encode()
+    assert len(document) <= MOST_BYTES, len(document)
+    return document
+
+
+def one_task(occurrences):
+    """A task that counts."""
+    return text_of("policy fp", f"until {occurrences}", "task k every 1 from 0 prio 1 cost 1", "  state n = 0",
+                   "  next n = n + 1", "  out y = 0 then n + 1")
+
+
+def wide_rows(occurrences):
+    """Lines of 170 bytes: eight outs of 19 digits and a sign."""
+    outs = (f"  out y{port} = 0 then -1234567890123456789 - n" for port in range(8))
+    return text_of("policy fp", f"until {occurrences}", "task k every 1 from 0 prio 1 cost 1", "  state n = 0",
+                   "  next n = n + 1", *outs)
+
+
+def many_tasks(occurrences):
+    """32 tasks of one period, of which each reads the one before, with 63 nodes each."""
+    lines = ["policy fp", f"until {occurrences}"]
+    for task in range(32):
+        lines.append(f"task t{task} every 32 from {task} prio {32 - task} cost 1")
+        lines += ["  state n = 0", "  next n = n + 1"]
+        terms = ["n"] + ["1"] * 31
+        if task:
+            lines.append(f"  read x = t{task - 1}.y")
+            terms[-1] = "x"
+        lines.append("  out y = 0 then " + " + ".join(terms))
+    return text_of(*lines)
+
+
+def many_reads(occurrences):
+    """The most reads: 24 tasks that count, and eight tasks of 16 reads, a quarter of them over delays of 1 to 8."""
+    lines = ["policy fp", f"until {occurrences}"]
+    for task in range(24):
+        lines += [f"task t{task} every 32 prio {32 - task} cost 1", "  state n = 0", "  next n = n + 1",
+                  "  out y = 0 then n + 1"]
+    for task in range(8):
+        lines.append(f"task r{task} every 32 prio {8 - task} cost 1")
+        for read in range(16):
+            delay = f"pre {1 + (task + read) % 8} " if read % 4 == 3 else ""
+            lines.append(f"  read x{read} = {delay}t{(task + read) % 24}.y")
+        lines.append("  out y = 0 then " + " + ".join(f"x{read}" for read in range(16)))
+    return text_of(*lines)
+
+
+def by_deadlines(occurrences):
+    """32 tasks by earliest deadlines: the processor is never idle, and each task reads one above it."""
+    lines = ["policy edf", f"until {occurrences}"]
+    for task in range(32):
+        lines += [f"task t{task} every {16 if task < 8 else 48} deadline {16 + task} cost 1", "  state n = 0",
+                  "  next n = n + 1"]
+        if task:
+            lines.append(f"  read x = t{task // 2}.y")
+        lines.append(f"  out y = 0 then n{' + x' if task else ''}")
+    return text_of(*lines)
+
+
+def preempted(releases):
+    """A short task that is released each other tick, and takes the processor from a long one each time."""
+    ticks = 2 * releases
+    return text_of("policy fp", f"until {ticks}", "task short every 2 prio 2 cost 1", "  state n = 0",
+                   "  next n = n + 1", "  out y = 0 then n + 1", f"task long every {ticks} prio 1 cost {releases - 1}",
+                   "  read x = short.y", "  out z = 0 then x")
+
+
+def preempted_in_turn(ticks):
+    """Five tasks, each twice as fast as the next, take the processor from each other and from one with eight reads."""
+    lines = ["policy fp", f"until {ticks}"]
+    for task, period in enumerate((2, 4, 8, 16, 32)):
+        lines += [f"task t{task} every {period} from {period // 2 - 1} prio {9 - task} cost 1",
+                  f"  read x = {f't{task - 1}.y' if task else 'pre low.y'}", "  out y = 0 then x + 1"]
+    lines.append("task low every 4096 prio 1 cost 100")
+    lines += [f"  read x{read} = t{read % 5}.y at {12 * read}" for read in range(8)]
+    return text_of(*lines, "  out y = 0 then " + " + ".join(f"x{read}" for read in range(8)))
+
+
+def expressions():
+    """0.9 MB of lets of 63 nodes with long names."""
+    lines = ["policy fp", "until 1"]
+    for task in range(32):
+        lines.append(f"task t{task} every 1 prio {task} cost 1")
+        names = [f"a_name_of_{let:03}" for let in range(63)]
+        for let, name in enumerate(names):
+            terms = [names[(let + term) % let] if let else "11111111111111" for term in range(32)]
+            lines.append(f"let {name} = " + "+".join(terms))
+        lines.append("out y = 0 then 0")
+    return text_of(*lines)
+
+
+def trace(rows, inputs, events):
+    """A trace of so many rows and columns; one task senses all inputs, and one occurs at each event of the first
+    column."""
+    names = [f"i{column}" for column in range(inputs)] + [f"e{column}" for column in range(events)]
+    lines = ["policy fp", f"until {rows}"]
+    lines += [f"input {name} = 0" for name in names[:inputs]] + [f"event {name}" for name in names[inputs:]]
+    lines += ["task all every 10 prio 1 cost 1"]
+    lines += [f"sense s{column} = i{column}" for column in range(inputs)]
+    lines += ["out y = 0 then " + " + ".join(f"s{column}" for column in range(inputs))]
+    lines += ["task count on e0 prio 2 cost 1", "state n = 0", "next n = n + 1", "out y = 0 then n + 1", "trace"]
+    lines += ["time," + ",".join(names)]
+    for row in range(rows):
+        cells = [""] * len(names)
+        cells[row % inputs] = str(row % 10)
+        if row % 7 == 0:
+            cells[inputs] = "1"
+        lines.append(f"{row}," + ",".join(cells))
+    return text_of(*lines)
+
+
+def script_of(line):
+    """A script section of one line, as often as a document has room for it."""
+    lines = ("policy fp", "until 0", "script")
+    room = MOST_BYTES - len(text_of(*lines))
+    return text_of(*lines, *[line] * (room // (len(line) + 1)))
+
+
+def instances(count):
+    """A script in which a task is released and served so often, step by step."""
+    steps = ["aim k 0", "open k", "start k", "hear k", "shut k", "put k y", "done k", "end k", "seen k"]
+    return text_of("policy fp", "until 20000", "task k every 1 prio 1 cost 1", "state n = 0", "next n = n + 1",
+                   "out y = 0 then n + 1", "script", *steps * count)
+
+
+def chain_steps(tasks, batch):
+    """The steps of a batch in which all tasks are released, and then served from the first one on. Each task but the
+    first reads the one before. The reader of a slot isn't known to have ended when its writer is aimed again, so two
+    slots take turns."""
+    names = [f"t{task}" for task in range(tasks)]
+    steps = []
+    for name in names:
+        steps += [f"seen {name}"] if batch else []
+        steps.append(f"aim {name} {batch % 2 if name != names[-1] else 0}")
+    steps += [f"claim {reader} {writer}" for writer, reader in zip(names, names[1:])]
+    steps += [f"open {name}" for name in names]
+    for name in names:
+        reads = [f"hear {name}", f"look {name} x", f"take {name} x"] if name != names[0] else []
+        steps += [f"start {name}", f"hear {name}", *reads]
+        steps += [f"shut {name}", f"put {name} y", f"done {name}", f"end {name}"]
+    return steps
+
+
+def chain_script(tasks):
+    """A script of a chain of tasks, in as many batches as a document has room for."""
+    lines = ["policy fp", f"until {tasks * 3000}"]
+    for task in range(tasks):
+        lines.append(f"task t{task} every {tasks} prio {tasks - task} cost 1")
+        lines.append(f"read x = t{task - 1}.y" if task else "let x = 1")
+        lines.append("out y = 0 then x + 1")
+    lines.append("script")
+    room, batch = MOST_BYTES - len(text_of(*lines)), 0
+    while True:
+        steps = chain_steps(tasks, batch)
+        room -= sum(len(step) + 1 for step in steps)
+        if room < 0:
+            return text_of(*lines)
+        lines += steps
+        batch += 1

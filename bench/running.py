@@ -1,0 +1,69 @@
+"""The program dbp, run by the scripts beside this file: what a run gives, and what it takes."""
+
+import os
+import re
+import subprocess
+import sys
+import tempfile
+import threading
+import time
+from dataclasses import dataclass
+from pathlib import Path
+
+BUILT = Path(__file__).resolve().parent.parent / "crates" / "dbp" / "out" / "dbp"
+
+
+@dataclass(frozen=True)
+class Run:
+    """What a run gave, and the seconds that it took, by the clock and of the processors."""
+
+    status: int
+    stdout: bytes
+    seconds: float
+    processor_seconds: float
+
+
+def add_program_option(parser):
+    """Adds the option that names another program than the one that ./dbp builds."""
+    parser.add_argument("--program", type=program, default=str(BUILT), help="the program (what ./dbp has built)")
+
+
+def program(text):
+    """Returns the path of a program, if it is one."""
+    if not os.access(text, os.X_OK):
+        sys.exit(f"{text} is no program; ./dbp builds it at its first call")
+    return text
+
+
+def run(command, document, limit=600, environment=None):
+    """Runs a command from a file into a file. After `limit` seconds it is killed, and its status is -9."""
+    with tempfile.TemporaryFile() as source, tempfile.TemporaryFile() as sink:
+        source.write(document)
+        source.seek(0)
+        start = time.perf_counter()
+        child = subprocess.Popen(command, stdin=source, stdout=sink, stderr=subprocess.DEVNULL, env=environment)
+        timer = threading.Timer(limit, child.kill)
+        timer.start()
+        _, status, used = os.wait4(child.pid, 0)
+        seconds = time.perf_counter() - start
+        timer.cancel()
+        child.returncode = os.waitstatus_to_exitcode(status)
+        sink.seek(0)
+        return Run(child.returncode, sink.read(), seconds, used.ru_utime + used.ru_stime)
+
+
+def peak_megabytes(command, document):
+    """Returns the peak memory of a run. Debian's `time` tells it: a child of Python begins with Python's own."""
+    with tempfile.NamedTemporaryFile() as told:
+        run(["/usr/bin/time", "-q", "-f", "%M", "-o", told.name, *command], document)
+        return int(told.read()) / 1024
+
+
+def counted_run(command, document, profile=None):
+    """Returns a run under valgrind, which runs one thread at a time, and how many million instructions it took. The
+    profile is a file for callgrind_annotate."""
+    with tempfile.NamedTemporaryFile() as unnamed:
+        file = profile or unnamed.name
+        counting = ["valgrind", "--tool=callgrind", f"--callgrind-out-file={file}"]
+        counted = run([*counting, *command], document, limit=3600)
+        return counted, int(re.search(r"^(?:summary|totals): (\d+)", Path(file).read_text(), re.M)[1]) / 1e6
