@@ -145,8 +145,17 @@ fn hold_up_each<R: Abort + Threads + Wait + Sync>(
     Ok(())
 }
 
+fn hold_up_in<R: Abort + Threads + Wait + Sync>(
+    rt: &R,
+    alloc: Global,
+    text: &str,
+) -> Result<(), Fail> {
+    let plan = plan_in(alloc, text)?;
+    hold_up_each(rt, alloc, &plan)
+}
+
 #[test]
 fn a_party_that_is_held_up_changes_nothing(rt: HostRuntime) -> Result<(), Fail> {
-    let plan = plan_in(rt.alloc(), THREE_RATES)?;
-    hold_up_each(&rt, rt.alloc(), &plan)
+    hold_up_in(&rt, rt.alloc(), THREE_RATES)?;
+    hold_up_in(&rt, rt.alloc(), METER)
 }
