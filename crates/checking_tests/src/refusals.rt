@@ -87,29 +87,3 @@ fn refusals_have_their_values(rt: HostRuntime) -> Result<(), Fail> {
     }
     Ok(())
 }
-
-// Codes as a refusal prints them after the number of its line. That of a cycle has a list, so no static has it.
-static CODES: [(CheckCode, &str); 8] = [
-    (CheckCode::Duplicate, "10 Duplicate"),
-    (CheckCode::Unknown, "11 Unknown"),
-    (CheckCode::SelfLink, "12 SelfLink"),
-    (CheckCode::MissingPrio, "14 MissingPrio"),
-    (CheckCode::MissingDeadline, "15 MissingDeadline"),
-    (CheckCode::ReadPastCost, "16 ReadPastCost"),
-    (CheckCode::NoOut, "17 NoOut"),
-    (
-        CheckCode::UndelayedUpward {
-            writer: 1,
-            reader: 2,
-        },
-        "18 UndelayedUpward",
-    ),
-];
-
-#[test]
-fn codes_are_shown_with_number_and_name(rt: HostRuntime) -> Result<(), Fail> {
-    for (code, want) in &CODES {
-        assert_eq!(rt; format!(in rt.alloc(); "{code}")?.as_str(), *want);
-    }
-    Ok(())
-}
