@@ -18,6 +18,7 @@ mod schedule;
 mod sink;
 mod source;
 mod table;
+mod task_numbers;
 
 pub use diagram::{Clock, Diagram, Input, Let, Link, Next, Out, Policy, Read, Sense, State, Task};
 pub use expr::Expr;
@@ -36,3 +37,4 @@ pub use schedule::{Batch, Sample};
 pub use sink::{Put, Sink, WriteSink};
 pub use source::{Got, ReadSource, Source};
 pub use table::{Table, TaskRows};
+pub use task_numbers::TaskNumbers;

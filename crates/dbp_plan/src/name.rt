@@ -31,22 +31,31 @@ impl Model for Name {
 }
 
 impl Name {
-    /// The name with these bytes, where they are one.
+    /// The name with these bytes, if they are one.
     pub fn of(bytes: &[u8]) -> Option<Name>
         ensures some { IfSome result (λ name. name ≡ bytes.now) }
         ensures exact { IsSome result ↔ IsName bytes.now }
     {
-        if !is_name(bytes) {
-            return None;
+        if is_name(bytes) {
+            Some(Name::of_text(bytes))
+        } else {
+            None
         }
+    }
+
+    /// The name with these bytes, for a caller who knows that they are one.
+    pub fn of_text(bytes: &[u8]) -> Name
+        requires { IsName bytes.now }
+        ensures { result ≡ bytes.now }
+    {
         let mut held = [0; MAX_NAME];
         for i in 0..bytes.len() {
             held[i] = bytes[i];
         }
-        Some(Name {
+        Name {
             held,
             count: bytes.len(),
-        })
+        }
     }
 
     /// The name's bytes.

@@ -1,6 +1,6 @@
 // When tasks occur, and when inputs take values.
 
-use crate::List;
+use crate::TaskNumbers;
 
 /// The tasks that occur at one time, in order of declaration.
 #[derive(Drop)]
@@ -8,7 +8,7 @@ pub struct Batch {
     /// In ticks from 0.
     pub time: u64,
     /// Their numbers, which rise.
-    pub tasks: List<u32>,
+    pub tasks: TaskNumbers,
 }
 
 /// A value that an input takes at a time.

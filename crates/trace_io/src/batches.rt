@@ -5,7 +5,9 @@ ghost use Rattle.trace_io.specs.Batches.{AreBatches, HasNumbersInRange, IsClockO
 ghost use Rattle.trace_io.specs.Merging.{AreNext, IsLeast, TakesDue};
 
 use crate::clocks::{nth_time, occurrences};
-use dbp_plan::{Batch, Clock, List, MAX_OCCURRENCES, MAX_TASKS, MAX_TIME, NoMemory, Task};
+use dbp_plan::{
+    Batch, Clock, List, MAX_OCCURRENCES, MAX_TASKS, MAX_TIME, NoMemory, Task, TaskNumbers,
+};
 use std::alloc::Global;
 
 /// How often all tasks together occur. No tick is walked.
@@ -92,7 +94,7 @@ fn take_due(
     taken: &mut [u64],
     next: &mut [Option<u64>],
     time: u64,
-) -> Result<List<u32>, NoMemory>
+) -> Result<TaskNumbers, NoMemory>
     requires clocks { All (IsClockOf (length events.now)) clocks.now }
     requires tasks { length clocks.now ≤ MAX_TASKS }
     requires table { IsTimetable until events.now }
@@ -103,7 +105,7 @@ fn take_due(
         TakesDue until events.now clocks.now taken.old taken.new time (length clocks.now) tasks) }
     ensures next { OnOk result (AreNext until events.now clocks.now taken.new next.new) }
 {
-    let mut tasks = List::new(alloc);
+    let mut tasks = TaskNumbers::new(alloc);
     for i in 0..clocks.len() {
         if next[i] == Some(time) {
             tasks.push(i as u32)?;
