@@ -1,6 +1,6 @@
 -- Steps of the two loops over the clocks.
-use Rattle.std.proofs.Common.{◌≡◌, ◌≢◌, ℕ, ◌+◌, ◌<◌, true, false, All, List, [], ◌∷◌, ◌++◌, length, get_or, set, arith, refl, ap, ◌∙◌, sym, inl, inr, Option}
-use Rattle.std.specs.Prelude.{◌==◌, ◌||◌}
+use Rattle.std.proofs.Common.{◌≡◌, ◌≢◌, ℕ, ◌+◌, ◌<◌, true, false, All, List, [], ◌∷◌, ◌++◌, length, get_or, set, arith, refl, ap, ◌∙◌, sym, inl, inr, Option, None, Some}
+use Rattle.std.specs.Prelude.{◌==◌, ◌||◌, unwrap_or}
 use Rattle.std.specs.List.{list_any}
 use Rattle.std.specs.List.Sorted.{IsStrictlyIncreasing}
 use Rattle.std.proofs.Math.Bool.{or-false, or-true}
@@ -78,17 +78,27 @@ pass-one until events clocks before after time n tasks t here = record {
 }
 
 -- an occurrence of clock n is taken, and its next time is found anew
-pub next-one : (until : ℕ) (events : List (List ℕ)) (clocks : List Clock) (taken : List ℕ) (next : List (Option ℕ)) (n : ℕ) (t : Option ℕ)
+pub next-one : (until : ℕ) (events : List (List ℕ)) (clocks : List Clock) (taken next : List ℕ) (n t : ℕ)
     → n < length taken → n < length next → AreNext until events clocks taken next
-    → ((d : Clock) → t ≡ time_at until events (get_or clocks n d) (get_or taken n 0 + 1))
+    → ((d : Clock) → t ≡ unwrap_or (time_at until events (get_or clocks n d) (get_or taken n 0 + 1)) until)
     → AreNext until events clocks (set taken n (get_or taken n 0 + 1)) (set next n t)
 next-one until events clocks taken next n t fits room are here = (
   length-set next n t ∙ are.0,
-  λ i d e less. elim (cases_eq i n) [
+  λ i d less. elim (cases_eq i n) [
     | inl same ↦
-        rw same (get_or-set_same next n t e room ∙ here d ∙ ap (λ k. time_at until events (get_or clocks n d) k) (sym (get_or-set_same taken n (get_or taken n 0 + 1) 0 fits)))
+        rw same (get_or-set_same next n t 0 room ∙ here d
+        ∙ ap (λ k. unwrap_or (time_at until events (get_or clocks n d) k) until) (sym (get_or-set_same taken n (get_or taken n 0 + 1) 0 fits)))
     | inr other ↦
-        get_or-set_other next n i t e (λ same. other same) ∙ are.1 i d e less
-        ∙ ap (λ k. time_at until events (get_or clocks i d) k) (sym (get_or-set_other taken n i (get_or taken n 0 + 1) 0 (λ same. other same)))
+        get_or-set_other next n i t 0 (λ same. other same) ∙ are.1 i d less
+        ∙ ap (λ k. unwrap_or (time_at until events (get_or clocks i d) k) until) (sym (get_or-set_other taken n i (get_or taken n 0 + 1) 0 (λ same. other same)))
   ],
 )
+
+-- whether a next occurrence, or the end, is at a time before the end
+pub at-next : (until time : ℕ) (o : Option ℕ) → time < until → unwrap_or o until ≡ time → is_at time o ≡ true
+at-next until time None below is = absurd (omega arith)
+at-next until time (Some t) below is = eq-eqb t time is
+
+pub not-at-next : (until time : ℕ) (o : Option ℕ) → unwrap_or o until ≢ time → is_at time o ≡ false
+not-at-next until time None other = refl
+not-at-next until time (Some t) other = ne_eqb t time other

@@ -1,6 +1,6 @@
 -- Batch by batch, all clocks are taken to their ends.
 use Rattle.std.proofs.Common.{◌≡◌, ◌≢◌, ℕ, zero, suc, ◌+◌, ◌*◌, ◌-◌, ◌<◌, ◌≤◌, true, false, All, List, [], ◌∷◌, ◌++◌, length, map, replicate, get_or, sum, arith, refl, ap, ◌∙◌, sym, subst, inl, inr, Option, Some, None}
-use Rattle.std.specs.Prelude.{◌==◌, nat_lt, max, IfSome, slice_index, slice_index_or, slice_get, sum_by}
+use Rattle.std.specs.Prelude.{◌==◌, nat_lt, max, IfSome, unwrap_or, slice_index, slice_index_or, slice_get, sum_by}
 use Rattle.std.specs.List.{list_any}
 use Rattle.std.specs.List.Sorted.{IsStrictlyIncreasing}
 use Rattle.std.proofs.lemmas.Bool.{cases_Bool, cases_lt, eq-eqb, eqb-true, false≢true}
@@ -21,7 +21,7 @@ use Rattle.dbp_plan.specs.Places.{front_place, last_place}
 use Rattle.dbp_plan.proofs.BatchTasks.{some_item}
 use Rattle.dbp_plan.proofs.TaskTimes.{times-named, times-other}
 use Rattle.trace_io.specs.Batches.{AreBatches, HasNumbersInRange, IsClockOf, IsTimetable, count_of}
-use Rattle.trace_io.specs.Merging.{AreNext, IsLeast, IsLeastNext, TakesDue, is_at, next_of}
+use Rattle.trace_io.specs.Merging.{AreNext, IsLeastBelow, IsLeastNext, TakesDue, is_at, next_of}
 use Rattle.trace_io.proofs.Due.{rising-push}
 
 -- a clock's next time is later
@@ -40,19 +40,38 @@ clock-ends until events (On event) k t table is here =
     let ends = All-get_or (All (λ u. u < until)) events event [] is table.ends in
     grind (arith, common_steps, gets, ends k t)
 
+-- a next occurrence stands by its time
+some_next : (until : ℕ) (o : Option ℕ) (time : ℕ) → time < until → unwrap_or o until ≡ time → o ≡ Some time
+some_next until None time below is = absurd (omega arith)
+some_next until (Some t) time below is = ap (λ n. Some n) is
+
+no_next : (until : ℕ) (o : Option ℕ) → IfSome o (λ t. t < until) → until ≤ unwrap_or o until → o ≡ None
+no_next until None below is = refl
+no_next until (Some t) below is = absurd (omega arith)
+
+later_next : (until : ℕ) (o : Option ℕ) (time : ℕ) → time ≤ unwrap_or o until → IfSome o (λ t. time ≤ t)
+later_next until None time less = tt
+later_next until (Some t) time less = less
+
+next_below : (until : ℕ) (events : List (List ℕ)) (clock : Clock) (k : ℕ) (o : Option ℕ) → time_at until events clock k ≡ o
+    → IsTimetable until events → IsClockOf (length events) clock → IfSome o (λ t. t < until)
+next_below until events clock k None here table is = tt
+next_below until events clock k (Some t) here table is = clock-ends until events clock k t table is here
+
 -- the least of the times of the clocks' next occurrences
-pub least-next : (until : ℕ) (events : List (List ℕ)) (clocks : List Clock) (taken : List ℕ) (next : List (Option ℕ)) (r : Option ℕ)
-    → IsTimetable until events → All (IsClockOf (length events)) clocks → AreNext until events clocks taken next → IsLeast next (length next) r
+pub least-next : (until : ℕ) (events : List (List ℕ)) (clocks : List Clock) (taken next : List ℕ) (r : Option ℕ)
+    → IsTimetable until events → All (IsClockOf (length events)) clocks → AreNext until events clocks taken next → IsLeastBelow until next r
     → IsLeastNext until events clocks taken (length clocks) r
-least-next until events clocks taken next None table is are none = λ i d less. sym (are.1 i d None less) ∙ none i None (omega (arith, are.0))
+least-next until events clocks taken next None table is are none = λ i d less.
+    no_next until (next_of until events clocks taken i d)
+    (next_below until events (slice_index_or clocks i d) (slice_index taken i) (next_of until events clocks taken i d) refl table (is i d (omega arith)))
+    (subst (λ n. until ≤ n) (are.1 i d less) (none i (omega (arith, are.0, less))))
 least-next until events clocks taken next (Some time) table is are least =
-    let i = least.0.0 in
-    let less : i < length clocks = omega (arith, least.0.1, are.0) in
-    let here : (d : Clock) → next_of until events clocks taken i d ≡ Some time = λ d. sym (are.1 i d None less) ∙ least.0.2 None in
-    let first : Clock = Every 0 0 in (
-      clock-ends until events (slice_index_or clocks i first) (slice_index taken i) time table (is i first less) (here first),
-      (i, less, here),
-      λ j d within. subst (λ (o : Option ℕ). IfSome o (λ t. time ≤ t)) (are.1 j d None within) (least.1 j None (omega (arith, are.0))),
+    let i = least.1.0 in
+    let less : i < length clocks = omega (arith, least.1.1, are.0) in (
+      least.0,
+      (i, less, λ d. some_next until (next_of until events clocks taken i d) time least.0 (sym (are.1 i d less) ∙ least.1.2)),
+      λ j d within. later_next until (next_of until events clocks taken j d) time (subst (λ n. time ≤ n) (are.1 j d within) (least.2 j (omega (arith, are.0, within)))),
     )
 
 -- once it has ended it has no further time

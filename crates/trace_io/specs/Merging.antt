@@ -1,5 +1,5 @@
 -- One step of the merge of clocks, of each of which so many occurrences were taken.
-use Rattle.std.specs.Prelude.{◌≡◌, ℕ, ◌+◌, ◌<◌, ◌≤◌, ◌==◌, nat_eq, Bool, true, false, All, List, length, sum, slice_index, slice_index_or, Option, Some, None, IfSome, MatchOption}
+use Rattle.std.specs.Prelude.{◌≡◌, ℕ, ◌+◌, ◌<◌, ◌≤◌, ◌==◌, nat_eq, Bool, true, false, All, List, length, sum, slice_index, slice_index_or, Option, Some, None, IfSome, MatchOption, unwrap_or}
 use Rattle.std.specs.List.{list_any}
 use Rattle.std.specs.List.Sorted.{IsStrictlyIncreasing}
 use Rattle.std.specs.Option.{option_eq}
@@ -18,17 +18,17 @@ IsLeastNext until events clocks taken n r = MatchOption r
     × ((i : ℕ) × (i < n) × ((d : Clock) → next_of until events clocks taken i d ≡ Some time))
     × ((i : ℕ) (d : Clock) → i < n → IfSome (next_of until events clocks taken i d) (λ t. time ≤ t)))
 
--- the times of all clocks' next occurrences
-abbrev pub AreNext : ℕ → List (List ℕ) → List Clock → List ℕ → List (Option ℕ) → Type 0
+-- the times of all clocks' next occurrences, and `until` for a clock that has none
+abbrev pub AreNext : ℕ → List (List ℕ) → List Clock → List ℕ → List ℕ → Type 0
 AreNext until events clocks taken next = (length next ≡ length clocks)
-    × ((i : ℕ) (d : Clock) (e : Option ℕ) → i < length clocks → slice_index_or next i e ≡ next_of until events clocks taken i d)
+    × ((i : ℕ) (d : Clock) → i < length clocks → slice_index next i ≡ unwrap_or (next_of until events clocks taken i d) until)
 
--- none of the first n is a time, or the least of them is this one
-abbrev pub IsLeast : List (Option ℕ) → ℕ → Option ℕ → Type 0
-IsLeast times n r = MatchOption r
-    ((i : ℕ) (e : Option ℕ) → i < n → slice_index_or times i e ≡ None)
-    (λ time. ((i : ℕ) × (i < n) × ((e : Option ℕ) → slice_index_or times i e ≡ Some time))
-    × ((i : ℕ) (e : Option ℕ) → i < n → IfSome (slice_index_or times i e) (λ t. time ≤ t)))
+-- none of the times is below the end, or the least of them is this one
+abbrev pub IsLeastBelow : ℕ → List ℕ → Option ℕ → Type 0
+IsLeastBelow until times r = MatchOption r
+    ((i : ℕ) → i < length times → until ≤ slice_index times i)
+    (λ time. (time < until) × ((i : ℕ) × (i < length times) × (slice_index times i ≡ time))
+    × ((i : ℕ) → i < length times → time ≤ slice_index times i))
 
 -- whether a next occurrence is at this time
 abbrev pub is_at : ℕ → Option ℕ → Bool

@@ -2,7 +2,7 @@
 
 ghost use Rattle.std.specs.Prelude.{◌≡◌, ◌<◌, ◌≤◌, All, IfOk, OnOk, length, map};
 ghost use Rattle.trace_io.specs.Batches.{AreBatches, HasNumbersInRange, IsClockOf, IsTimetable, total_of};
-ghost use Rattle.trace_io.specs.Merging.{AreNext, IsLeast, TakesDue};
+ghost use Rattle.trace_io.specs.Merging.{AreNext, IsLeastBelow, TakesDue};
 
 use crate::clocks::{nth_time, occurrences};
 use dbp_plan::{
@@ -41,21 +41,21 @@ pub(crate) fn merged(
     let mut taken = vec![in alloc; 0u64; clocks.len()]?;
     let mut next = next_times(alloc, until, events, clocks, &taken)?;
     let mut made = List::new(alloc);
-    while let Some(time) = least(&next) {
+    while let Some(time) = least_below(until, &next) {
         let tasks = take_due(alloc, until, events, clocks, &mut taken, &mut next, time)?;
         made.push(Batch { time, tasks })?;
     }
     Ok(made)
 }
 
-// The time of each clock's next occurrence, where so many of each were taken.
+// The time of each clock's next occurrence after so many, or `until` if it has none.
 fn next_times(
     alloc: Global,
     until: u64,
     events: &[List<u64>],
     clocks: &[Clock],
     taken: &[u64],
-) -> Result<Vec<Option<u64>>, NoMemory>
+) -> Result<Vec<u64>, NoMemory>
     requires clocks { All (IsClockOf (length events.now)) clocks.now }
     requires table { IsTimetable until events.now }
     requires places { length taken.now ≡ length clocks.now }
@@ -64,25 +64,20 @@ fn next_times(
 {
     let mut next = Vec::new(alloc);
     for i in 0..clocks.len() {
-        next.push(nth_time(until, events, clocks[i], taken[i]))?;
+        next.push(nth_time(until, events, clocks[i], taken[i]).unwrap_or(until))?;
     }
     Ok(next)
 }
 
-// The least of the times.
-fn least(times: &[Option<u64>]) -> Option<u64>
-    ensures { IsLeast times.now (length times.now) result }
+// The least of the times that are below `until`.
+fn least_below(until: u64, times: &[u64]) -> Option<u64>
+    ensures { IsLeastBelow until times.now result }
 {
-    let mut least = None;
+    let mut least = until;
     for i in 0..times.len() {
-        if let Some(time) = times[i] {
-            least = match least {
-                Some(other) if other <= time => Some(other),
-                _ => Some(time),
-            };
-        }
+        least = least.min(times[i]);
     }
-    least
+    if least < until { Some(least) } else { None }
 }
 
 // The tasks whose next occurrence is at this time, in order. Each of these occurrences is then taken.
@@ -92,7 +87,7 @@ fn take_due(
     events: &[List<u64>],
     clocks: &[Clock],
     taken: &mut [u64],
-    next: &mut [Option<u64>],
+    next: &mut [u64],
     time: u64,
 ) -> Result<TaskNumbers, NoMemory>
     requires clocks { All (IsClockOf (length events.now)) clocks.now }
@@ -101,16 +96,17 @@ fn take_due(
     requires places { length taken.old ≡ length clocks.now }
     requires few { All (λ n. n ≤ MAX_OCCURRENCES) taken.old }
     requires next { AreNext until events.now clocks.now taken.old next.old }
+    requires time { time < until }
     ensures due { IfOk result (λ tasks.
         TakesDue until events.now clocks.now taken.old taken.new time (length clocks.now) tasks) }
     ensures next { OnOk result (AreNext until events.now clocks.now taken.new next.new) }
 {
     let mut tasks = TaskNumbers::new(alloc);
     for i in 0..clocks.len() {
-        if next[i] == Some(time) {
+        if next[i] == time {
             tasks.push(i as u32)?;
             taken[i] += 1;
-            next[i] = nth_time(until, events, clocks[i], taken[i]);
+            next[i] = nth_time(until, events, clocks[i], taken[i]).unwrap_or(until);
         }
     }
     Ok(tasks)

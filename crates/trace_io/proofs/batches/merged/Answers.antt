@@ -1,7 +1,7 @@
 use Rattle.std.proofs.Common.{◌≡◌, ◌<◌, ◌≤◌, ◌++◌, ◌∷◌, [], length, rules, arith, sym, ◌∙◌, Some, None}
 use Rattle.dbp_plan.specs.declared.schedule.Batch.{Batch}
 use Rattle.dbp_plan.proofs.ListParts.{refilled}
-use Rattle.trace_io.specs.Merging.{AreNext, IsLeast, TakesDue}
+use Rattle.trace_io.specs.Merging.{AreNext, IsLeastBelow, TakesDue}
 use Rattle.trace_io.proofs.Merges.{Merged, after, after-push, least-next, merge-step, merge-end, made-few, taken-small}
 use Rattle.trace_io.proofs.batches.merged.Goals as goal
 
@@ -22,7 +22,7 @@ Turns c =
 
 turn : (c : goal.In_ok-push) → Turns c
 turn c =
-    let found : IsLeast c.loop-time.next.items (length c.loop-time.next.items) (Some c.in-Some.time) = rw (c.in-Some.is, c.deref-in-loop-time.ensures.value) at c.least.ensures in
+    let found : IsLeastBelow c.args.until c.loop-time.next.items (Some c.in-Some.time) = rw (c.in-Some.is, c.deref-in-loop-time.ensures.value) at c.least_below.ensures in
     let least = least-next c.args.until c.args.events.now c.args.clocks.now c.loop-time.taken.items c.loop-time.next.items (Some c.in-Some.time) c.requires.table c.requires.clocks c.loop-time.invariant.now found in
     let due : TakesDue c.args.until c.args.events.now c.args.clocks.now c.loop-time.taken.items c.take_due.new.taken c.in-Some.time (length c.args.clocks.now) c.in_ok-tasks.tasks = rw (c.in_ok-tasks.was, c.deref_mut.ensures.value) at c.take_due.ensures.due in
     merge-step c.args.until c.args.events.now c.args.clocks.now c.loop-time.taken.items c.take_due.new.taken c.loop-time.made c.in-Some.time c.in_ok-tasks.tasks
@@ -49,6 +49,6 @@ loop-time-preserved c =
 
 pub returns : goal.returns
 returns c =
-    let none : IsLeast c.loop-time.next.items (length c.loop-time.next.items) None = rw (c.in_default.is, c.deref-in-loop-time.ensures.value) at c.least.ensures in
+    let none : IsLeastBelow c.args.until c.loop-time.next.items None = rw (c.in_default.is, c.deref-in-loop-time.ensures.value) at c.least_below.ensures in
     let ended = least-next c.args.until c.args.events.now c.args.clocks.now c.loop-time.taken.items c.loop-time.next.items None c.requires.table c.requires.clocks c.loop-time.invariant.now none in
     merge-end c.args.until c.args.events.now c.args.clocks.now c.loop-time.taken.items c.loop-time.made c.requires.clocks c.requires.few c.loop-time.invariant.merged ended
