@@ -127,8 +127,8 @@ fn least_free(wiring: &Wiring, part: &ReleaserPart, i: u32) -> u32
 
 impl ReleaserPart {
     /// The least slot that the task may be aimed at: the least that no counted claim needs and that doesn't stay kept.
-    /// The task's aim is the next action, and its last instance is known to have ended. It takes no memory, and looks
-    /// once at each link that leaves the task.
+    /// The task's aim is the next action, and its last instance is known to have ended. It takes no memory; its time grows
+    /// with the number of the task's links and slots.
     pub fn least_aim(&self, wiring: &Wiring, task: u32) -> u32
         requires task { task < length wiring.now.tasks }
         requires links { LinksFit wiring.now }

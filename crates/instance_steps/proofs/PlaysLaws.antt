@@ -17,6 +17,15 @@ module _ (p : Plan) (w : Wiring) where
   plays_on (v ∷ vs) us [] fs s t u none rest = absurd none
   plays_on (v ∷ vs) us (e ∷ es) fs s t u plays rest = (plays.0, plays.1, plays_on vs us es fs (next p w s e) t u plays.2 rest)
 
+  -- and the other way round
+  pub plays_apart : (vs us : List Event) (es : List Step) (s u : State) → Plays p w s (vs ++ us) es u
+      → (front : List Step) × (back : List Step) × (t : State) × (es ≡ front ++ back) × Plays p w s vs front t × Plays p w t us back u
+  plays_apart [] us es s u plays = ([], es, s, refl, refl, plays)
+  plays_apart (v ∷ vs) us [] s u none = absurd none
+  plays_apart (v ∷ vs) us (e ∷ es) s u plays =
+      let (front, back, t, parts, first, rest) = plays_apart vs us es (next p w s e) u plays.2 in
+      (e ∷ front, back, t, ap (λ (l : List Step). e ∷ l) parts, (plays.0, plays.1, first), rest)
+
   -- one step
   pub plays_one : (v : Event) (e : Step) (s : State) → IsStepOf w s v e → Moves p w s e → Plays p w s (v ∷ []) (e ∷ []) (next p w s e)
   plays_one v e s is moves = (is, moves, refl)

@@ -22,10 +22,17 @@ pub fn played_steps_are_allowed()
         → Plays p w s events steps t → length steps ≡ length events }
 {}
 
-/// Steps that play events, and from where they lead steps that play more, play both lists together.
+/// Steps that play events, and from where they lead steps that play more, play both lists together. Steps that play both
+/// lists are such steps, one after another.
 pub fn pieces_go_together()
-    ensures { (p : Plan) (w : Wiring) (first then_ : Items Event) (steps more : Items Step) (s t u : State)
-        → Plays p w s first steps t → Plays p w t then_ more u → Plays p w s (first ++ then_) (steps ++ more) u }
+    ensures together { (p : Plan) (w : Wiring) (first then_ : Items Event) (steps more : Items Step)
+        (s t u : State)
+        → Plays p w s first steps t → Plays p w t then_ more u
+        → Plays p w s (first ++ then_) (steps ++ more) u }
+    ensures apart { (p : Plan) (w : Wiring) (first then_ : Items Event) (both : Items Step) (s u : State)
+        → Plays p w s (first ++ then_) both u
+        → (steps : Items Step) × (more : Items Step) × (t : State) × (both ≡ steps ++ more)
+        × Plays p w s first steps t × Plays p w t then_ more u }
 {}
 
 /// The rows of ended instances are those of any state in which as many have ended. If all have, they are the meaning.

@@ -61,6 +61,7 @@ impl Recorder {
     ) -> Result<Recorder, NoMemory>
         ensures plan { IfOk result (λ r. plan_in r ≡ plan.value) }
         ensures count { IfOk result (λ r. count_in r ≡ count) }
+        ensures wiring { IfOk result (λ r. wiring_in r ≡ wiring_of plan.value count) }
         ensures start { IfOk result (λ r.
             state_in r ≡ start_of plan.value (wiring_of plan.value count)) }
         ensures steps { IfOk result (λ r. record_in r ≡ first_record keeping) }

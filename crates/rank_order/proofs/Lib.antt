@@ -8,4 +8,5 @@ pub mod PlanNumbers
 pub mod Queues
 pub mod Releases
 pub mod ServedTicks
+pub mod SomeOverrun
 pub mod SomeService

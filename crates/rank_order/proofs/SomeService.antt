@@ -19,7 +19,7 @@ use Rattle.rank_order.proofs.ServedTicks.{served_next, served_none}
 abbrev key : Plan → Instance → Key
 key p x = key_of p.diagram x.task (release_of p x)
 
-abbrev Among : List Instance → Instance → Type 0
+abbrev pub Among : List Instance → Instance → Type 0
 Among [] x = ⊥
 Among (y ∷ ys) x = (x ≡ y) ⊎ Among ys x
 
@@ -104,10 +104,10 @@ among_of i (suc n) x =
           (cases_eq x.number (suc n)),
     )
 
-abbrev IsBelow : Plan → ℕ → Instance → Type 0
+abbrev pub IsBelow : Plan → ℕ → Instance → Type 0
 IsBelow p n x = (x.task < n) × (1 ≤ x.number) × (x.number ≤ length (times_of p.batches x.task))
 
-among_below : (p : Plan) (n : ℕ) (x : Instance) → (Among (instances_below p n) x → IsBelow p n x) × (IsBelow p n x → Among (instances_below p n) x)
+pub among_below : (p : Plan) (n : ℕ) (x : Instance) → (Among (instances_below p n) x → IsBelow p n x) × (IsBelow p n x → Among (instances_below p n) x)
 among_below p zero x = ((λ none. absurd none), λ w. absurd (omega (arith, w.0)))
 among_below p (suc n) x =
     let rest = among_below p n x in

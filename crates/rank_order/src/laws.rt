@@ -1,8 +1,8 @@
 // What holds of the service of every plan.
 
-ghost use Rattle.std.specs.Prelude.{◌≡◌, ℕ, Option};
+ghost use Rattle.std.specs.Prelude.{◌≡◌, ◌⊎◌, ℕ, Option};
 ghost use Rattle.dbp_plan.specs.declared.plan.Plan.{Plan};
-ghost use Rattle.rank_order.specs.Ends.{IsEnd, IsOverrun};
+ghost use Rattle.rank_order.specs.Ends.{IsEnd, IsOverrun, NoOverrun};
 ghost use Rattle.rank_order.specs.Instances.{Instance};
 ghost use Rattle.rank_order.specs.Service.{IsService};
 ghost use Rattle.rank_order.specs.ServiceOf.{service};
@@ -20,8 +20,11 @@ pub fn a_service_has_one_end_of_each_instance()
         → IsEnd serve x e → IsEnd serve x f → e ≡ f }
 {}
 
-/// Whatever is left of the instances, the overrun is one time and one instance.
+/// Whatever is left of the instances, either no release comes too early or there is an overrun, of one time and one
+/// instance.
 pub fn a_service_has_one_overrun()
+    ensures there { (p : Plan) (left : Instance → ℕ → ℕ)
+        → NoOverrun p left ⊎ ((t : ℕ) × (x : Instance) × IsOverrun p left t x) }
     ensures time { (p : Plan) (left : Instance → ℕ → ℕ) (t u : ℕ) (x y : Instance)
         → IsOverrun p left t x → IsOverrun p left u y → t ≡ u }
     ensures instance { (p : Plan) (left : Instance → ℕ → ℕ) (t u : ℕ) (x y : Instance)

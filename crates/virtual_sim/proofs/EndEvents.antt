@@ -1,6 +1,7 @@
 -- The end of an instance stands in the record at the time of its end.
-use Rattle.std.proofs.Common.{◌≡◌, ◌≢◌, ℕ, zero, suc, ◌+◌, ◌-◌, ◌<◌, ◌≤◌, ◌⊎◌, List, [], Option, Some, None, refl, sym, ap, ◌∙◌, subst, inl, inr, ⊎_elim, arith}
+use Rattle.std.proofs.Common.{◌≡◌, ◌≢◌, ℕ, zero, suc, ◌+◌, ◌-◌, ◌<◌, ◌≤◌, ◌⊎◌, List, [], ◌++◌, append_assoc, Option, Some, None, refl, sym, ap, ◌∙◌, subst, inl, inr, ⊎_elim, arith}
 use Rattle.std.proofs.lemmas.Bool.{cases_eq, cases_lt}
+use Rattle.std.proofs.lemmas.List.{append-nil}
 use Rattle.dbp_plan.specs.declared.plan.Plan.{Plan}
 use Rattle.rank_order.specs.Ends.{IsEnd}
 use Rattle.rank_order.specs.Instances.{Instance}
@@ -16,10 +17,13 @@ use Rattle.dbp_rules.specs.Wired.{wiring_of}
 use Rattle.dbp_rules.specs.declared.state.State.{State}
 use Rattle.dbp_rules.specs.declared.step.Count.TheVariants.{Ranked}
 use Rattle.dbp_rules.specs.declared.step.Step.{Step}
-use Rattle.instance_steps.specs.Events.{end_events}
-use Rattle.instance_steps.proofs.PlaysLaws.{plays_leads}
-use Rattle.virtual_sim.specs.Record.{IsRecord, end_events_at, end_events_of, events_before}
-use Rattle.virtual_sim.proofs.Recorded.{an_end, no_end}
+use Rattle.dbp_rules.specs.declared.wiring.Wiring.{Wiring}
+use Rattle.instance_steps.specs.Events.{Event, end_events}
+use Rattle.instance_steps.specs.Plays.{Plays}
+use Rattle.instance_steps.proofs.PlaysLaws.{plays_apart, plays_leads}
+use Rattle.virtual_sim.specs.Record.{HasEndAt, IsRecord, end_events_at, end_events_of, events_at, events_before, release_events_at, service_events_of}
+use Rattle.virtual_sim.proofs.OneRecord.{none_served}
+use Rattle.virtual_sim.proofs.Recorded.{an_end, next_events, no_end}
 
 module _ (p : Plan) (serve : ℕ → Option Instance) (is_service : IsService p serve) where
   -- a tick has no end, or that of the instance that ends then
@@ -70,6 +74,53 @@ end_stands p script record_is x e end =
     ap (end_events_at p (service p)) next
     ∙ ap (λ (o : Option Instance). end_events_of p (service p) o (suc end.last)) end.served
     ∙ an_end p (service p) x (suc end.last) (subst (λ (u : ℕ). left_of p (service p) x u ≡ 0) next done)
+
+-- the events up to a later tick are those before this one, then this one's, then others
+events_on : (p : Plan) (serve : ℕ → Option Instance) (t k : ℕ)
+    → (more : List Event) × (events_before p serve (t + suc k) ≡ events_before p serve t ++ (events_at p serve t ++ more))
+events_on p serve t zero =
+    let one : t + 1 ≡ suc t = omega arith in
+    ([], ap (events_before p serve) one ∙ next_events p serve t ∙ ap (λ (l : List Event). events_before p serve t ++ l) (sym (append-nil (events_at p serve t))))
+events_on p serve t (suc k) =
+    let next : t + suc (suc k) ≡ suc (t + suc k) = omega arith in
+    let (more, is) = events_on p serve t k in
+    let last : List Event = events_at p serve (t + suc k) in (
+      more ++ last,
+      ap (events_before p serve) next ∙ next_events p serve (t + suc k) ∙ ap (λ (l : List Event). l ++ last) is
+          ∙ append_assoc (events_before p serve t) (events_at p serve t ++ more) last
+          ∙ ap (λ (l : List Event). events_before p serve t ++ l) (append_assoc (events_at p serve t) more last),
+    )
+
+-- and its steps are in the list
+pub end_is_there : (p : Plan) (script : List Step) → IsRecord p script → (x : Instance) (e : ℕ) → IsEnd (service p) x e → HasEndAt p script x.task e
+end_is_there p script r x e end =
+    let w : Wiring = wiring_of p Ranked in
+    let serve : ℕ → Option Instance = service p in
+    let there : end.last < r.last = ⊎_elim
+    (λ (lt : end.last < r.last). lt)
+    (λ (ge : r.last ≤ end.last). absurd (let bad : Some x ≡ None = sym end.served ∙ none_served p (service p) (service_is p) r.last r.released r.ended end.last ge in cc))
+    (cases_lt end.last r.last) in
+    let until : e + suc (r.last - e) ≡ r.last + 1 = omega (arith, there, end.after) in
+    let (more, parted) = events_on p (service p) e (r.last - e) in
+    let own : List Event = end_events p x.task in
+    let other : List Event = release_events_at p (service p) p.batches e ++ service_events_of p (service p) (service p e) e in
+    let is : events_before p (service p) (r.last + 1) ≡ events_before p (service p) e ++ (own ++ (other ++ more)) =
+    ap (events_before p (service p)) (sym until) ∙ parted
+    ∙ ap (λ (l : List Event). events_before p (service p) e ++ l)
+    (append_assoc (end_events_at p (service p) e) other more ∙ ap (λ (l : List Event). l ++ (other ++ more)) (end_stands p script r x e end)) in
+    let (earlier, back, before, list, ticks, rest) = plays_apart p w (events_before p (service p) e) (own ++ (other ++ more)) script (start_of p w) r.state
+    (subst (λ (l : List Event). Plays p (wiring_of p Ranked) (start_of p (wiring_of p Ranked)) l script r.state) is r.plays) in
+    let (ending, later, after, parts, ends, late) = plays_apart p w own (other ++ more) back before r.state rest in
+    record {
+      earlier = earlier;
+      ending = ending;
+      later = later;
+      list = list ∙ ap (λ (l : List Step). earlier ++ l) parts;
+      before = before;
+      after = after;
+      ticks = ticks;
+      ends = ends;
+    }
 
 -- the recorded list is one of allowed steps
 pub record_leads : (p : Plan) (script : List Step) → IsRecord p script → (s : State) × Leads p (wiring_of p Ranked) (start_of p (wiring_of p Ranked)) script s

@@ -43,7 +43,7 @@ one_play p w (v ∷ vs) (e ∷ es) (f ∷ fs) s t u h k =
 
 module _ (p : Plan) (serve : ℕ → Option Instance) (service : IsService p serve) (last : ℕ)
     (released : All (λ b. b.time ≤ last) p.batches) (ended : (x : Instance) → IsInstance p x → left_of p serve x last ≡ 0) where
-  none_served : (t : ℕ) → last ≤ t → serve t ≡ None
+  pub none_served : (t : ℕ) → last ≤ t → serve t ≡ None
   none_served t le = none (serve t) refl
     where
       none : (o : Option Instance) → serve t ≡ o → serve t ≡ None

@@ -1,7 +1,9 @@
-pub mod Budgets
-pub mod Events
+-- Definitions that public clauses cite.
 pub mod Outcomes
 pub mod Record
+-- What private functions, the inside of types and proofs cite.
+pub mod Budgets
+pub mod Events
 pub mod Recordings
 pub mod Runs
 pub mod Simulations

@@ -53,6 +53,18 @@ module _ (p : Plan) (serve : ℕ → Option Instance) where
   abbrev pub events_so_far : ℕ → ℕ → List Event
   events_so_far b t = events_before t ++ (end_events_at t ++ release_events_at (take b p.batches) t)
 
+-- In the list stand the steps of all ticks before the time, and right after them those by which the task's instance ends.
+pub record HasEndAt (p : Plan) (script : List Step) (task time : ℕ) : Type 0 where
+  pub earlier : List Step
+  pub ending : List Step
+  pub later : List Step
+  pub list : script ≡ earlier ++ (ending ++ later)
+  pub before : State
+  pub after : State
+  pub ticks : Plays p (wiring_of p Ranked) (start_of p (wiring_of p Ranked))
+      (events_before p (service p) time) earlier before
+  pub ends : Plays p (wiring_of p Ranked) before (end_events p task) ending after
+
 -- No release comes too early, and the steps play the events of all ticks up to one at which all batches are released and
 -- nothing is left of any instance. Later ticks have no events.
 pub record IsRecord (p : Plan) (script : List Step) : Type 0 where

@@ -13,7 +13,7 @@ ghost use Rattle.rank_order.specs.Ends.{IsEnd, IsOverrun};
 ghost use Rattle.rank_order.specs.Instances.{Instance};
 ghost use Rattle.rank_order.specs.Service.{left_of};
 ghost use Rattle.rank_order.specs.ServiceOf.{service};
-ghost use Rattle.virtual_sim.specs.Record.{IsRecord, end_events_at};
+ghost use Rattle.virtual_sim.specs.Record.{HasEndAt, IsRecord, end_events_at};
 
 /// A plan has one recorded list at most, and one overrun at most, and never both.
 pub fn a_plan_has_one_outcome()
@@ -35,10 +35,12 @@ pub fn a_recorded_list_is_ranked()
         → (s : State) × Leads p (wiring_of p Ranked) (start_of p (wiring_of p Ranked)) script s }
 {}
 
-/// In a recorded list the steps by which an instance ends stand in the tick of its end, and no such steps elsewhere. Each
-/// tick has its own part of the list.
+/// In a recorded list the steps by which an instance ends stand right after those of all ticks before its end, so they are
+/// the first ones of that tick. They are the only such steps of the tick, and a tick at which no instance ends has none.
 pub fn recorded_ends_stand_at_their_times()
     ensures there { (p : Plan) (script : Items Step) (x : Instance) (e : ℕ) → IsRecord p script
+        → IsEnd (service p) x e → HasEndAt p script x.task e }
+    ensures whole { (p : Plan) (script : Items Step) (x : Instance) (e : ℕ) → IsRecord p script
         → IsEnd (service p) x e → end_events_at p (service p) e ≡ end_events p x.task }
     ensures only { (p : Plan) (t : ℕ) → (end_events_at p (service p) t ≡ [])
         ⊎ ((x : Instance) × IsEnd (service p) x t

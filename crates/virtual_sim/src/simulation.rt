@@ -21,7 +21,7 @@ pub(crate) struct Simulation {
 }
 
 impl Simulation {
-    ghost use Rattle.std.specs.Prelude.{is_some};
+    ghost use Rattle.std.specs.Prelude.{is_some, true, Err};
     ghost use Rattle.dbp_plan.specs.Lookups.{declared};
     ghost use Rattle.rank_order.specs.Queue.{IsServedFirst};
     ghost use Rattle.rank_order.specs.ServiceOf.{service};
@@ -31,8 +31,10 @@ impl Simulation {
     ghost use Rattle.instance_steps.specs.TaskPieces.{place_after};
     ghost use Rattle.virtual_sim.specs.Record.{begin_events_at, events_so_far};
     ghost use Rattle.virtual_sim.specs.Recordings.{IsRecorded, places_with};
+    ghost use Rattle.virtual_sim.specs.Runs.{is_in};
     ghost use Rattle.virtual_sim.specs.Simulations.{IsSimulation};
     ghost use Rattle.virtual_sim.specs.State.{NoBatchBefore};
+    ghost use Rattle.virtual_sim.specs.declared.outcome.SimFail.TheVariants.{NoMemory as OutOfMemory};
 
     // Nothing is released yet.
     fn new(alloc: Global, plan: &Rc<Plan>, keeping: Keeping) -> Result<Simulation, NoMemory>
@@ -160,16 +162,19 @@ impl Simulation {
         Ok(())
     }
 
-    // Releases the next batch, unless it comes too early.
+    // Releases the next batch, unless it comes too early. It runs out of memory only if it doesn't.
     fn release(&mut self, plan: &Plan) -> Result<(), SimFail>
         requires simulation { IsSimulation plan.now self.old }
         requires more { self.old.run.released < length plan.now.batches }
         requires due { self.old.run.time ≡ (batch_at plan.now self.old.run.released).time }
-        ensures { MatchResult result
+        ensures outcome { MatchResult result
             (λ _. IsSimulation plan.now self.new
             × (self.new.run.released ≡ self.old.run.released + 1)
             × (is_some (record_in self.new.recorder) ≡ is_some (record_in self.old.recorder)))
             (λ why. IsSimFail plan.now why) }
+        ensures no_memory { result ≡ Err OutOfMemory → (i : ℕ)
+            → is_in (batch_at plan.now self.old.run.released).tasks i ≡ true
+            → slice_index self.old.run.rest.items i ≡ 0 }
     {
         if let Some(task) = self.run.late_task(plan) {
             return Err(SimFail::Overrun {

@@ -27,8 +27,8 @@ overflow_add-result c =
     let few = few_ends c.args.plan.now s.run c.requires.simulation.run i c.in-Some.ensures.small in
     omega (arith, c.len.ensures, few, ap length read)
 
-pub returns-in-Some : goal.returns-in-Some
-returns-in-Some c =
+pub returns-in-Some-clause-outcome : goal.returns-in-Some-clause-outcome
+returns-in-Some-clause-outcome c =
     let p = c.args.plan.now in
     let s = c.args.self.now in
     let i = c.in-Some.task in
@@ -66,8 +66,8 @@ renew-requires c = record {
   free = c.in_default.ensures;
 }
 
-pub returns : goal.returns
-returns c =
+pub returns-clause-outcome : goal.returns-clause-outcome
+returns-clause-outcome c =
     let p = c.args.plan.now in
     let s = c.args.self.now in (
       renews p s _ c.requires.simulation c.requires.more c.requires.due c.in_default.ensures c.renew.ensures.run c.renew.ensures.time c.renew.ensures.released c.renew.ensures.rest c.renew.ensures.ends
