@@ -1,6 +1,6 @@
 // The tokens of a line, and its first fault.
 
-ghost use Rattle.std.specs.Prelude.{◌≡◌, ◌⊎◌, false, not, List, Err, IfOk, IfErr, MatchResult, filter, length};
+ghost use Rattle.std.specs.Prelude.{◌≡◌, ◌⊎◌, false, List, Err, IfOk, IfErr, MatchResult};
 ghost use Rattle.std.specs.List.{list_all};
 ghost use Rattle.dia_tokens.specs.Kinds.{is_allowed};
 ghost use Rattle.dia_tokens.specs.Line.{Spells, HasBadStart, HasFault, Refuses};
@@ -59,18 +59,13 @@ fn is_allowed_byte(byte: u8) -> bool
     matches!(byte, b' '..=b'~' | b'\t')
 }
 
-// How many of the bytes no line may have. All are looked at, since a search for the first one would go byte by byte.
-fn bad_bytes(line: &[u8]) -> usize
-    ensures { result ≡ length (filter (λ b. not (is_allowed b)) line.now) }
-{
-    line.iter().filter(|byte| !is_allowed_byte(**byte)).count()
-}
-
 /// Whether a line may have each of these bytes.
 pub fn all_allowed(line: &[u8]) -> bool
     ensures { result ≡ list_all is_allowed line.now }
 {
-    bad_bytes(line) == 0
+    // All are looked at, since a search for the first one that isn't allowed would go byte by byte.
+    line.iter()
+        .fold(true, |allowed, byte| allowed & is_allowed_byte(*byte))
 }
 
 /// The tokens of a line, or its first fault.
