@@ -49,14 +49,17 @@ fn word_among(words: &[Word], text: &[u8]) -> Option<Word>
     words.iter().find(|word| is_text(**word, text)).copied()
 }
 
-/// A reserved word, or else a name.
-#[tactic(auto, using(crate::proofs::WordLaws::among_from), unfolding(crate::specs::Words::word_of))]
+/// A reserved word, or else a name. Words have 2 to 8 bytes.
+#[tactic(auto, using(crate::proofs::WordLaws::among_from, crate::proofs::WordLaws::no_word), unfolding(crate::specs::Words::word_of))]
 pub(crate) fn word_or_name<'a>(text: &'a [u8]) -> Piece<'a>
     ensures { seen result ≡ word_of text.now }
 {
     let [first, ..] = text else {
         return Piece::Name(text);
     };
+    if text.len() < 2 || 8 < text.len() {
+        return Piece::Name(text);
+    }
     match word_among(words_from(*first), text) {
         Some(word) => Piece::Word(word),
         None => Piece::Name(text),
