@@ -5,3 +5,4 @@ pub mod Depths
 pub mod Sizes
 pub mod Steps
 pub mod PrintableTrees
+pub mod Lone

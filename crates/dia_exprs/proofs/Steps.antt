@@ -160,7 +160,7 @@ at_prefix : (ts : List Token) (o : UnOp) (after : List Token) → Some (o, after
 at_prefix [] o after e = absurd cc
 at_prefix (t ∷ ts) o after e = let f = in_front prefix t ts o after (sym e) in (t, ap (λ (us : List Token). t ∷ us) f.1, f.0)
 
-no_operator_ends : (l : Level) (ts : List Token) → None ≡ operator_at l ts → Ends l ts
+pub no_operator_ends : (l : Level) (ts : List Token) → None ≡ operator_at l ts → Ends l ts
 no_operator_ends l [] e = tt
 no_operator_ends l (t ∷ ts) e = none_in_front (operator l t) ts (sym e)
 

@@ -1,10 +1,12 @@
 -- What the functions that read a level say of the tokens and of the nodes.
-use Rattle.std.specs.Prelude.{◌≡◌, ℕ, ◌≤◌, List, [], ◌∷◌, ◌++◌, length, Option, Some, None}
+use Rattle.std.specs.Prelude.{◌≡◌, ℕ, ◌≤◌, Bool, true, false, not, ◌&&◌, List, [], ◌∷◌, ◌++◌, length, Option, Some, None}
+use Rattle.std.specs.Option.{is_some}
 use Rattle.dbp_plan.specs.declared.node.BinOp.{BinOp}
 use Rattle.dbp_plan.specs.declared.node.UnOp.{UnOp}
 use Rattle.dbp_plan.specs.declared.node.Node.{Node}
 use Rattle.dbp_plan.specs.Tree.{nodes_of}
 use Rattle.dia_tokens.specs.declared.token.Token.{Token}
+use Rattle.dia_tokens.specs.declared.token.Token.TheVariants as token
 use Rattle.dia_exprs.specs.declared.level.Level.{Level}
 use Rattle.dia_exprs.specs.declared.level.Level.TheVariants.{Whole, Disjunction, Conjunction, Sum, Product}
 use Rattle.dia_exprs.specs.declared.fail.ExpressionFail.{ExpressionFail}
@@ -64,3 +66,14 @@ comparison_at (t ∷ ts) = comparison t >>= λ o. Some (o, ts)
 abbrev pub prefix_at : List Token → Option (UnOp × List Token)
 prefix_at [] = None
 prefix_at (t ∷ ts) = prefix t >>= λ o. Some (o, ts)
+
+abbrev pub is_leaf : Token → Bool
+is_leaf (token.Number value) = true
+is_leaf (token.Name name) = true
+is_leaf _ = false
+
+-- a number or a name, with no operator of a product after it
+abbrev pub is_lone : List Token → Bool
+is_lone [] = false
+is_lone (t ∷ []) = is_leaf t
+is_lone (t ∷ u ∷ ts) = is_leaf t && not (is_some (operator Product u))

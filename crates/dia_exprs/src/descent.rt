@@ -8,7 +8,7 @@ ghost use Rattle.dia_exprs.specs.Counts.{node_count};
 ghost use Rattle.dia_exprs.specs.Parsing.{HasRead, HasNone, IsJoined, of_level, of_inside, of_call, of_choice};
 
 use crate::operators::{
-    called, next_level, split_close, split_comma, split_comparison, split_else, split_if,
+    called, is_lone, next_level, split_close, split_comma, split_comparison, split_else, split_if,
     split_open, split_operator, split_prefix, split_then, split_token,
 };
 use crate::{ExpressionFail, Level};
@@ -36,6 +36,8 @@ fn at_level<'t>(
         Level::Comparison => compared(out, tokens),
         Level::Prefixed => prefixed(out, tokens),
         Level::Factor => factor(out, tokens),
+        // The operands of most sums.
+        Level::Product if is_lone(tokens) => factor(out, tokens),
         Level::Disjunction | Level::Conjunction | Level::Sum | Level::Product => {
             joined(level, out, tokens)
         }

@@ -5,7 +5,7 @@ ghost use Rattle.std.specs.Option.{option_map};
 ghost use Rattle.dia_exprs.specs.Counts.{node_count};
 ghost use Rattle.dia_exprs.specs.Grammar.{tighter, operator, comparison as compared, prefix as prefixed, called as is_called};
 ghost use Rattle.dia_exprs.specs.Reading.{if_at, then_at, else_at, open_at, comma_at, close_at};
-ghost use Rattle.dia_exprs.specs.Parsing.{operator_at, comparison_at, prefix_at};
+ghost use Rattle.dia_exprs.specs.Parsing.{is_lone, operator_at, comparison_at, prefix_at};
 
 use crate::Level;
 use dbp_plan::{BinOp, UnOp};
@@ -87,6 +87,19 @@ pub(crate) fn split_operator(level: Level, tokens: &[Token]) -> Option<(BinOp, &
             None => None,
         },
         [] => None,
+    }
+}
+
+/// Whether a number or a name is a product of its own at the front of the tokens.
+pub(crate) fn is_lone(tokens: &[Token]) -> bool
+    ensures { result ≡ is_lone tokens.now }
+{
+    match tokens {
+        [Token::Number(_) | Token::Name(_), next, ..] => {
+            operator_of(Level::Product, next).is_none()
+        }
+        [Token::Number(_) | Token::Name(_)] => true,
+        _ => false,
     }
 }
 

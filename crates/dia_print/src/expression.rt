@@ -66,23 +66,25 @@ fn push_tree(printer: &mut Printer, nodes: &[Node<Name>], place: u32) -> Result<
     ensures { (x : Tree (Items ℕ)) → Stands nodes.now place x
         → OnOk result (printer.new ≡ with_tokens printer.old (tokens_of x)) }
 {
-    let node = nodes[place as usize];
+    let node = &nodes[place as usize];
     match node {
-        Node::Num(value) => printer.push(Token::Number(value)),
-        Node::Var(name) => printer.push(Token::Name(name)),
+        Node::Num(value) => printer.push(Token::Number(*value)),
+        Node::Var(name) => printer.push_name(name),
         Node::Un(op, operand) => {
-            printer.push(prefix_token(op))?;
-            push_operand(printer, nodes, operand)
+            printer.push(prefix_token(*op))?;
+            push_operand(printer, nodes, *operand)
         }
         Node::Bin(op, left, right) => {
-            if is_call(op) {
-                return push_call(printer, nodes, op, left, right);
+            if is_call(*op) {
+                return push_call(printer, nodes, *op, *left, *right);
             }
-            push_operand(printer, nodes, left)?;
-            printer.push(operator_token(op))?;
-            push_operand(printer, nodes, right)
+            push_operand(printer, nodes, *left)?;
+            printer.push(operator_token(*op))?;
+            push_operand(printer, nodes, *right)
         }
-        Node::Pick(condition, one, other) => push_choice(printer, nodes, condition, one, other),
+        Node::Pick(condition, one, other) => {
+            push_choice(printer, nodes, *condition, *one, *other)
+        }
     }
 }
 

@@ -3,7 +3,7 @@
 ghost use Rattle.std.specs.Prelude.{◌≡◌};
 ghost use Rattle.dia_tokens.specs.TokenText.{edge_of, is_apart, clings, is_open};
 
-use dbp_plan::NoMemory;
+use dbp_plan::{Name, NoMemory};
 use dia_tokens::{Edge, Symbol, Token, Word};
 use itoa::{Buffer, Integer};
 use std::alloc::Global;
@@ -62,7 +62,8 @@ fn edge_of(token: &Token) -> Edge
 
 impl Printer {
     ghost use Rattle.std.specs.Prelude.{◌≡◌, ◌++◌, pos, [], ◌∷◌, OnOk};
-    ghost use Rattle.dia_tokens.specs.declared.token.Token.TheVariants.{Number as NumberToken};
+    ghost use Rattle.dia_tokens.specs.declared.token.Token.TheVariants.{Name as NameToken, Number as NumberToken};
+    ghost use Rattle.dia_tokens.specs.Spelling.{symbol_text};
     ghost use Rattle.dia_tokens.specs.declared.edge.Edge.TheVariants.{Tight as TightEdge, Loose as LooseEdge};
     ghost use Rattle.dia_tokens.specs.TokenText.{gap};
     ghost use Rattle.dia_print.specs.Printed.{with_token, with_bytes, ended};
@@ -101,7 +102,19 @@ impl Printer {
             }) }
     {
         if is_apart(self.edge, token) {
-            self.push_text(b" ")?;
+            self.text.push(b' ')?;
+        }
+        Ok(())
+    }
+
+    // Symbols mostly have one byte.
+    fn push_symbol(&mut self, symbol: Symbol) -> Result<(), NoMemory>
+        ensures { OnOk result (self.new
+            ≡ record { text = self.old.text ++ symbol_text symbol; edge = self.old.edge }) }
+    {
+        match symbol.text() {
+            [byte] => self.text.push(*byte)?,
+            text => self.push_text(text)?,
         }
         Ok(())
     }
@@ -115,9 +128,21 @@ impl Printer {
             Token::Word(word) => self.push_text(word.text())?,
             Token::Name(name) => self.push_text(name.bytes())?,
             Token::Number(number) => self.push_number(number)?,
-            Token::Symbol(symbol) => self.push_text(symbol.text())?,
+            Token::Symbol(symbol) => self.push_symbol(symbol)?,
         }
         self.edge = edge_of(&token);
+        Ok(())
+    }
+
+    /// Adds a name, as `push` does.
+    pub(crate) fn push_name(&mut self, name: &Name) -> Result<(), NoMemory>
+        ensures { OnOk result (self.new ≡ with_token self.old (NameToken name.now)) }
+    {
+        if !matches!(self.edge, Edge::Tight) {
+            self.text.push(b' ')?;
+        }
+        self.push_text(name.bytes())?;
+        self.edge = Edge::Loose;
         Ok(())
     }
 

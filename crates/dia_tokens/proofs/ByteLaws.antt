@@ -1,10 +1,10 @@
 -- What the kinds of bytes say of the bytes.
-use Rattle.std.proofs.Common.{◌≡◌, ℕ, Bool, true, List, [], ◌∷◌, filter, length, refl, inl, inr, arith}
-use Rattle.std.proofs.lemmas.Bool.{cases_Bool}
+use Rattle.std.proofs.Common.{◌≡◌, ℕ, Bool, true, List, [], ◌∷◌, ◌∙◌, sym, arith}
 use Rattle.std.proofs.lemmas.Bool.Decides.{nat_tests}
 use Rattle.std.specs.Int.{IsInRange}
-use Rattle.std.specs.List.{list_all}
-use Rattle.std.specs.Prelude.{IsTrue, not, ◌==◌}
+use Rattle.std.specs.List.{fold, list_all}
+use Rattle.std.proofs.Math.Bool.{and-true, and_assoc}
+use Rattle.std.specs.Prelude.{IsTrue, not, ◌&&◌}
 use Rattle.std.specs.Char.{is_ascii_digit}
 use Rattle.dbp_plan.specs.Name.{is_name_byte}
 use Rattle.dia_tokens.specs.declared.kind.Kind.TheVariants.{Letter, Dash}
@@ -30,10 +30,10 @@ pub name-byte : (b : ℕ) → is_name b ≡ true → IsTrue (is_name_byte b)
 unfolding kind_of symbol_kind_of
 name-byte b e = grind (arith, nat_tests)
 
--- all pass a test exactly if none fails it
-pub none_fails : {X : Type 0} (p : X → Bool) (xs : List X) → (length (filter (λ x. not (p x)) xs) == 0) ≡ list_all p xs
-none_fails p [] = refl
-none_fails p (x ∷ xs) = elim (cases_Bool (p x)) [
-  | inl passes ↦ rw passes (none_fails p xs)
-  | inr fails ↦ rw fails (grind (arith, nat_tests))
-]
+-- the fold of a test by `and` says whether all pass it
+folds-on : {X : Type 0} (p : X → Bool) (a : Bool) (xs : List X) → fold (λ b x. b && p x) a xs ≡ (a && list_all p xs)
+folds-on p a [] = sym (and-true a)
+folds-on p a (x ∷ xs) = folds-on p (a && p x) xs ∙ and_assoc a (p x) (list_all p xs)
+
+pub folds-all : {X : Type 0} (p : X → Bool) (xs : List X) → fold (λ b x. b && p x) true xs ≡ list_all p xs
+folds-all p xs = folds-on p true xs

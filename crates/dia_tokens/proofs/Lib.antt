@@ -1,6 +1,7 @@
 pub mod LexLaws
 pub mod BlankLaws
 pub mod ByteLaws
+pub mod ByteTables
 pub mod WordLaws
 pub mod ValueLaws
 pub mod OneLine

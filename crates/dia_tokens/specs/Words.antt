@@ -1,5 +1,5 @@
 -- The reserved words.
-use Rattle.std.specs.Prelude.{ℕ, List, [], ◌∷◌, length, ◌==◌, codes, Option, Some, None}
+use Rattle.std.specs.Prelude.{ℕ, List, [], ◌∷◌, get_or, ◌==◌, codes, Option, Some, None}
 use Rattle.std.specs.List.{find, filter}
 use Rattle.std.specs.Str.{bytes_eq}
 use Rattle.dia_tokens.specs.declared.token.Word.{Word}
@@ -50,9 +50,9 @@ all_words = Dbp ∷ Policy ∷ Fp ∷ Edf ∷ Until ∷ Input ∷ Event ∷ Task
 abbrev pub word_among : List Word → List ℕ → Option Word
 word_among words text = find (λ w. bytes_eq (word_text w) text) words
 
--- the words of this length
-unfoldable pub words_of_len : ℕ → List Word
-words_of_len len = filter (λ w. length (word_text w) == len) all_words
+-- the words that begin with this byte
+unfoldable pub words_from : ℕ → List Word
+words_from first = filter (λ w. get_or (word_text w) 0 0 == first) all_words
 
 -- the word, if there is one
 abbrev pub or_else : Option Word → Piece → Piece

@@ -1,6 +1,6 @@
 // The text of a line's first token.
 
-ghost use Rattle.std.specs.Prelude.{◌≡◌, ◌<◌, ◌≤◌, true, length};
+ghost use Rattle.std.specs.Prelude.{◌≡◌, ◌+◌, ◌<◌, ◌≤◌, true, drop, length};
 ghost use Rattle.std.specs.List.{prefix_len};
 ghost use Rattle.dia_tokens.specs.Fronts.{front};
 ghost use Rattle.dia_tokens.specs.Kinds.{is_name, is_digit, is_blank, is_equals};
@@ -9,6 +9,7 @@ ghost use Rattle.dia_tokens.specs.Pieces.{seen};
 ghost use Rattle.dia_tokens.specs.Reading.{begins, name_in, number_in, front_of, token_at};
 
 use crate::Symbol;
+use crate::class::{is_blank_byte, is_digit_byte, is_name_byte};
 use crate::kind::{Kind, kind_at};
 use crate::piece::Piece;
 use crate::reserved::word_or_name;
@@ -21,32 +22,38 @@ pub(crate) enum Front<'a> {
     Found(Piece<'a>, &'a [u8]),
 }
 
-#[tactic(auto, unfolding(crate::specs::Kinds::kind_of, crate::specs::Kinds::symbol_kind_of))]
-fn is_name_byte(byte: u8) -> bool
-    ensures { result ≡ is_name byte }
+// How many bytes at the front stand in names, by whole fours.
+fn fours_len(line: &[u8]) -> usize
+    ensures value { prefix_len is_name line.now
+        ≡ result + prefix_len is_name (drop result line.now) }
+    ensures within { result ≤ length line.now }
 {
-    matches!(byte, b'a'..=b'z' | b'A'..=b'Z' | b'_' | b'0'..=b'9')
+    let mut len = 0;
+    let mut rest = line;
+    while let [a, b, c, d, after @ ..] = rest {
+        if !(is_name_byte(*a) & is_name_byte(*b) & is_name_byte(*c) & is_name_byte(*d)) {
+            return len;
+        }
+        len += 4;
+        rest = after;
+    }
+    len
 }
 
-#[tactic(auto, unfolding(crate::specs::Kinds::kind_of, crate::specs::Kinds::symbol_kind_of))]
-fn is_digit_byte(byte: u8) -> bool
-    ensures { result ≡ is_digit byte }
+// How many bytes at the front stand in names, one by one.
+fn ones_len(line: &[u8]) -> usize
+    ensures value { result ≡ prefix_len is_name line.now }
+    ensures within { result ≤ length line.now }
 {
-    matches!(byte, b'0'..=b'9')
-}
-
-#[tactic(auto, unfolding(crate::specs::Kinds::kind_of, crate::specs::Kinds::symbol_kind_of))]
-fn is_blank_byte(byte: u8) -> bool
-    ensures { result ≡ is_blank byte }
-{
-    matches!(byte, b' ' | b'\t')
+    line.iter().take_while(|byte| is_name_byte(**byte)).count()
 }
 
 fn name_len(line: &[u8]) -> usize
     ensures value { result ≡ prefix_len is_name line.now }
     ensures within { result ≤ length line.now }
 {
-    line.iter().take_while(|byte| is_name_byte(**byte)).count()
+    let fours = fours_len(line);
+    fours + ones_len(&line[fours..])
 }
 
 fn digits_len(line: &[u8]) -> usize

@@ -1,6 +1,7 @@
 //! The tokens of a line of a diagram.
 #![tactic(auto)]
 
+mod class;
 mod edge;
 mod kind;
 mod laws;

@@ -1,6 +1,6 @@
 // The tokens of a line, and its first fault.
 
-ghost use Rattle.std.specs.Prelude.{◌≡◌, ◌⊎◌, false, not, List, Err, IfOk, IfErr, MatchResult, filter, length};
+ghost use Rattle.std.specs.Prelude.{◌≡◌, ◌⊎◌, false, List, [], ◌∷◌, ◌++◌, Err, IfOk, IfErr, OnOk, MatchResult};
 ghost use Rattle.std.specs.List.{list_all};
 ghost use Rattle.dia_tokens.specs.Kinds.{is_allowed};
 ghost use Rattle.dia_tokens.specs.Line.{Spells, HasBadStart, HasFault, Refuses};
@@ -59,18 +59,24 @@ fn is_allowed_byte(byte: u8) -> bool
     matches!(byte, b' '..=b'~' | b'\t')
 }
 
-// How many of the bytes no line may have. All are looked at, since a search for the first one would go byte by byte.
-fn bad_bytes(line: &[u8]) -> usize
-    ensures { result ≡ length (filter (λ b. not (is_allowed b)) line.now) }
-{
-    line.iter().filter(|byte| !is_allowed_byte(**byte)).count()
-}
-
 /// Whether a line may have each of these bytes.
 pub fn all_allowed(line: &[u8]) -> bool
     ensures { result ≡ list_all is_allowed line.now }
 {
-    bad_bytes(line) == 0
+    // All are looked at, since a search for the first one that isn't allowed would go byte by byte.
+    line.iter()
+        .fold(true, |allowed, byte| allowed & is_allowed_byte(*byte))
+}
+
+// Adds a token. The first one brings room for a line of this length with names of a usual length.
+fn push_token(out: &mut Vec<Token>, token: Token, len: usize) -> Result<(), NoMemory>
+    ensures { OnOk result (out.new.items ≡ out.old.items ++ token ∷ []) }
+{
+    if out.is_empty() {
+        out.reserve(4 + len / 6)?;
+    }
+    out.push(token)?;
+    Ok(())
 }
 
 /// The tokens of a line, or its first fault.
@@ -98,7 +104,7 @@ fn read(alloc: Global, line: &[u8]) -> Result<Vec<Token>, LineFail>
             Front::Bad => return Err(LineFail::BadToken),
             Front::Found(piece, after) => {
                 match token_of(piece) {
-                    Ok(token) => out.push(token)?,
+                    Ok(token) => push_token(&mut out, token, line.len())?,
                     Err(fail) => fault = Some(first_fault(fault, fail)),
                 }
                 signed = may_sign(piece);

@@ -49,10 +49,13 @@ pub(crate) fn token_of(piece: Piece) -> Result<Token, ValueFail>
 {
     match piece {
         Piece::Word(word) => Ok(Token::Word(word)),
-        Piece::Name(text) => match Name::of(text) {
-            Some(name) => Ok(Token::Name(name)),
-            None => Err(ValueFail::NameTooLong),
-        },
+        Piece::Name(text) => {
+            if text.len() <= MAX_NAME {
+                Ok(Token::Name(Name::of_text(text)))
+            } else {
+                Err(ValueFail::NameTooLong)
+            }
+        }
         Piece::Number(text) => match number(text) {
             Some(number) => Ok(Token::Number(number)),
             None => Err(ValueFail::NumberTooWide),

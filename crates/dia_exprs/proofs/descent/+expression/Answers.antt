@@ -1,10 +1,11 @@
-use Rattle.std.proofs.Common.{rules, subst, sym, Some, None, arith}
+use Rattle.std.proofs.Common.{◌≡◌, true, rules, subst, sym, Some, None, arith}
 use Rattle.std.proofs.lemmas.Result.{err_from_is_err_and}
 use Rattle.dbp_plan.specs.Tree.{binary, unary, choice}
 use Rattle.dia_exprs.specs.declared.level.Level.{Level}
 use Rattle.dia_exprs.specs.declared.level.Level.TheVariants.{Factor}
-use Rattle.dia_exprs.specs.Parsing.{HasRead, of_level, of_inside, of_call}
+use Rattle.dia_exprs.specs.Parsing.{is_lone, HasRead, HasNone, of_level, of_inside, of_call}
 use Rattle.dia_exprs.proofs.Steps.{unary-nodes, binary-nodes, choice-nodes, first-refused, first-read, next-refused, next-read, last-read, compared-refused, compared-alone, compared-next-refused, compared-read, unprefixed-refused, unprefixed-read, prefix-refused, prefix-read, unchosen-refused, unchosen-read, choosing-refused, choosing-read, choice-refused, no-then, first-part-refused, no-else, second-part-refused, choice-read, no-open, first-argument-refused, no-comma, second-argument-refused, no-close, call-read, inside-refused, unclosed, closed-read, nothing-read, number-read, name-read, parentheses-read, called-read, symbol-refused, word-refused, refused, ok_map, err_map, pushed}
+use Rattle.dia_exprs.proofs.Lone.{lone-read, lone-refused}
 use Rattle.dia_exprs.proofs.descent.+expression.Goals as goal
 
 pub call-returns-in_default-clause-none : goal.call-returns-in_default-clause-none
@@ -235,3 +236,18 @@ factor-returns-in-Some-called-clause-none t c =
 pub factor-returns-in-None-clause-none : goal.factor-returns-in-None-clause-none
 factor-returns-in-None-clause-none t c =
     word-refused c.args.tokens.now c.in-Some-split_token.rest.now c.in-Some-split_token.token.now c.in-Word.field-0 c.in-Some-split_token.ensures.some c.in-Word.is (sym c.in-None.ensures)
+
+pub at_level-returns-in-Product-clause-found : goal.at_level-returns-in-Product-clause-found
+at_level-returns-in-Product-clause-found t c =
+    let lone : is_lone c.args.tokens.now ≡ true = search rules in
+    ok_map _ _ c.factor-in-Product.result
+    (λ rest r. subst (λ (l : Level). HasRead (of_level l) c.args.out.now c.args.tokens.now c.factor-in-Product.new.out rest.now) (sym c.in-Product.is)
+    (lone-read c.args.out.now c.factor-in-Product.new.out c.args.tokens.now rest.now lone r))
+    c.factor-in-Product.ensures.found
+
+pub at_level-returns-in-Product-clause-none : goal.at_level-returns-in-Product-clause-none
+at_level-returns-in-Product-clause-none t c =
+    let lone : is_lone c.args.tokens.now ≡ true = search rules in
+    err_map _ _ c.factor-in-Product.result
+    (λ e r. subst (λ (l : Level). HasNone (of_level l) c.args.tokens.now e) (sym c.in-Product.is) (lone-refused c.args.tokens.now e lone r))
+    c.factor-in-Product.ensures.none

@@ -59,7 +59,7 @@ push_tree-returns-in-Num t c x s =
 pub push_tree-returns-in-Var : goal.push_tree-returns-in-Var
 push_tree-returns-in-Var t c x s =
     let e = at-variable c.args.nodes.now c.args.place x c.in-Var.name (found c.args.nodes.now c.args.place x _ _ s c.index-nodes-place.is c.in-Var.is) s in
-    rw e c.push-in-Var.ensures
+    rw e c.push_name.ensures
 
 pub push_tree-returns-in_ok-push-in-Un : goal.push_tree-returns-in_ok-push-in-Un
 push_tree-returns-in_ok-push-in-Un t c x s =

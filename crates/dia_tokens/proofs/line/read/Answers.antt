@@ -5,7 +5,7 @@ use Rattle.dia_tokens.proofs.LexLaws.{Shrinks, Shrinks-at}
 use Rattle.dia_tokens.proofs.ReadLaws.{Reads-starts, Reads-value, Reads-fault, Reads-bad, Reads-tokens, Reads-faulty}
 use Rattle.dia_tokens.proofs.ValueLaws.{shaped-at}
 use Rattle.dia_tokens.proofs.line.read.Goals as goal
-use Rattle.dia_tokens.proofs.line.read.Goals.{in-Ok+in_ok-push-in-Ok, in-Err}
+use Rattle.dia_tokens.proofs.line.read.Goals.{in-Ok+in_ok-push_token-in-Ok, in-Err}
 
 pub returns-then-not-all_allowed-clause-fault : goal.returns-then-not-all_allowed-clause-fault
 returns-then-not-all_allowed-clause-fault c = a_bad_byte c.args.line.now (search rules)
@@ -31,7 +31,7 @@ loop-fail-smaller c = subst (Shrinks c.loop-fail.rest.now) (sym c.in-Found.ensur
 pub loop-fail-preserved : goal.loop-fail-preserved
 loop-fail-preserved c =
     elim c.match-token_of.branch [
-      | in-Ok+in_ok-push-in-Ok w ↦
-          rw (w.out-is, w.fault-is, w.in_ok-push-in-Ok.ensures.items, c.may_sign-signed.ensures) (Reads-value c.loop-fail.invariant c.in-Found.ensures w.in-Ok.ensures.found)
+      | in-Ok+in_ok-push_token-in-Ok w ↦
+          rw (w.out-is, w.fault-is, w.in_ok-push_token-in-Ok.ensures, c.may_sign-signed.ensures) (Reads-value c.loop-fail.invariant c.in-Found.ensures w.in-Ok.ensures.found)
       | in-Err w ↦ rw (w.out-is, w.fault-is, w.first_fault.ensures, c.may_sign-signed.ensures) (Reads-fault w.in-Err.fail c.loop-fail.invariant c.in-Found.ensures w.in-Err.ensures.fails)
     ]
