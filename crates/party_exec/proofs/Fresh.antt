@@ -20,7 +20,7 @@ use Rattle.dbp_rules.specs.declared.step.Count.TheVariants.{All}
 use Rattle.dbp_rules.specs.declared.wiring.TaskWiring.{TaskWiring}
 use Rattle.dbp_rules.specs.declared.wiring.Wiring.{Wiring}
 use Rattle.dbp_rules.proofs.SoundStart.{first_sound}
-use Rattle.word_rule.specs.FirstSeats.{AreFirstTasks, IsFirstReleaser, IsFirstTask}
+use Rattle.word_rule.specs.FirstSeats.{AreFirstTasks, IsFirstTask}
 use Rattle.word_rule.specs.Roles.{meaning_row, run_wiring}
 use Rattle.word_rule.specs.Seats.{TaskSits}
 use Rattle.word_rule.specs.Showing.{first_part}
@@ -29,7 +29,7 @@ use Rattle.word_rule.specs.declared.seats.TaskSeat.{TaskSeat}
 use Rattle.word_rule.proofs.Begins.{get_push}
 use Rattle.word_rule.proofs.TaskCalls.{in_wiring, task_wired, wired_is}
 use Rattle.party_exec.specs.Computed.{HasComputed, HasMeantRows, HasMeantWords, plan_of_task}
-use Rattle.party_exec.specs.Parties.{IsFresh}
+use Rattle.party_exec.specs.Parties.{IsFresh, IsFreshReleaser}
 use Rattle.party_exec.specs.Rows.{first_and_zeros}
 use Rattle.party_exec.specs.declared.party.Party.{Party}
 use Rattle.party_exec.specs.declared.party.Party.TheVariants.{Releaser}
@@ -90,7 +90,7 @@ first_has w s work rows first is_work is_rows =
 pub pushed_first : (ps qs : List Party) (p : ReleaserParty) → ps ≡ qs ++ Releaser p ∷ [] → qs ≡ [] → ps ≡ Releaser p ∷ []
 pushed_first ps qs p is none = is ∙ ap (λ (l : List Party). l ++ Releaser p ∷ []) none
 
-pub fresh_first : (w : SlotWords) (ps : List Party) (p : ReleaserParty) → ps ≡ Releaser p ∷ [] → IsFirstReleaser w p.seat → (k : ℕ) (q : Party) → slice_get ps k ≡ Some q → IsFresh w k q
+pub fresh_first : (w : SlotWords) (ps : List Party) (p : ReleaserParty) → ps ≡ Releaser p ∷ [] → IsFreshReleaser w p → (k : ℕ) (q : Party) → slice_get ps k ≡ Some q → IsFresh w k q
 fresh_first w ps p is first zero q at = subst (IsFresh w 0) (same_Some (Releaser p) q (ap (λ (l : List Party). slice_get l 0) (sym is) ∙ at)) first
 fresh_first w ps p is first (suc k) q at = let none : None ≡ Some q = ap (λ (l : List Party). slice_get l (suc k)) (sym is) ∙ at in absurd (cc)
 

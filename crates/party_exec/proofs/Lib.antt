@@ -12,3 +12,4 @@ pub mod SameParties
 pub mod Jobs
 pub mod Ends
 pub mod EachPlace
+pub mod DrawnRounds

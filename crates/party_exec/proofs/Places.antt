@@ -21,7 +21,7 @@ belongs w (suc i) (Task s) h = h.0
 
 -- fresh parties stand at their places
 fresh_party : (w : SlotWords) (k : ℕ) (p : Party) → IsFresh w k p → IsPartyAt w k p
-fresh_party w zero (Releaser s) h = h.here
+fresh_party w zero (Releaser s) h = h.seat.here
 fresh_party w zero (Task s) h = elim h [ ]
 fresh_party w (suc i) (Releaser s) h = elim h [ ]
 fresh_party w (suc i) (Task s) h = (h.seat.here, h.seat.task)

@@ -30,8 +30,9 @@ use Rattle.word_rule.specs.declared.seats.SlotWords.{SlotWords}
 use Rattle.word_rule.specs.declared.seats.TaskSeat.{TaskSeat}
 use Rattle.word_rule.proofs.TaskCalls.{inside, shape, task_wired, wired_is}
 use Rattle.party_exec.specs.Computed.{HasComputed, plan_of_task}
-use Rattle.party_exec.specs.Turns.{stepped_if}
+use Rattle.party_exec.specs.Turns.{delay_of_read, stepped_if}
 use Rattle.party_exec.specs.declared.task_party.TaskParty.{TaskParty}
+use Rattle.party_exec.specs.declared.turn.Turn.{Turn}
 use Rattle.party_exec.specs.declared.turn.Cause.TheVariants.{NotOpened, WriterNotDone}
 use Rattle.party_exec.specs.declared.turn.Turn.TheVariants.{Idle, Stepped}
 use Rattle.party_exec.proofs.Seats.{has_then}
@@ -121,3 +122,11 @@ looked false stamp r told is = absurd (cc (told, is))
 pub not_ready : (b : Bool) (stamp found : ℕ) (r : Look) → MatchBool b (r ≡ Ready) (r ≡ NotYet stamp) → r ≡ NotYet found → Idle WriterNotDone ≡ stepped_if b (Idle WriterNotDone)
 not_ready true stamp found r told is = absurd (cc (told, is))
 not_ready false stamp found r told is = refl
+
+-- a look over a delayed link doesn't wait
+pub never_late : (w : SlotWords) (i read r : ℕ) (look : Look) (found : ℕ) (turn : Turn) → (0 < delay_of_read w i read → look ≡ Ready) → look ≡ NotYet found
+    → step.Look i read ≡ step.Look i r → 0 < delay_of_read w i r → turn ≡ Stepped
+never_late w i read r look found turn ready waits is late =
+    let same : r ≡ read = cc (is) in
+    let found_it : look ≡ Ready = ready (subst (λ (n : ℕ). 0 < delay_of_read w i n) same late) in
+    absurd (cc (found_it, waits))

@@ -11,6 +11,7 @@ use Rattle.party_exec.specs.Rows.{first_and_zeros}
 use Rattle.party_exec.specs.Turns.{IsReleaserTurn, IsTaskTurn, ReleaserHasFinished, TaskHasFinished}
 use Rattle.party_exec.specs.declared.party.Party.{Party}
 use Rattle.party_exec.specs.declared.party.Party.TheVariants.{Releaser, Task}
+use Rattle.party_exec.specs.declared.releaser_party.ReleaserParty.{ReleaserParty}
 use Rattle.party_exec.specs.declared.task_party.TaskParty.{TaskParty}
 use Rattle.party_exec.specs.declared.turn.Turn.{Turn}
 
@@ -37,15 +38,21 @@ IsTurn w _ _ turn = ⊥
 
 -- ---- all parties of a table
 
+-- the releaser's party before its first step: no turn of it is counted
+pub record IsFreshReleaser (w : SlotWords) (s : ReleaserParty) : Type 0 where
+  pub seat : IsFirstReleaser w s.seat
+  pub turns : s.turns ≡ 0
+
 -- a task's party before its first step: it has the environment and the row of the first values
 pub record IsFreshTask (w : SlotWords) (i : ℕ) (s : TaskParty) : Type 0 where
   pub seat : IsFirstTask w i s.seat
+  pub turns : s.turns ≡ 0
   pub work : s.work ≡ (start.start_task no_task_wiring (declared w.plan i)).work
   pub rows : s.rows ≡ first_and_zeros (declared w.plan i) (length (times_of w.plan.batches i))
 
 -- the party at the place k before its first step: the releaser's, or that of task k - 1
 abbrev pub IsFresh : SlotWords → ℕ → Party → Type 0
-IsFresh w zero (Releaser s) = IsFirstReleaser w s.seat
+IsFresh w zero (Releaser s) = IsFreshReleaser w s
 IsFresh w (suc i) (Task s) = IsFreshTask w i s
 IsFresh w _ _ = ⊥
 

@@ -1,7 +1,8 @@
 -- What a turn of a party makes of it, and what it answers.
-use Rattle.std.specs.Prelude.{◌≡◌, ◌≢◌, ℕ, nat_lt, Bool, true, false, length, None}
+use Rattle.std.specs.Prelude.{◌≡◌, ◌≢◌, ℕ, ◌<◌, nat_lt, Bool, true, false, length, slice_index_or, None}
+use Rattle.dbp_plan.specs.Lookups.{declared, no_read}
 use Rattle.dbp_rules.specs.PartyRules.{Loaded, is_opened_by, is_stamp_of, loaded_number, read_order_in, task_after, task_refusal, turn_at}
-use Rattle.dbp_rules.specs.Places.{entry_in, wired}
+use Rattle.dbp_rules.specs.Places.{entry_in, link, wired}
 use Rattle.dbp_rules.specs.declared.parts.ReleaserPart.{ReleaserPart}
 use Rattle.dbp_rules.specs.declared.parts.TaskPart.{TaskPart}
 use Rattle.dbp_rules.specs.declared.step.Step.{Step}
@@ -30,14 +31,20 @@ task_answer w t (step.Start i) l = stepped_if (is_opened_by t (loaded_number l))
 task_answer w t (step.Look i r) l = stepped_if (is_stamp_of (read_order_in w t (turn_at t.place)) (loaded_number l)) (Idle WriterNotDone)
 task_answer w t e l = Stepped
 
--- one step, which its part allows
+-- the delay of the link of this read of the task
+abbrev pub delay_of_read : SlotWords → ℕ → ℕ → ℕ
+delay_of_read w i r = (link w.wiring (slice_index_or (declared w.plan i).reads r no_read).link).delay
+
+-- one step, which its part allows; a look over a delayed link doesn't wait
 pub record TaskTurn (w : SlotWords) (old new : TaskParty) (turn : Turn) : Type 0 where
   pub made : Step
   pub loaded : Loaded
   pub seat : TaskSteps old.seat new.seat
+  pub turns : new.turns ≡ old.turns
   pub allowed : task_refusal (wired w.wiring old.seat.task) old.seat.part made ≡ None
   pub part : new.seat.part ≡ task_after (wired w.wiring old.seat.task) old.seat.part made loaded
   pub answer : turn ≡ task_answer (wired w.wiring old.seat.task) old.seat.part made loaded
+  pub delayed : (r : ℕ) → made ≡ step.Look old.seat.task r → 0 < delay_of_read w old.seat.task r → turn ≡ Stepped
 
 -- ---- of the releaser
 
@@ -55,6 +62,7 @@ pub record ReleaserTurn (w : SlotWords) (old new : ReleaserParty) (turn : Turn) 
   pub made : ReleaseStep
   pub heard : ℕ
   pub seat : ReleaserSteps old.seat new.seat
+  pub turns : new.turns ≡ old.turns
   pub some : made ≢ release.Finished
   pub next : IsNextStep w.wiring old.seat.part made
   pub may : MayHear old.seat.part made heard

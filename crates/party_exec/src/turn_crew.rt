@@ -1,11 +1,12 @@
 // A crew of one thread, which draws the turns.
 
-ghost use Rattle.std.specs.Prelude.{◌≡◌, ◌≤◌, [], All, None, length};
+ghost use Rattle.std.specs.Prelude.{◌≡◌, ◌<◌, ◌≤◌, ◌-◌, [], ◌∷◌, ◌++◌, ℕ, All, None, Some, length};
 ghost use Rattle.party_exec.specs.Crews.{seed_of, turn_ready, turn_runs};
-ghost use Rattle.party_exec.specs.Draws.{after_draw, turn_count};
+ghost use Rattle.party_exec.specs.Draws.{HaveDrawnRounds, IsDrawnRound, MakeTurnsBetween, after_draw, after_draws, after_round, turn_count};
+ghost use Rattle.party_exec.specs.Entries.{entry_of};
 ghost use Rattle.party_exec.specs.Jobs.{MakesTurns};
 ghost use Rattle.party_exec.specs.Parties.{AreFresh, Belongs, HaveFinished};
-ghost use Rattle.party_exec.specs.SameSeats.{AreSame, AreSameParties};
+ghost use Rattle.party_exec.specs.SameSeats.{AreSameParties};
 
 use crate::all_parties::have_finished;
 use crate::crew::Crew;
@@ -72,19 +73,37 @@ impl Crew for TurnCrew {
         self.runs.prepare(plan)
     }
 
-    fn run<R: Threads + Wait + Sync>(&mut self, rt: &R, words: &SlotWords, parties: &mut [Party]) {
+    fn run<R: Threads + Wait + Sync>(&mut self, rt: &R, words: &SlotWords, parties: &mut [Party])
+        requires ready { turn_ready self.old ≡ Some words.now.plan }
+        requires fresh { AreFresh words.now parties.old }
+        ensures rounds { (draws : ℕ)
+            × HaveDrawnRounds words.now (seed_of self.old) parties.old draws parties.new }
+        ensures same { AreSameParties parties.old parties.new }
+        ensures finished { HaveFinished words.now parties.new }
+        ensures runs { turn_runs self.new ≡ turn_runs self.old ++ entry_of words.now.plan ∷ [] }
+        ensures ready { turn_ready self.new ≡ None }
+        ensures seed { seed_of self.new ≡ seed_of self.old }
+    {
         run_drawn_rounds(rt, self.seed, words, parties);
         self.runs.close(words, parties);
     }
 }
 
+// The generator that begins at the seed.
+fn first_draws(seed: u64) -> SplitMix64
+    ensures { result ≡ seed }
+{
+    SplitMix64::seed_from_u64(seed)
+}
+
 // Rounds until all parties have finished.
 fn run_drawn_rounds<R: Wait>(rt: &R, seed: u64, words: &SlotWords, parties: &mut [Party])
     requires { AreFresh words.now parties.old }
+    ensures rounds { (draws : ℕ) × HaveDrawnRounds words.now seed parties.old draws parties.new }
     ensures same { AreSameParties parties.old parties.new }
     ensures finished { HaveFinished words.now parties.new }
 {
-    let mut draws = SplitMix64::seed_from_u64(seed);
+    let mut draws = first_draws(seed);
     for _ in rt.forever() {
         if have_finished(words, parties) {
             return;
@@ -96,12 +115,11 @@ fn run_drawn_rounds<R: Wait>(rt: &R, seed: u64, words: &SlotWords, parties: &mut
 
 // A round: each party makes its turns, from the one on that is drawn first.
 fn drawn_round(draws: &mut SplitMix64, words: &SlotWords, parties: &mut [Party])
-    requires { All (Belongs words.now) parties.old }
-    ensures { AreSame parties.old parties.new }
+    requires here { All (Belongs words.now) parties.old }
+    requires some { 0 < length parties.old }
+    ensures round { IsDrawnRound words.now draws.old parties.old parties.new }
+    ensures draws { draws.new ≡ after_round (length parties.old) draws.old }
 {
-    if parties.is_empty() {
-        return;
-    }
     let count = parties.len();
     let first = draw_place(draws, count);
     turns_between(draws, words, parties, first, count);
@@ -117,9 +135,10 @@ fn turns_between(
     to: usize,
 )
     requires here { All (Belongs words.now) parties.old }
+    requires ends { from ≤ to }
     requires there { to ≤ length parties.old }
-    ensures here { All (Belongs words.now) parties.new }
-    ensures same { AreSame parties.old parties.new }
+    ensures turns { MakeTurnsBetween words.now from to draws.old parties.old parties.new }
+    ensures draws { draws.new ≡ after_draws (to - from) draws.old }
 {
     for place in from..to {
         turns_drawn(draws, words, &mut parties[place]);

@@ -1,5 +1,6 @@
 -- A step of a seat is one that the table allows it, and its play is told.
 use Rattle.std.proofs.Common.{◌≡◌, ℕ, ◌<◌, length, get_or, Some, refl, sym, ◌∙◌, ap, subst, arith}
+use Rattle.std.proofs.lemmas.Option.{same_Some}
 use Rattle.atomic_table.specs.Table.{Allows, keeps}
 use Rattle.dbp_plan.specs.declared.plan.Plan.{Plan}
 use Rattle.dbp_slots.specs.Layout.{sizes}
@@ -8,7 +9,7 @@ use Rattle.dbp_slots.proofs.Spots.{word_inside}
 use Rattle.dbp_rules.specs.LoadedWords.{loaded_of}
 use Rattle.dbp_rules.specs.declared.step.Step.{Step}
 use Rattle.word_rule.specs.OwnSteps.{IsOwnStep, view_after}
-use Rattle.word_rule.specs.Plays.{Makes, OneStep, Seated}
+use Rattle.word_rule.specs.Plays.{Makes, OneStep, Seated, address_in}
 use Rattle.word_rule.specs.Roles.{number_stored, run_wiring, word_loaded, word_stored}
 use Rattle.word_rule.specs.Showing.{Keeps}
 use Rattle.word_rule.specs.declared.seats.SlotWords.{SlotWords}
@@ -56,6 +57,11 @@ module _ (slots id : ℕ) (me : Seated) (e : Step) (own : IsOwnStep me.0.plan me
           shape = shape_after v.plan t h id v there e own.named own.mine own.free own.put (loaded_of e 0) is;
         }),
       )
+
+-- a step of a party loads one word
+pub one_word_loaded : (me : Seated) (e d : Step) (q r : TableWord) → word_loaded (run_wiring me.0.plan) me.0.role e ≡ Some q → e ≡ d
+    → word_loaded (run_wiring me.0.plan) me.0.role d ≡ Some r → address_in me q ≡ address_in me r
+one_word_loaded me e d q r loads same other = ap (address_in me) (same_Some q r (sym loads ∙ ap (λ (x : Step). word_loaded (run_wiring me.0.plan) me.0.role x) same ∙ other))
 
 -- ---- at the terms of a call
 

@@ -35,7 +35,7 @@ use Rattle.word_rule.specs.declared.seats.SlotWords.{SlotWords}
 use Rattle.word_rule.specs.declared.seats.TaskSeat.{TaskSeat}
 use Rattle.word_rule.specs.declared.views.Role.{Role}
 use Rattle.word_rule.specs.declared.views.Role.TheVariants.{Task}
-use Rattle.word_rule.proofs.SeatSteps.{may_load, same_tasks, sizes_are, wiring_is}
+use Rattle.word_rule.proofs.SeatSteps.{may_load, one_word_loaded, same_tasks, sizes_are, wiring_is}
 
 -- what a task's seat has after its step
 pub task_then : (me new : Seated) (i : ℕ) (t : TaskPart) (e : Step) (l : Loaded) → IsTask me i t → OneStep me new → Makes e l me new → IsTask new i (task_after (wired (run_wiring me.0.plan) i) t e l)
@@ -127,6 +127,7 @@ module _ (w : SlotWords) (s : TaskSeat) (here : TaskSits w s) where
       (λ x new one makes. record {
         one = one;
         small = let few = start_range x new makes in let all = task_wired.few in omega arith;
+        word = λ j is q loads. one_word_loaded me (Start s.task) (Start j) (gate s.task) q refl (ap Start (one_task j is)) loads;
         makes = λ j is. subst (λ (k : ℕ). Makes (Start k) (a_number x) me new) (one_task j is) makes;
       })
 
@@ -176,6 +177,7 @@ module _ (w : SlotWords) (s : TaskSeat) (here : TaskSits w s) where
         a (hear_at a at) (ap (λ (r : Role). word_loaded o r (Hear s.task)) s.same.role) (λ n. Hears (step slots n 0 0 none) me)
         (λ x new one makes. record {
           one = one;
+          word = λ j is q loads. one_word_loaded me (Hear s.task) (Hear j) (word_of_order o s.task (hears_at s.part.place)) q (ap (λ (r : Role). word_loaded o r (Hear s.task)) s.same.role) (ap Hear (one_task j is)) loads;
           makes = λ j is. subst (λ (k : ℕ). Makes (Hear k) (an_order (order_of x)) me new) (one_task j is) makes;
         })
 

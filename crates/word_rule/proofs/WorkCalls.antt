@@ -37,7 +37,7 @@ use Rattle.word_rule.specs.declared.seats.SlotWords.{SlotWords}
 use Rattle.word_rule.specs.declared.seats.TaskSeat.{TaskSeat}
 use Rattle.word_rule.specs.declared.views.Role.{Role}
 use Rattle.word_rule.specs.declared.views.Role.TheVariants.{Task}
-use Rattle.word_rule.proofs.SeatSteps.{may_load, may_store, sizes_are, wiring_is}
+use Rattle.word_rule.proofs.SeatSteps.{may_load, may_store, one_word_loaded, sizes_are, wiring_is}
 use Rattle.word_rule.proofs.TaskCalls.{inside, one_task, own_free, role_task, shape, task_then, task_wired, task_word, wired_is}
 
 module _ (w : SlotWords) (s : TaskSeat) (here : TaskSits w s) where
@@ -150,6 +150,8 @@ module _ (w : SlotWords) (s : TaskSeat) (here : TaskSits w s) where
         a (address_is taken a (at ∙ ap (address_of (sizes w.layout)) (taken_is from order read heard))) (ap (λ (v : Role). word_loaded o v (Take s.task r)) s.same.role) (λ n. Takes (step slots n 0 0 none) me)
         (λ x new one makes. record {
           one = one;
+          word = λ j k is q loads.
+              one_word_loaded me (Take s.task k) (Take j k) taken q (ap (λ (v : Role). word_loaded o v (Take s.task k)) s.same.role) (ap (λ (i : ℕ). Take i k) (one_task w s here j is)) loads;
           makes = λ j k is other.
               let task : s.task ≡ j = one_task w s here j is in
               let same : r ≡ k = one_take k (subst (λ (i : ℕ). role_refusal o me.0.role (Take i k) ≡ None) (sym task) other) in
@@ -218,6 +220,8 @@ module _ (w : SlotWords) (s : TaskSeat) (here : TaskSits w s) where
         a (address_is looked a (at ∙ ap (address_of (sizes w.layout)) (looked_is from order read heard))) (ap (λ (v : Role). word_loaded o v (Look s.task r)) s.same.role) (λ n. Looks (step slots n 0 0 none) me)
         (λ x new one makes. record {
           one = one;
+          word = λ j k is q loads.
+              one_word_loaded me (Look s.task k) (Look j k) looked q (ap (λ (v : Role). word_loaded o v (Look s.task k)) s.same.role) (ap (λ (i : ℕ). Look i k) (one_task w s here j is)) loads;
           makes = λ j k is other.
               let task : s.task ≡ j = one_task w s here j is in
               let same : r ≡ k = one_look k (subst (λ (i : ℕ). role_refusal o me.0.role (Look i k) ≡ None) (sym task) other) in

@@ -9,7 +9,7 @@ use Rattle.dbp_rules.specs.declared.parts.ReleaserPart.{ReleaserPart}
 use Rattle.dbp_rules.specs.declared.parts.TaskPart.{TaskPart}
 use Rattle.dbp_rules.specs.declared.step.Step.{Step}
 use Rattle.dbp_rules.specs.declared.step.Step.TheVariants.{Seen, Aim, Claim, OpenGate, Start, Hear, Look, Take, Shut, Put, Done, End}
-use Rattle.word_rule.specs.Roles.{RoleLoads, RolePromise, RoleShape, role_after, role_refusal, run_wiring, task_of}
+use Rattle.word_rule.specs.Roles.{RoleLoads, RolePromise, RoleShape, role_after, role_refusal, run_wiring, task_of, word_loaded}
 use Rattle.word_rule.specs.declared.views.Role.{Role}
 use Rattle.word_rule.specs.declared.views.Role.TheVariants.{Releaser, Task}
 use Rattle.word_rule.specs.declared.views.View.{View}
@@ -56,6 +56,10 @@ pub record Makes (e : Step) (l : Loaded) (me new : Seated) : Type 0 where
 abbrev pub address_in : Seated → TableWord → ℕ
 address_in me q = address_of (sizes_of me.0.plan.diagram) q
 
+-- the word that it loads is the one of this step of its party
+abbrev pub LoadsWordOf : Step → WordStep (Unit {0}) → Seated → Type 0
+LoadsWordOf e s me = (q : TableWord) → word_loaded (run_wiring me.0.plan) me.0.role e ≡ Some q → s.word ≡ address_in me q
+
 -- the releaser has loaded x, how many instances of the task have ended
 pub record Sees (s : WordStep (Unit {0})) (me : Seated) (x : ℕ) (new : Seated) : Type 0 where
   pub one : OneStep me new
@@ -81,11 +85,13 @@ pub record Opens (s : WordStep (Unit {0})) (me : Seated) (x : ℕ) (new : Seated
 pub record Starts (s : WordStep (Unit {0})) (me : Seated) (x : ℕ) (new : Seated) : Type 0 where
   pub one : OneStep me new
   pub small : x < 2 ^ 32
+  pub word : (i : ℕ) → task_of me.0.role ≡ Some i → LoadsWordOf (Start i) s me
   pub makes : (i : ℕ) → task_of me.0.role ≡ Some i → Makes (Start i) (a_number x) me new
 
 -- the task has loaded the order with the number x
 pub record Hears (s : WordStep (Unit {0})) (me : Seated) (x : ℕ) (new : Seated) : Type 0 where
   pub one : OneStep me new
+  pub word : (i : ℕ) → task_of me.0.role ≡ Some i → LoadsWordOf (Hear i) s me
   pub makes : (i : ℕ) → task_of me.0.role ≡ Some i → Makes (Hear i) (an_order (order_of x)) me new
 
 -- its part allows the step
@@ -95,11 +101,13 @@ Allows me e = role_refusal (run_wiring me.0.plan) me.0.role e ≡ None
 -- the task has loaded x, the stamp of the slot that it heard of for its next read
 pub record Looks (s : WordStep (Unit {0})) (me : Seated) (x : ℕ) (new : Seated) : Type 0 where
   pub one : OneStep me new
+  pub word : (i r : ℕ) → task_of me.0.role ≡ Some i → LoadsWordOf (Look i r) s me
   pub makes : (i r : ℕ) → task_of me.0.role ≡ Some i → Allows me (Look i r) → Makes (Look i r) (a_number x) me new
 
 -- it has loaded the word with the number x from there
 pub record Takes (s : WordStep (Unit {0})) (me : Seated) (x : ℕ) (new : Seated) : Type 0 where
   pub one : OneStep me new
+  pub word : (i r : ℕ) → task_of me.0.role ≡ Some i → LoadsWordOf (Take i r) s me
   pub makes : (i r : ℕ) → task_of me.0.role ≡ Some i → Allows me (Take i r) → Makes (Take i r) (a_value (value_of_word x)) me new
 
 -- it has stamped its slot with 0

@@ -41,7 +41,7 @@ loop-seat-init c =
     let gives = c.into_iter-seat-iterator.ensures.into_iter_gives.0 ∙ c.into_items-seat-items.ensures.value in
     record {
       size = ap (λ (l : List Party). length l) pushed;
-      each = fresh_first w c.push.new.self _ pushed first.releaser;
+      each = fresh_first w c.push.new.self _ pushed (record { seat = first.releaser; turns = refl });
       left = all_left w c.in_ok-words.tasks c.into_iter-seat-iterator.result.rest.items first.tasks gives;
       all = omega (arith, ap (λ (l : List TaskSeat). length l) gives, first.tasks.size);
     }

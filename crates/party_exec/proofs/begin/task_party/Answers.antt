@@ -1,4 +1,4 @@
-use Rattle.std.proofs.Common.{◌∙◌, ℕ, ap, length, arith}
+use Rattle.std.proofs.Common.{◌∙◌, ℕ, refl, ap, length, arith}
 use Rattle.dbp_plan.specs.declared.diagram.Task.{Task}
 use Rattle.dbp_rules.specs.Places.{no_task_wiring}
 use Rattle.dbp_rules.specs.Start.{start_task}
@@ -35,6 +35,7 @@ returns c =
     let count = c.len-occurrences.ensures ∙ ap (λ (t : TaskWiring). length t.times) c.wired_of.ensures ∙ time_count w seat c.requires.first.here in
     record {
       seat = c.requires.first;
+      turns = refl;
       work = c.in_ok-work.ensures ∙ ap (λ (t : Task). (start_task no_task_wiring t).work) c.declared_of-task.ensures;
       rows = c.in_ok-rows.ensures ∙ ap (λ (x : Task × ℕ). first_and_zeros x.0 x.1) (λ j. (c.declared_of-task.ensures j, count j));
     }

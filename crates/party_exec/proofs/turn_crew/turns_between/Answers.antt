@@ -1,22 +1,27 @@
-use Rattle.std.proofs.Common.{◌≡◌, ◌<◌, ◌∙◌, length, get_or, set, refl, arith, length-set}
+use Rattle.std.proofs.Common.{◌≡◌, ℕ, ◌+◌, ◌-◌, ◌<◌, ◌≤◌, length, get_or, set, subst, ◌∙◌, arith}
 use Rattle.std.proofs.lemmas.List.{get_or_default}
-use Rattle.party_exec.specs.SameSeats.{AreSame, IsSameParty}
-use Rattle.party_exec.proofs.SameParties.{all_belong, all_same, set_same, turned_same}
+use Rattle.party_exec.specs.Draws.{MakesDrawnTurns, turn_count}
+use Rattle.party_exec.specs.Jobs.{MakesTurns}
+use Rattle.party_exec.proofs.DrawnRounds.{between_same, one_draw, one_turned}
+use Rattle.party_exec.proofs.SameParties.{all_belong}
 use Rattle.party_exec.proofs.turn_crew.turns_between.Goals as goal
-
-pub loop-place-init : goal.loop-place-init
-loop-place-init c = record { size = refl; here = c.requires.here; same = all_same c.args.parties.now }
 
 pub loop-place-preserved : goal.loop-place-preserved
 loop-place-preserved c =
     let w = c.args.words.now in
+    let ps = c.args.parties.now in
     let now = c.loop-place.parties in
     let place = c.loop-place.place in
     let before = c.loop-place.invariant in
     let new = c.turns_drawn.new.party in
     let old = get_or now place c.index-parties-place.result in
-    let inside : place < length now = omega (arith, before.size, c.requires.there, c.loop-place-test.true) in
-    let kept : IsSameParty old new = turned_same w old _ new c.turns_drawn.ensures.turns in
-    let size : length (set now place new) ≡ length c.args.parties.now = length-set now place new ∙ before.size in
-    let same : AreSame c.args.parties.now (set now place new) = set_same c.args.parties.now now place old new before.same before.size inside (get_or_default now place c.index-parties-place.result old inside) kept in
-    record { size = size; here = all_belong w c.args.parties.now (set now place new) size c.requires.here same; same = same }
+    let low : c.args.from ≤ place = omega (arith, c.loop-place.auto.place) in
+    let inside : place < length now = omega (arith, before.turns.size, c.requires.there, c.loop-place-test.true) in
+    let read : old ≡ get_or now place old = get_or_default now place c.index-parties-place.result old inside in
+    let made : MakesDrawnTurns w (place - c.args.from) c.args.draws.now old new = subst (λ (n : ℕ). MakesTurns w old (turn_count n) new) before.draws c.turns_drawn.ensures.turns in
+    let turns = one_turned w c.args.from place c.args.draws.now ps now old new low inside read before.turns made in
+    record {
+      here = all_belong w ps (set now place new) turns.size c.requires.here (between_same w c.args.from (place + 1) c.args.draws.now ps (set now place new) turns);
+      turns = turns;
+      draws = c.turns_drawn.ensures.draws ∙ one_draw c.args.from place c.args.draws.now c.loop-place.draws low before.draws;
+    }

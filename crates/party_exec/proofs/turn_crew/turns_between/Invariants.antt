@@ -1,11 +1,11 @@
-use Rattle.std.proofs.Common.{◌≡◌, All, length}
+use Rattle.std.proofs.Common.{◌≡◌, ◌-◌, All}
+use Rattle.party_exec.specs.Draws.{MakeTurnsBetween, after_draws}
 use Rattle.party_exec.specs.Parties.{Belongs}
-use Rattle.party_exec.specs.SameSeats.{AreSame}
 use Rattle.party_exec.proofs.turn_crew.turns_between.Given as goal
 
 abbrev pub invariant-loop-place : goal.invariant-loop-place
 invariant-loop-place l = record {
-  size : length l.parties ≡ length l.initial.parties;
   here : All (Belongs l.words) l.parties;
-  same : AreSame l.initial.parties l.parties;
+  turns : MakeTurnsBetween l.words l.from l.place l.initial.draws l.initial.parties l.parties;
+  draws : l.draws ≡ after_draws (l.place - l.from) l.initial.draws;
 }

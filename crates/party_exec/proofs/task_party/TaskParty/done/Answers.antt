@@ -17,7 +17,9 @@ returns-clause-turn c = record {
   made = Done c.args.self.now.seat.task;
   loaded = no_word;
   seat = c.done.ensures.step;
+  turns = refl;
   allowed = may_finish (wired c.args.words.now.wiring c.args.self.now.seat.task) c.args.self.now.seat.part c.args.self.now.seat.task c.requires.place;
   part = c.done.ensures.part;
   answer = refl;
+  delayed = λ r is late. refl;
 }

@@ -19,7 +19,9 @@ returns-clause-turn c = record {
   made = End c.args.self.now.seat.task;
   loaded = no_word;
   seat = c.end.ensures.step;
+  turns = refl;
   allowed = may_end (wired c.args.words.now.wiring c.args.self.now.seat.task) c.args.self.now.seat.part c.args.self.now.seat.task c.requires.place;
   part = c.end.ensures.part;
   answer = refl;
+  delayed = λ r is late. refl;
 }

@@ -17,7 +17,9 @@ returns-clause-turn c = record {
   made = Hear c.args.self.now.seat.task;
   loaded = an_order c.hear.result;
   seat = c.hear.ensures.step;
+  turns = refl;
   allowed = may_hear (wired c.args.words.now.wiring c.args.self.now.seat.task) c.args.self.now.seat.part c.args.self.now.seat.task c.requires.place.0 c.requires.place.1;
   part = c.hear.ensures.part;
   answer = refl;
+  delayed = λ r is late. refl;
 }

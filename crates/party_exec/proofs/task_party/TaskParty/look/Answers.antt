@@ -1,10 +1,10 @@
-use Rattle.std.proofs.Common.{ap, sym, ◌∙◌}
+use Rattle.std.proofs.Common.{refl, ap, sym, ◌∙◌}
 use Rattle.dbp_rules.specs.PartyRules.{a_number, is_stamp_of, read_order_in, turn_at}
 use Rattle.dbp_rules.specs.Places.{read_at, wired}
 use Rattle.dbp_rules.specs.declared.step.Step.TheVariants.{Look}
 use Rattle.dbp_rules.specs.declared.wiring.TaskWiring.{TaskWiring}
 use Rattle.party_exec.proofs.Seats.{look_inside, may_look}
-use Rattle.party_exec.proofs.Turned.{has_looked, looked, not_ready}
+use Rattle.party_exec.proofs.Turned.{has_looked, looked, never_late, not_ready}
 use Rattle.party_exec.proofs.task_party.TaskParty.look.Goals as goal
 
 pub read_number-read-requires : goal.read_number-read-requires
@@ -27,9 +27,11 @@ returns-in-Ready-clause-turn c =
       made = Look c.args.self.now.seat.task c.read_number-read.result;
       loaded = a_number c.look.ensures.part.0;
       seat = c.look.ensures.step;
+      turns = refl;
       allowed = may_look w part c.args.self.now.seat.task c.args.turn c.read_number-read.result c.requires.place (sym read);
       part = c.look.ensures.part.1;
       answer = looked (is_stamp_of (read_order_in w part (turn_at part.place)) c.look.ensures.part.0) c.look.ensures.part.0 c.look.result c.look.ensures.part.2 c.in-Ready.is;
+      delayed = λ r is late. refl;
     }
 
 pub returns-in-NotYet-clause-turn : goal.returns-in-NotYet-clause-turn
@@ -41,7 +43,9 @@ returns-in-NotYet-clause-turn c =
       made = Look c.args.self.now.seat.task c.read_number-read.result;
       loaded = a_number c.look.ensures.part.0;
       seat = c.look.ensures.step;
+      turns = refl;
       allowed = may_look w part c.args.self.now.seat.task c.args.turn c.read_number-read.result c.requires.place (sym read);
       part = c.look.ensures.part.1;
       answer = not_ready (is_stamp_of (read_order_in w part (turn_at part.place)) c.look.ensures.part.0) c.look.ensures.part.0 _ c.look.result c.look.ensures.part.2 c.in-NotYet.is;
+      delayed = λ r is late. never_late c.args.words.now c.args.self.now.seat.task c.read_number-read.result r c.look.result _ _ c.look.ensures.delayed c.in-NotYet.is is late;
     }

@@ -20,7 +20,9 @@ returns-clause-turn c = record {
   made = Put c.args.self.now.seat.task c.args.port;
   loaded = no_word;
   seat = c.put.ensures.step;
+  turns = refl;
   allowed = may_put (wired c.args.words.now.wiring c.args.self.now.seat.task) c.args.self.now.seat.part c.args.self.now.seat.task c.args.port c.requires.place;
   part = c.put.ensures.part;
   answer = refl;
+  delayed = λ r is late. refl;
 }

@@ -17,7 +17,9 @@ returns-clause-turn c = record {
   made = Shut c.args.self.now.seat.task;
   loaded = no_word;
   seat = c.shut.ensures.step;
+  turns = refl;
   allowed = may_shut (wired c.args.words.now.wiring c.args.self.now.seat.task) c.args.self.now.seat.part c.args.self.now.seat.task c.requires.place;
   part = c.shut.ensures.part;
   answer = refl;
+  delayed = λ r is late. refl;
 }

@@ -1,3 +1,4 @@
+use Rattle.std.proofs.Common.{refl}
 use Rattle.dbp_rules.specs.PartyRules.{a_number, is_opened_by}
 use Rattle.dbp_rules.specs.Places.{wired}
 use Rattle.dbp_rules.specs.declared.step.Step.TheVariants.{Start}
@@ -16,9 +17,11 @@ returns-in-Started-clause-turn c = record {
   made = Start c.args.self.now.seat.task;
   loaded = a_number c.start.ensures.part.0;
   seat = c.start.ensures.step;
+  turns = refl;
   allowed = may_start (wired c.args.words.now.wiring c.args.self.now.seat.task) c.args.self.now.seat.part c.args.self.now.seat.task c.requires.place;
   part = c.start.ensures.part.1;
   answer = started (is_opened_by c.args.self.now.seat.part c.start.ensures.part.0) c.start.ensures.part.0 c.start.result c.start.ensures.part.2 c.in-Started.is;
+  delayed = λ r is late. refl;
 }
 
 pub returns-in-Closed-clause-turn : goal.returns-in-Closed-clause-turn
@@ -26,7 +29,9 @@ returns-in-Closed-clause-turn c = record {
   made = Start c.args.self.now.seat.task;
   loaded = a_number c.start.ensures.part.0;
   seat = c.start.ensures.step;
+  turns = refl;
   allowed = may_start (wired c.args.words.now.wiring c.args.self.now.seat.task) c.args.self.now.seat.part c.args.self.now.seat.task c.requires.place;
   part = c.start.ensures.part.1;
   answer = not_started (is_opened_by c.args.self.now.seat.part c.start.ensures.part.0) c.start.ensures.part.0 _ c.start.result c.start.ensures.part.2 c.in-Closed.is;
+  delayed = λ r is late. absurd (cc (is));
 }

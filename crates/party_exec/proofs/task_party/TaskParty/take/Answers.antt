@@ -59,7 +59,9 @@ returns-clause-turn c =
       made = Take c.args.self.now.seat.task c.read_number-read.result;
       loaded = a_value c.take-word.result;
       seat = c.take-word.ensures.step;
+      turns = refl;
       allowed = may_take (wired c.args.words.now.wiring c.args.self.now.seat.task) c.args.self.now.seat.part c.args.self.now.seat.task c.args.turn c.read_number-read.result c.requires.place (sym read);
       part = c.take-word.ensures.part;
       answer = refl;
+      delayed = λ r is late. refl;
     }
