@@ -59,6 +59,8 @@ PICTURES = (
     Picture("examples/logger.dbp", Kind.DIAGRAM),
     Picture("examples/sim/late.dbp", Kind.TIMELINE),
     Picture("examples/sim/mended.dbp", Kind.TIMELINE),
+    Picture("examples/feedback.dbp", Kind.DIAGRAM),
+    Picture("examples/feedback.dbp", Kind.SLOTS, (0, 10), "sensor"),
     Picture("docs/pictures/served.dbp", Kind.TIMELINE),
     Picture("docs/pictures/kept.dbp", Kind.SLOTS, (0, 12), "sensor"),
 )
