@@ -26,11 +26,10 @@ pub fn played_steps_are_allowed()
 /// lists are such steps, one after another.
 pub fn pieces_go_together()
     ensures together { (p : Plan) (w : Wiring) (first then_ : Items Event) (steps more : Items Step)
-        (s t u : State)
-        → Plays p w s first steps t → Plays p w t then_ more u
+        (s t u : State) → Plays p w s first steps t → Plays p w t then_ more u
         → Plays p w s (first ++ then_) (steps ++ more) u }
-    ensures apart { (p : Plan) (w : Wiring) (first then_ : Items Event) (both : Items Step) (s u : State)
-        → Plays p w s (first ++ then_) both u
+    ensures apart { (p : Plan) (w : Wiring) (first then_ : Items Event) (both : Items Step)
+        (s u : State) → Plays p w s (first ++ then_) both u
         → (steps : Items Step) × (more : Items Step) × (t : State) × (both ≡ steps ++ more)
         × Plays p w s first steps t × Plays p w t then_ more u }
 {}
