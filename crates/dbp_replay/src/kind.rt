@@ -1,6 +1,7 @@
 // The table of the forms of script lines.
 
 ghost use Rattle.std.specs.Prelude.{◌≡◌, [], ◌∷◌, ◌++◌};
+ghost use Rattle.std.specs.Str.{bytes_eq};
 ghost use Rattle.dbp_replay.specs.StepForms.{all_kinds, form_of, kind_among, kind_with};
 
 use dbp_core::StepKind;
@@ -92,11 +93,19 @@ fn all_kinds() -> &'static [StepKind]
     ]
 }
 
+// Whether the text is the word of the kind. First bytes mostly say that it isn't.
+fn is_word(kind: StepKind, text: &[u8]) -> bool
+    ensures { result ≡ bytes_eq (form_of kind).0 text.now }
+{
+    let word = word_of(kind);
+    word.first() == text.first() && word == text
+}
+
 /// The first of the kinds that has the word.
 fn kind_among(kinds: &[StepKind], text: &[u8]) -> Option<StepKind>
     ensures { result ≡ kind_among kinds.now text.now }
 {
-    kinds.iter().find(|kind| word_of(**kind) == text).copied()
+    kinds.iter().find(|kind| is_word(**kind, text)).copied()
 }
 
 /// The kind of the lines that begin with the word.

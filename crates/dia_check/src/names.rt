@@ -23,7 +23,7 @@ pub(crate) enum Kind {
 }
 
 /// Whether the names are one. Their last bytes are compared first: names of one document mostly differ there.
-pub(crate) fn is_same_name(name: &Name, other: &Name) -> bool
+pub fn is_same_name(name: &Name, other: &Name) -> bool
     ensures { result ≡ bytes_eq name.now other.now }
 {
     let name = name.bytes();

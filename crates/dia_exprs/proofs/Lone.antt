@@ -1,16 +1,15 @@
 -- A number or a name that is a product of its own.
-use Rattle.std.proofs.Common.{◌≡◌, ℕ, ◌≤◌, Bool, true, false, ◌&&◌, not, List, [], ◌∷◌, length, Option, Some, None, refl, sym, ap, subst, ◌∙◌, arith}
+use Rattle.std.proofs.Common.{◌≡◌, true, not, List, [], ◌∷◌, length, Option, Some, None, refl, sym, ap, ◌∙◌, arith}
 use Rattle.std.specs.Option.{is_some}
 use Rattle.dbp_plan.specs.declared.node.BinOp.{BinOp}
 use Rattle.dbp_plan.specs.Tree.{number, variable}
 use Rattle.dia_tokens.specs.declared.token.Token.{Token}
 use Rattle.dia_tokens.specs.declared.token.Token.TheVariants as token
-use Rattle.dia_exprs.specs.declared.level.Level.{Level}
 use Rattle.dia_exprs.specs.declared.level.Level.TheVariants.{Product, Prefixed, Factor}
 use Rattle.dia_exprs.specs.declared.fail.ExpressionFail.{ExpressionFail}
 use Rattle.dia_exprs.specs.Grammar.{Expression, operator}
 use Rattle.dia_exprs.specs.Reading.{◌>>=◌, Place, reader}
-use Rattle.dia_exprs.specs.Parsing.{of_level, HasRead, HasNone, is_leaf, is_lone, operator_at, prefix_at}
+use Rattle.dia_exprs.specs.Parsing.{of_level, HasRead, HasNone, is_lone, operator_at, prefix_at}
 use Rattle.dia_exprs.proofs.Complete.{more-ends}
 use Rattle.dia_exprs.proofs.Steps.{Nodes, first-refused, first-read, unprefixed-refused, unprefixed-read, factor-number, factor-name, no_operator_ends}
 

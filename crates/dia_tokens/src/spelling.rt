@@ -15,14 +15,18 @@ use crate::line::all_allowed;
 use crate::piece::Piece;
 use crate::values::{fault_of, first_fault};
 use dbp_plan::NoMemory;
+use smallvec::SmallVec;
 use std::alloc::Global;
 use std::marker::Model;
 
 /// The tokens of a line as they are spelled, joined by one space. A contract sees the text.
 #[derive(Drop)]
 pub struct Spelling {
-    text: Vec<u8>,
+    text: SmallVec<u8, NEAR>,
 }
+
+// Bytes that a text has room for in place. The lines of most scripts are shorter.
+const NEAR: usize = 64;
 
 impl Model for Spelling {
     ghost use Rattle.std.specs.Prelude.{ℕ, List};
@@ -37,7 +41,7 @@ impl Spelling {
     pub fn bytes(&self) -> &[u8]
         ensures { result.now ≡ self.now }
     {
-        &self.text
+        self.text.as_slice()
     }
 }
 
@@ -53,7 +57,7 @@ fn text_of<'a>(piece: Piece<'a>) -> &'a [u8]
 }
 
 /// Adds the token's text, after a space unless it is the first.
-fn push_piece(first: bool, out: &mut Vec<u8>, piece: Piece) -> Result<(), NoMemory>
+fn push_piece(first: bool, out: &mut SmallVec<u8, NEAR>, piece: Piece) -> Result<(), NoMemory>
     ensures { OnOk result (out.new.items ≡ out.old.items ++ spaced first (seen piece.entry)) }
 {
     if !first {
@@ -76,7 +80,7 @@ pub fn line_spelling(alloc: Global, line: &[u8]) -> Result<Spelling, LineFail>
     if !all_allowed(line) {
         return Err(LineFail::BadByte);
     }
-    let mut text = Vec::with_capacity(alloc, line.len())?;
+    let mut text = SmallVec::with_capacity(alloc, line.len())?;
     let mut fault = None;
     let mut first = true;
     let mut signed = true;
