@@ -52,7 +52,7 @@ module _ {C : Type 0} (runs : C → List CrewEntry) where
   CrewsAfter nobody status input crew new_crew turns new_turns = (new_crew ≡ crew) × (new_turns ≡ turns)
   CrewsAfter the_crew status input crew new_crew turns new_turns = RunsAfter status input (runs crew) (runs new_crew) × (new_turns ≡ turns)
   CrewsAfter (drawn_turns seed) status input crew new_crew turns new_turns =
-      (new_crew ≡ crew) × RunsAfter status input (turn_runs turns) (turn_runs new_turns) × (status ≡ Ok → seed_of new_turns ≡ seed)
+      (new_crew ≡ crew) × RunsAfter status input (turn_runs turns) (turn_runs new_turns) × (seed_of new_turns ≡ seed)
 
   -- both crews after a call with these words
   pub record Crews (words : List (String Global)) (status : Status) (input : Option (List ℕ)) (crew new_crew : C) (turns new_turns : TurnCrew) : Type 0 where

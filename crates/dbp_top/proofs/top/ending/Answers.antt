@@ -46,7 +46,7 @@ returns-in-Some-Run-Some-clause-crews g c =
     record {
       named = λ command other.
           subst (λ (d : Command). CrewsAfter g.C.Crew.runs (runner_of d) status (text_to_run d input) c.args.crew.now c.args.crew.now turns new_turns)
-          (one-command c.args.words.now (Run (Some seed)) command named other) (refl, runs, λ _. c.run_ending-in-Some-Run-Some.ensures.seed ∙ c.seed.ensures.seed);
+          (one-command c.args.words.now (Run (Some seed)) command named other) (refl, runs, c.run_ending-in-Some-Run-Some.ensures.seed ∙ c.seed.ensures.seed);
       unnamed = λ none. absurd (none (Run (Some seed)) named);
     }
 
