@@ -8,7 +8,7 @@ use crate::look_up::{entry_at, task_at, wired_at};
 use crate::rank_mask::RankMask;
 use dbp_rules::{Broken, Count, Illegal, State, Wiring};
 
-// The time of the task's first instance that hasn't ended; 0 where all have.
+// The time of the task's first instance that hasn't ended; 0 if all have.
 pub(crate) fn own_time(wiring: &Wiring, state: &State, i: u32) -> u64
     requires wired { i < length wiring.now.tasks }
     requires task { i < length state.now.tasks }

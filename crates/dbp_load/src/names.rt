@@ -17,7 +17,7 @@ pub(crate) fn name(bytes: &[u8]) -> Name
     }
 }
 
-/// The letter, and the number behind it.
+/// The letter, and the number after it.
 fn numbered(letter: u8, number: u32) -> Name
     requires name { IsName (letter ∷ decimal number) }
     requires number { number < 100 }

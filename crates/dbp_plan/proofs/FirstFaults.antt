@@ -29,7 +29,7 @@ module _ {A F : Type 0} (fault : List A → A → Option F) (xs : List A) (ns : 
   pub first-none : (k : ℕ) → FirstFrom k → length xs ≤ k → None ≡ first_fault (faults_behind fault [] xs ns)
   first-none k so_far end = sym (so_far ∙ ap (λ rest. first_fault (faults_behind fault (take k xs) rest (drop k ns))) (nothing-behind xs k end))
 
--- ---- behind one another
+-- ---- one after another
 
 pub first-append : {F : Type 0} (xs ys : List (ℕ × Option F)) → first_fault xs ≡ None → first_fault (xs ++ ys) ≡ first_fault ys
 first-append [] ys e = refl

@@ -1,4 +1,4 @@
--- A list in front of an index, at it, and behind it.
+-- A list before an index, at it, and after it.
 use Rattle.std.proofs.Common.{◌≡◌, ℕ, zero, suc, ◌+◌, ◌<◌, ◌≤◌, List, [], ◌∷◌, ◌++◌, length, take, drop, get_or, slice_get, Some, refl, sym, ap, ◌∙◌, arith}
 use Rattle.std.specs.Prelude.{replicate}
 use Rattle.std.proofs.Math.Seq.{drop-cons, take-append_seam}
@@ -33,7 +33,7 @@ pub refilled : {A : Type 0} (n : ℕ) (xs ws : List A) → n ≡ length xs → l
 refilled n xs ws size same =
     ap (λ rest. take n (ws ++ rest)) (nothing-behind xs (length ws) (omega arith)) ∙ ap (λ k. take k (ws ++ [])) (size ∙ sym same) ∙ take-append_seam ws []
 
--- a list of one item has it at each index, where it stands in for none too
+-- a list of one item has it at each index, if it stands in for none too
 pub repeated : {A : Type 0} (n k : ℕ) (x : A) → get_or (replicate n x) k x ≡ x
 repeated zero k x = refl
 repeated (suc n) zero x = refl

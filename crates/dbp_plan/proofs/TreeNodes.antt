@@ -1,4 +1,4 @@
--- The nodes of a tree behind other nodes, and the places of its operands.
+-- The nodes of a tree after other nodes, and the places of its operands.
 use Rattle.std.proofs.Common.{◌≡◌, ℕ, zero, suc, ◌+◌, ◌-◌, ◌<◌, ◌≤◌, List, [], ◌∷◌, ◌++◌, length, map, slice_get, Some, refl, sym, ◌∙◌, ap, arith, subst, length-append}
 use Rattle.std.proofs.lemmas.List.{map-append}
 use Rattle.dbp_plan.specs.declared.node.BinOp.{BinOp}
@@ -11,7 +11,7 @@ use Rattle.dbp_plan.specs.declared.expr.Expr.{Expr}
 use Rattle.dbp_plan.specs.Expr.{tree_of}
 use Rattle.dbp_plan.specs.Operands.{OperandsBelow, moved_by}
 
--- a tree that stands behind more nodes has the same nodes, moved
+-- a tree that stands after more nodes has the same nodes, moved
 pub nodes_of-moved : {V : Type 0} (n at : ℕ) (t : Tree V) → map (moved_by n) (nodes_of at t) ≡ nodes_of (at + n) t
 nodes_of-moved n at (number z) = refl
 nodes_of-moved n at (variable v) = refl
@@ -44,7 +44,7 @@ nodes_of-moved n at (choice c y m) =
       last,
     ) refl
 
--- what holds of each node of both lists holds of each node of one behind the other
+-- what holds of each node of both lists holds of each node of one after the other
 abbrev EachNode : {V : Type 0} → (ℕ → Node V → Type 0) → ℕ → List (Node V) → Type 0
 EachNode {V} P at nodes = (k : ℕ) (node : Node V) → slice_get nodes k ≡ Some node → P (at + k) node
 
@@ -111,7 +111,7 @@ pub length-joined : {V : Type 0} (before both : List (Node V)) (e : Expr V) → 
 length-joined before both e is =
     omega (arith, ap length is, length-append before (nodes_of (length before) (tree_of e)), length-nodes_of (length before) (tree_of e), length-tree_of e)
 
--- a root put behind the nodes of its operands makes the nodes of the tree
+-- a root put after the nodes of its operands makes the nodes of the tree
 module _ {V : Type 0} where
   pub joined_unary : (op : UnOp) (t : Tree V) (nodes made : List (Node V)) (root : ℕ) → nodes ≡ nodes_of 0 t → root ≡ length nodes - 1 → made ≡ nodes ++ Un op root ∷ []
       → made ≡ nodes_of 0 (unary op t)

@@ -9,7 +9,7 @@ use Rattle.dbp_plan.specs.declared.diagram.Let.{Let}
 abbrev pub VariablesBelow : ℕ → List (Node ℕ) → Type 0
 VariablesBelow bound nodes = (k v : ℕ) → slice_get nodes k ≡ Some (Var v) → v < bound
 
--- The order holds each let once, and each behind those that it uses. The variable of a let is the base plus its place.
+-- The order holds each let once, and each after those that it uses. The variable of a let is the base plus its place.
 pub record IsLetOrder (base : ℕ) (lets : List Let) (order : List ℕ) : Type 0 where
   pub size : length order ≡ length lets
   pub named : All (λ i. i < length lets) order

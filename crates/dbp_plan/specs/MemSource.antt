@@ -38,7 +38,7 @@ pub record CountsRead (old new : MemSource) : Type 0 where
   pub piece : piece_size new ≡ piece_size old
   pub failing : failing_calls new ≡ failing_calls old
 
--- the buffer behind what a read gives stays
+-- the buffer after what a read gives stays
 abbrev pub KeepsBehind : List ℕ → List ℕ → Got → Type 0
 KeepsBehind old new (Bytes n) = drop n new ≡ drop n old
 KeepsBehind old new _ = new ≡ old

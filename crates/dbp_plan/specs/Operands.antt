@@ -10,7 +10,7 @@ OperandsBelow bound (Bin op a b) = (a < bound) × (b < bound)
 OperandsBelow bound (Pick c a b) = (c < bound) × (a < bound) × (b < bound)
 OperandsBelow bound _ = Unit {0}
 
--- the node in a list that stands behind so many nodes
+-- the node in a list that stands after so many nodes
 abbrev pub moved_by : {V : Type 0} → ℕ → Node V → Node V
 moved_by n (Num z) = Num z
 moved_by n (Var v) = Var v

@@ -79,7 +79,7 @@ set_other (x ∷ xs) (suc i) (suc j) y apart = set_other xs i j y (λ e. apart (
 pub same_item : {X : Type 0} (xs ys : List X) (i : ℕ) (d : X) → slice_get xs i ≡ slice_get ys i → get_or xs i d ≡ get_or ys i d
 same_item xs ys i d same = sym (unwrap_or-slice_get xs i d) ∙ ap (λ o. unwrap_or o d) same ∙ unwrap_or-slice_get ys i d
 
--- ---- in front of a cut, and behind it
+-- ---- before a cut, and after it
 
 pub take_place : {X : Type 0} (xs : List X) (n i : ℕ) → i < n → slice_get (take n xs) i ≡ slice_get xs i
 take_place xs zero i below = absurd (omega arith)

@@ -8,7 +8,7 @@ use Rattle.dbp_plan.specs.declared.schedule.Sample.{Sample}
 abbrev pub is_given : ℕ → ℕ → Sample → Bool
 is_given input time s = (s.input == input) && nat_le s.time time
 
--- the last of the values, or the first one where there are none
+-- the last of the values, or the first one if there are none
 abbrev pub last_value : ℤ → List ℤ → ℤ
 last_value first values = fold (λ _ v. v) first values
 

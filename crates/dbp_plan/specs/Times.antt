@@ -80,7 +80,7 @@ none-come [] time later = refl
 none-come (t ∷ ts) time later =
     count-later t ts time (later 0 0 (omega arith)) ∙ none-come ts time (λ k d fits. later (suc k) d (omega arith))
 
--- as many first times as are counted until a time are not behind it
+-- as many first times as are counted until a time are not after it
 pub has_come : (ts : List ℕ) (k t time : ℕ) → Rises ts → slice_get ts k ≡ Some t → k < count_until ts time → t ≤ time
 has_come [] k t time rises at counted = absurd (cc (at))
 has_come (u ∷ us) k t time rises at counted = elim (cases_lt time u) [

@@ -21,7 +21,7 @@ size_of (unary op t) = size_of t + 1
 size_of (binary op l r) = size_of l + size_of r + 1
 size_of (choice c y n) = size_of c + size_of y + size_of n + 1
 
--- the root's node, where the tree's first node stands at this place: each operand's root is its last node
+-- the root's node, if the tree's first node stands at this place: each operand's root is its last node
 abbrev pub root_of : {V : Type 0} → ℕ → Tree V → Node V
 root_of at (number z) = Num z
 root_of at (variable v) = Var v

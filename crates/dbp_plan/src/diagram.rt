@@ -87,7 +87,7 @@ pub struct Task {
     pub senses: List<Sense>,
     pub reads: List<Read>,
     pub lets: List<Let>,
-    /// An order of the lets in which each comes behind those that it uses.
+    /// An order of the lets in which each comes after those that it uses.
     pub order: List<u32>,
     pub nexts: List<Next>,
     pub outs: List<Out>,

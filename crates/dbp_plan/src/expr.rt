@@ -44,7 +44,7 @@ impl<V: Copy> Expr<V> {
         Ok(Expr { nodes })
     }
 
-    /// An operator before an operand, which is given up where memory runs out.
+    /// An operator before an operand, which is given up if memory runs out.
     pub fn unary(op: UnOp, operand: Expr<V>) -> Result<Expr<V>, NoMemory>
         requires { length operand.nodes + 1 ≤ MAX_NODES }
         ensures { IfOk result (λ e. IsExprOf e (unary op (tree_of operand))) }
@@ -55,7 +55,7 @@ impl<V: Copy> Expr<V> {
         Ok(Expr { nodes })
     }
 
-    /// An operator between two operands, the first of which is given up where memory runs out.
+    /// An operator between two operands, the first of which is given up if memory runs out.
     pub fn binary(op: BinOp, left: Expr<V>, right: &Expr<V>) -> Result<Expr<V>, NoMemory>
         requires { length left.nodes + length right.now.nodes + 1 ≤ MAX_NODES }
         ensures { IfOk result (λ e. IsExprOf e (binary op (tree_of left) (tree_of right.now))) }
@@ -68,7 +68,7 @@ impl<V: Copy> Expr<V> {
         Ok(Expr { nodes })
     }
 
-    /// The value of the one where the condition isn't 0, else that of the other. The condition is given up where
+    /// The value of the one if the condition isn't 0, else that of the other. The condition is given up if
     /// memory runs out.
     pub fn choice(condition: Expr<V>, one: &Expr<V>, other: &Expr<V>) -> Result<Expr<V>, NoMemory>
         requires { length condition.nodes + length one.now.nodes + length other.now.nodes + 1 ≤ MAX_NODES }

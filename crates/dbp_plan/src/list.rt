@@ -1,4 +1,4 @@
-// The list that grows, and want of memory.
+// The list that grows, and the error that memory ran out.
 
 ghost use Rattle.std.specs.Prelude.{◌≡◌, ℕ, ◌+◌, ◌^◌, ◌<◌, ◌≤◌, ◌↔◌, List as Items, [], ◌∷◌, ◌++◌, length, IfOk, IsNone, IsTrue, OnOk, OnErr, slice_get};
 ghost use Rattle.std.specs.Option.{option_copied};
@@ -7,7 +7,7 @@ ghost use Rattle.std.specs.Borrow.{sem};
 use std::alloc::{AllocError, AllocFailed, Global};
 use std::marker::Model;
 
-/// Memory ran out. Any call that takes memory may answer this at any time.
+/// Memory ran out. Any call that takes memory may return this at any time.
 #[derive(Clone, Copy, Debug, PartialEq, Eq)]
 pub struct NoMemory;
 
@@ -54,7 +54,7 @@ impl<T: Drop> List<T> {
         }
     }
 
-    /// Adds the item at the end. Where memory runs out the list stays as it was, and the item is given up.
+    /// Adds the item at the end. If memory runs out the list stays as it was, and the item is given up.
     pub fn push(&mut self, item: T) -> Result<(), NoMemory>
         requires { length self.old + 1 < 2 ^ 32 }
         ensures ok { OnOk result (self.new ≡ self.old ++ item ∷ []) }
@@ -123,7 +123,7 @@ impl<T: Drop> List<T> {
 }
 
 impl<T: Copy> List<T> {
-    /// Adds the items at the end, in order. Where memory runs out the list stays as it was.
+    /// Adds the items at the end, in order. If memory runs out the list stays as it was.
     pub fn extend_from_slice(&mut self, items: &[T]) -> Result<(), NoMemory>
         requires { length self.old + length items.now < 2 ^ 32 }
         ensures ok { OnOk result (self.new ≡ self.old ++ items.now) }

@@ -7,7 +7,7 @@ use crate::calls::fails_at;
 use crate::{Put, Sink};
 
 /// A sink in memory. A write takes as many bytes as the piece, the offered bytes and the room that is left allow.
-/// It fails where its number, counted from 1, is among those that are to fail, and where no room is left.
+/// It fails if its number, counted from 1, is among those that are to fail, and if no room is left.
 #[derive(Drop)]
 pub struct MemSink {
     store: Vec<u8>,

@@ -7,7 +7,7 @@ use crate::calls::fails_at;
 use crate::{Got, Source};
 
 /// A source in memory. A read gives as many bytes as the piece, the buffer and what is left allow, and fails
-/// where its number, counted from 1, is among those that are to fail. For tests.
+/// if its number, counted from 1, is among those that are to fail. For tests.
 #[derive(Drop)]
 pub struct MemSource {
     bytes: Vec<u8>,

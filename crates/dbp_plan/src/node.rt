@@ -36,6 +36,6 @@ pub enum Node<V> {
     Un(UnOp, u32),
     /// An operator, its left and its right operand.
     Bin(BinOp, u32, u32),
-    /// `if .. then .. else ..`: the condition, the value where it isn't 0, and the value where it is.
+    /// `if .. then .. else ..`: the condition, the value if it isn't 0, and the value if it is.
     Pick(u32, u32, u32),
 }

@@ -1,4 +1,4 @@
-// Nodes behind other nodes.
+// Nodes after other nodes.
 
 ghost use Rattle.std.specs.Prelude.{◌≡◌, ◌+◌, ◌≤◌, ◌^◌, ◌<◌, ◌++◌, length, OnOk};
 ghost use Rattle.dbp_plan.specs.Operands.{OperandsBelow, moved_by};
@@ -20,7 +20,7 @@ pub(crate) fn append<V: Copy>(nodes: &mut List<Node<V>>, expr: &Expr<V>) -> Resu
     Ok(())
 }
 
-// The node behind so many others.
+// The node after so many others.
 fn moved<V: Copy>(node: Node<V>, by: u32) -> Node<V>
     requires operands { OperandsBelow (2 ^ 16) node }
     requires by { by < 2 ^ 16 }

@@ -8,7 +8,7 @@ use std::io;
 /// What a write takes.
 #[derive(Clone, Copy, Debug, PartialEq, Eq)]
 pub enum Put {
-    /// So many bytes, at least one, from the front of the piece.
+    /// So many bytes, at least one, from the beginning of the piece.
     Bytes(usize),
     /// The write failed, and what was written stayed.
     Failed,
@@ -16,13 +16,13 @@ pub enum Put {
 
 /// Where bytes go: a file, a pipe, memory.
 pub trait Sink {
-    /// The bytes written so far, where the sink tells them.
+    /// The bytes written so far, if the sink says them.
     ghost written: { Self → Option (List ℕ) };
 
     /// How often the sink has failed. The count never falls.
     ghost faults: { Self → ℕ };
 
-    /// Writes some bytes from the front of the piece. It fails only where the count of faults rose, or stands at
+    /// Writes some bytes from the beginning of the piece. It fails only if the count of faults rose, or stands at
     /// its last value.
     fn write(&mut self, piece: &[u8]) -> Put
         requires { 0 < length piece.now }
@@ -30,7 +30,7 @@ pub trait Sink {
         ensures cause { TakesCause (faults self.old) (faults self.new) result };
 }
 
-/// A sink over a writer of std's, as a file or a pipe. It tells of its bytes what the writer tells, which for a
+/// A sink over a writer of std's, as a file or a pipe. It says of its bytes what the writer says, which for a
 /// file or a pipe is nothing. A write that takes nothing has failed. Its count of faults is a number of 64 bits
 /// that stays at its last value.
 #[derive(Drop)]
@@ -50,7 +50,7 @@ impl<W: io::Write> WriteSink<W> {
         WriteSink { writer, failed: 0 }
     }
 
-    // What the writer answered, counted where it is a failure.
+    // What the writer returned, counted if it is a failure.
     fn answered(&mut self, taken: io::Result<usize>) -> Put
         ensures put { result ≡ put_of taken }
         ensures writer { inner_writer self.new ≡ inner_writer self.old }

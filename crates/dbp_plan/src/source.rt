@@ -8,7 +8,7 @@ use std::io;
 /// What a read gives.
 #[derive(Clone, Copy, Debug, PartialEq, Eq)]
 pub enum Got {
-    /// So many bytes, at least one, at the front of the buffer.
+    /// So many bytes, at least one, at the beginning of the buffer.
     Bytes(usize),
     /// Nothing is left.
     End,
@@ -18,21 +18,21 @@ pub enum Got {
 
 /// Where bytes come from: a file, a pipe, a text in memory.
 pub trait Source {
-    /// The bytes still to come, where the source tells them.
+    /// The bytes still to come, if the source says them.
     ghost left: { Self → Option (List ℕ) };
 
     /// How often the source has failed. The count never falls.
     ghost faults: { Self → ℕ };
 
-    /// Reads some bytes into the front of the buffer. The first bytes of the buffer are the front of what was
-    /// left. It fails only where the count of faults rose, or stands at its last value.
+    /// Reads some bytes to the beginning of the buffer. The first bytes of the buffer are the first of what was
+    /// left. It fails only if the count of faults rose, or stands at its last value.
     fn read(&mut self, buf: &mut [u8]) -> Got
         requires { 0 < length buf.old }
         ensures bytes { GivesBytes (left self.old) (left self.new) buf.new result }
         ensures cause { GivesCause (faults self.old) (faults self.new) result };
 }
 
-/// A source over a reader of std's, as a file or a pipe. It tells of its bytes what the reader tells, which for
+/// A source over a reader of std's, as a file or a pipe. It says of its bytes what the reader says, which for
 /// a file or a pipe is nothing. Its count of faults is a number of 64 bits that stays at its last value.
 #[derive(Drop)]
 pub struct ReadSource<R> {
@@ -51,7 +51,7 @@ impl<R: io::Read> ReadSource<R> {
         ReadSource { reader, failed: 0 }
     }
 
-    // What the reader answered, counted where it is a failure.
+    // What the reader returned, counted if it is a failure.
     fn answered(&mut self, given: io::Result<usize>) -> Got
         ensures got { result ≡ got_of given }
         ensures reader { inner_reader self.new ≡ inner_reader self.old }

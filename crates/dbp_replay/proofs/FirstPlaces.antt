@@ -18,7 +18,7 @@ use Rattle.dbp_replay.specs.Places.{link_in, out_name, port_name, read_name, tas
 use Rattle.dbp_replay.specs.StepForms.{is_link, link_between, port_named, read_named, task_named, within}
 use Rattle.dbp_replay.proofs.There.{link-parts}
 
--- the place of an item that passes the test, where those that stand before it don't
+-- the place of an item that passes the test, if those that stand before it don't
 first-place : {X : Type 0} (R : X → X → Type 0) (test : X → Bool) (xs : List X) (i : ℕ) (x : X) → AllPairs R xs → slice_get xs i ≡ Some x → test x ≡ true → ((y : X) → R y x → test y ≡ false)
     → within (length xs) (position_or_len test xs) ≡ Some i
 first-place R test xs i x pairs at passes fails =

@@ -34,7 +34,7 @@ use Rattle.dbp_rules.specs.StepKinds.{kind_of}
 use Rattle.dbp_replay.proofs.FirstPlaces.{link-place, port-place, port-printable, read-place, read-printable, task-place, task-printable}
 use Rattle.dbp_replay.proofs.StepWords.{first-printable, first-text, first-unsigned, first_token, kind-again}
 
--- ---- the words behind the task
+-- ---- the words after the task
 
 -- these words are the operand that their kind takes
 record IsOperand (takes : Takes) (words : List (List ℕ)) (o : Operand) : Type 0 where

@@ -39,7 +39,7 @@ pub record AreTaken (p : Plan) (count : Count) (steps : List Step) (taken : List
   pub leads : Leads p (wiring_of p count) (first p count) steps state
   pub told : taken ≡ with_heard p (wiring_of p count) (first p count) steps
 
--- all steps are allowed, and the text tells what each hears
+-- all steps are allowed, and the text says what each hears
 pub record IsReplay (p : Plan) (count : Count) (steps : List Step) (text : List ℕ) : Type 0 where
   pub state : State
   pub leads : Leads p (wiring_of p count) (first p count) steps state
@@ -55,7 +55,7 @@ pub record IsIllegal (p : Plan) (count : Count) (steps : List Step) (number : �
   pub refused : refusal (wiring_of p count) state step ≡ Some why
   pub which : number ≡ place + 1
 
--- what a refusal tells; want of memory tells nothing
+-- what a refusal says; out of memory says nothing
 abbrev pub IsReplayRefusal : Plan → Count → List Step → ReplayFail → Type 0
 IsReplayRefusal p count steps (fail.Illegal number why) = IsIllegal p count steps number why
 IsReplayRefusal p count steps fail.NoMemory = Unit {0}

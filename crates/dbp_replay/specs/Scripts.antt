@@ -45,7 +45,7 @@ pub data IsScriptFault (d : Diagram) (doc : Doc) : ℕ → ScriptCode → Type 0
   at_a_line : (text : List ℕ) (at : ℕ) (code : ScriptCode) → doc.body.script ≡ Some text → IsFirstFault d (lines_of text) doc.lines.script at code
       → IsScriptFault d doc at code
 
--- what a refusal tells; want of memory tells nothing
+-- what a refusal says; out of memory says nothing
 abbrev pub IsScriptRefusal : Diagram → Doc → ScriptFail → Type 0
 IsScriptRefusal d doc (fail.Refused at code) = IsScriptFault d doc at code
 IsScriptRefusal d doc fail.NoMemory = Unit {0}

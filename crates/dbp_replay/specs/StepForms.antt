@@ -22,7 +22,7 @@ use Rattle.dbp_rules.specs.declared.kind.StepKind.TheVariants.{Seen, Aim, Claim,
 use Rattle.dbp_replay.specs.declared.kind.Takes.{Takes}
 use Rattle.dbp_replay.specs.declared.kind.Takes.TheVariants.{Nothing, Slot, Writer, Read, Port}
 
--- ---- the table of forms: the word that begins a line, and what stands behind the task
+-- ---- the table of forms: the word that begins a line, and what stands after the task
 
 abbrev pub form_of : StepKind → List ℕ × Takes
 form_of Seen = (codes "seen", Nothing)
@@ -100,7 +100,7 @@ form_in _ = None
 
 -- ---- the step of a form in a diagram
 
--- the place in a list of this length, where it is one
+-- the place in a list of this length, if it is one
 abbrev pub within : ℕ → ℕ → Option ℕ
 within len place = if nat_lt place len then Some place else None
 
@@ -123,7 +123,7 @@ abbrev pub link_between : Diagram → Option ℕ → ℕ → ℕ → Option ℕ
 link_between d None reader delay = None
 link_between d (Some writer) reader delay = within (length d.links) (position_or_len (is_link writer reader delay) d.links)
 
--- the number that an operand of the task's step is; where there is none it is 0
+-- the number that an operand of the task's step is; if there is none it is 0
 abbrev pub number_of : Diagram → ℕ → Operand → Option ℕ
 number_of d i operand.Nothing = Some 0
 number_of d i (operand.Slot n) = Some n
@@ -131,7 +131,7 @@ number_of d i (operand.Link delay writer) = link_between d (task_named d writer)
 number_of d i (operand.Read n) = read_named d i n
 number_of d i (operand.Port n) = port_named d i n
 
--- the step of the kind: of this task, and with this number where it takes one
+-- the step of the kind: of this task, and with this number if it takes one
 abbrev pub step_with : StepKind → ℕ → ℕ → Step
 step_with Seen i n = step.Seen i
 step_with Aim i n = step.Aim i n
@@ -158,6 +158,6 @@ abbrev pub named_step : Diagram → Option Form → Result Step ScriptCode
 named_step d None = Err BadStep
 named_step d (Some f) = of_task d f (task_named d f.task)
 
--- the step that the tokens of a line name; else `BadStep` where they have no form, and `StepName` where a name isn't there
+-- the step that the tokens of a line name; else `BadStep` if they have no form, and `StepName` if a name isn't there
 abbrev pub step_of : Diagram → List Token → Result Step ScriptCode
 step_of d ts = named_step d (form_in ts)

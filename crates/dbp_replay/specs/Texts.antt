@@ -11,7 +11,7 @@ use Rattle.dbp_plan.specs.declared.diagram.Diagram.{Diagram}
 use Rattle.dbp_replay.specs.Places.{link_in, port_name, read_name, task_in, task_of}
 use Rattle.dbp_replay.specs.StepForms.{form_of}
 
--- each word behind a space
+-- each word after a space
 abbrev pub spaced_words : List (List ℕ) → List ℕ
 spaced_words [] = []
 spaced_words (w ∷ ws) = 32 ∷ w ++ spaced_words ws
@@ -24,7 +24,7 @@ delay_number delay = if delay == 1 then [] else decimal delay ∷ []
 abbrev pub delay_words : ℕ → List (List ℕ)
 delay_words delay = if delay == 0 then [] else codes "pre" ∷ delay_number delay
 
--- the words behind the task
+-- the words after the task
 abbrev pub operand_words : Diagram → Step → List (List ℕ)
 operand_words d (step.Aim i slot) = decimal slot ∷ []
 operand_words d (step.Claim k) = delay_words (link_in d k).delay ++ (task_in d (link_in d k).writer).name ∷ []

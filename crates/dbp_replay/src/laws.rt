@@ -19,7 +19,7 @@ ghost use Rattle.dbp_replay.specs.Replays.{IsReplay, IsIllegal, first};
 ghost use Rattle.dbp_replay.specs.Scripts.{IsScript, IsScriptFault};
 ghost use Rattle.dbp_replay.specs.Texts.{script_text};
 
-/// A document has one script at most in a diagram, and none where the script has a fault; it has one first fault at
+/// A document has one script at most in a diagram, and none if the script has a fault; it has one first fault at
 /// most.
 pub fn one_script()
     ensures one { (d : AnyDiagram) (doc : AnyDoc) (a b : Items AnyStep) → IsScript d doc a
@@ -31,7 +31,7 @@ pub fn one_script()
         → (line ≡ other) × (code ≡ another) }
 {}
 
-/// Steps have one replay at most, and none where a step is refused; one step at most is the first that is refused.
+/// Steps have one replay at most, and none if a step is refused; one step at most is the first that is refused.
 pub fn one_replay()
     ensures one { (p : AnyPlan) (count : AnyCount) (steps : Items AnyStep) (a b : Items ℕ)
         → IsReplay p count steps a → IsReplay p count steps b → a ≡ b }
@@ -43,7 +43,7 @@ pub fn one_replay()
         → IsIllegal p count steps other another → (number ≡ other) × (why ≡ another) }
 {}
 
-/// A printed script is read as the steps that were printed, where names tell apart what a step can name. In the diagram
+/// A printed script is read as the steps that were printed, if names tell apart what a step can name. In the diagram
 /// of a checked document they do; the script may stand in another document.
 pub fn printed_script_again()
     ensures named { (d : AnyDiagram) (doc : AnyDoc) (steps : Items AnyStep) → HasNames d

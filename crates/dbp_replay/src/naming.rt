@@ -43,7 +43,7 @@ fn step_numbered(kind: StepKind, i: u32, number: Option<u32>) -> Result<Step, Sc
     }
 }
 
-/// The step of the kind: of this task, and with this number where it takes one.
+/// The step of the kind: of this task, and with this number if it takes one.
 fn step_with(kind: StepKind, task: u32, number: u32) -> Step
     ensures { result ≡ step_with kind task number }
 {
@@ -63,7 +63,7 @@ fn step_with(kind: StepKind, task: u32, number: u32) -> Step
     }
 }
 
-/// The number that an operand of the task's step is; where there is none it is 0.
+/// The number that an operand of the task's step is; if there is none it is 0.
 fn number_of(diagram: &Diagram, i: u32, operand: Operand) -> Option<u32>
     requires { i < length diagram.now.tasks }
     ensures { result ≡ number_of diagram.now i operand }
@@ -114,7 +114,7 @@ fn link_between(diagram: &Diagram, writer: Option<u32>, reader: u32, delay: u32)
     within(links.len(), link_place(links, writer, reader, delay))
 }
 
-/// The place in a list of this length, where it is one.
+/// The place in a list of this length, if it is one.
 fn within(len: usize, place: usize) -> Option<u32>
     requires { len < 2 ^ 32 }
     ensures { result ≡ within len place }

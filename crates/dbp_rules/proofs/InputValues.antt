@@ -21,7 +21,7 @@ use Rattle.dbp_rules.specs.Moves.{with_now, with_senses}
 use Rattle.dbp_rules.specs.InputValues.{value_until}
 use Rattle.dbp_rules.specs.Work.{WorkWords}
 
--- of a parted list the items that pass stand in front
+-- of a parted list the items that pass stand first
 parted : {X : Type 0} (p : X → Bool) (xs : List X) (n : ℕ) → n ≤ length xs → AllWithin (λ x. p x ≡ true) xs 0 n → AllWithin (λ x. p x ≡ false) xs n (length xs) → filter p xs ≡ take n xs
 parted p [] zero few front rest = refl
 parted p [] (suc n) few front rest = absurd (omega arith)
@@ -32,7 +32,7 @@ parted p (x ∷ xs) (suc n) few front rest =
     let passes : p x ≡ true = front 0 x (omega arith) (omega arith) in
     rw passes (ap (λ ys. x ∷ ys) (parted p xs n (omega arith) (λ k d above below. front (suc k) d (omega arith) (omega arith)) (λ k d above below. rest (suc k) d (omega arith) (omega arith))))
 
--- the last of the values in front
+-- the last of the values before it
 last_front : (first : ℤ) (samples : List Sample) (n : ℕ) (d : Sample) → n < length samples → last_value first (map (λ s. s.value) (take (suc n) samples)) ≡ (get_or samples n d).value
 last_front first [] n d below = absurd (omega arith)
 last_front first (x ∷ xs) zero d below = refl
@@ -73,7 +73,7 @@ given_until input time (s ∷ ss) = elim (cases_Bool (s.input == input)) [
 pub input_until : (inputs : List Input) (samples : List Sample) (input time : ℕ) (i : Input) → slice_get inputs input ≡ Some i → value_until i.first (filter (λ s. s.input == input) samples) time ≡ input_value inputs samples input time
 input_until inputs samples input time i at = rw (at, given_until input time samples) refl
 
--- a word is set behind two lists
+-- a word is set after two lists
 set_behind : (front middle rest : List ℤ) (n : ℕ) (word : ℤ) → n ≡ length front + length middle → 0 < length rest → slice_set (front ++ (middle ++ rest)) n word ≡ front ++ ((middle ++ word ∷ []) ++ drop 1 rest)
 set_behind front middle [] n word place some = absurd (omega arith)
 set_behind front middle (x ∷ rest) n word place some =

@@ -36,7 +36,7 @@ or_else_nothing : (x : Option Illegal) → rule.or_else x None ≡ x
 or_else_nothing None = refl
 or_else_nothing (Some x) = refl
 
--- where all links are counted no task blocks another
+-- if all links are counted no task blocks another
 not_blocked : (w : Wiring) (s : State) (i : ℕ) → w.count ≡ All → rule.blocker_refusal w.count w s i ≡ None
 not_blocked w s i all = ap (λ (c : Count). rule.blocker_refusal c w s i) all
 

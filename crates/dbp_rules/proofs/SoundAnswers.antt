@@ -83,7 +83,7 @@ module _ (p : Plan) (w : Wiring) (rows : ℕ → ℕ → List ℤ) (s : State) (
       let at : (task s i).part.place ≡ place.Look n = at_look w s i r free in
       ready_hears i r (ranked_ready p w rows s own sound i n below at ranked (or_else_none (rule.steps_next w s i 7 r) (rule.blocker_refusal w.count w s i) free).1)
 
-  -- a task that may step, and has heard its orders, fills no slot that a claim of an instance which may still read names, but for a claim of the very row that it fills
+  -- a task that may step, and has heard its orders, fills no slot that a claim of an instance which may still read names, except a claim of the very row that it fills
   pub claimed_apart : (i k : ℕ) → k < length w.links → (link w k).writer ≡ i → running_count (task s i).part.place ≡ 1 → heard_by (1 + length (wired w i).links) (task s i).part.place ≡ 1 + length (wired w i).links → rule.blocker_refusal w.count w s i ≡ None
       → Stands w k (link_entry s k) (task_entry s (link w k).reader) (task s (link w k).reader) → (link_entry s k).slot ≡ own_slot (task s i).part → (link_entry s k).number ≡ (task s i).part.ended + 1
   claimed_apart i k fits is busy all free stands here =

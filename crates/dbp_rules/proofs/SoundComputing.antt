@@ -70,7 +70,7 @@ module _ (p : Plan) (w : Wiring) (rows : ℕ → ℕ → List ℤ) (own : IsOwn 
   words_size : length words ≡ length d.reads
   words_size = length-map d.reads _
 
-  -- the word of a read, where the task has put it
+  -- the word of a read, if the task has put it
   read_word : (j : ℕ) → j < length d.reads → get_or work.now (length d.states + length d.senses + j) (pos 0) ≡ get_or words j (pos 0)
   read_word j inside =
       let n : (n : ℕ) × (n < length (wired w i).reads) × ((read_at (wired w i) n).read ≡ j) = own.turned i j below inside in

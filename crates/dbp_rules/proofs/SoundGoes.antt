@@ -1,4 +1,4 @@
--- What stays sound where a task goes on, or where the records of a link's ends change in some of their parts.
+-- What stays sound if a task goes on, or if the records of a link's ends change in some of their parts.
 use Rattle.std.proofs.Common.{◌≡◌, ℕ, ℤ, pos, ◌+◌, ◌<◌, ◌≤◌, Bool, true, false, List, length, get_or, take, refl, sym, ◌∙◌, ap, arith, ltb}
 use Rattle.std.proofs.lemmas.Bool.{cond_both, ltb-false}
 use Rattle.dbp_plan.specs.declared.plan.Plan.{Plan}
@@ -97,7 +97,7 @@ take_hear t n m = cond_both (ltb n (1 + length t.links)) (Hear n) (move.read_pla
 
 -- ---- links
 
--- a link is sound where its writer has the same slots and has come as far
+-- a link is sound if its writer has the same slots and has come as far
 pub writer_same : (p : Plan) (w : Wiring) (k : ℕ) (c : LinkEntry) (v u : TaskEntry) (writer other : TaskState) (e : TaskEntry) (reader : TaskState)
     → other.words.slots ≡ writer.words.slots → u.current ≡ v.current → u.aimed ≡ v.aimed → last_filled other ≡ last_filled writer → last_shut other ≡ last_shut writer
     → LinkSound p w k c v writer e reader → LinkSound p w k c u other e reader
@@ -112,7 +112,7 @@ pub passed_more : (b : Bool) (known ended more further : ℕ) → known ≤ more
 passed_more true known ended more further first second = first
 passed_more false known ended more further first second = second
 
--- a link is sound where its reader has gone on
+-- a link is sound if its reader has gone on
 pub reader_on : (p : Plan) (w : Wiring) (k : ℕ) (c : LinkEntry) (v : TaskEntry) (writer : TaskState) (e f : TaskEntry) (reader other : TaskState) → e.known ≤ f.known → reader.words.ended ≤ other.words.ended
     → ((j : ℕ) → j + 1 < length other.part.heard.items → link_in (wired w (link w k).reader) j ≡ k → move.heard_order other.part (j + 1) ≡ move.claim_order c)
     → ((n : ℕ) → other.part.place ≡ Take n → (read_of p w (link w k).reader n).link ≡ k → (slot_at writer.words.slots c.slot).stamp ≡ c.number + 1)

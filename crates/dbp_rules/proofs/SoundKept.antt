@@ -81,7 +81,7 @@ pub sound_kept : (p : Plan) (count : Count) (rows : ℕ → ℕ → List ℤ) (s
     → rule.IsNamed p.diagram e → rule.refusal (wiring_of p count) s e ≡ None → Sound p (wiring_of p count) rows (rule.next p (wiring_of p count) s e)
 sound_kept p count rows s e solves sound named free = step_sound p (wiring_of p count) rows s (own_wiring p count) solves sound e named free
 
--- and by each answer of a step, under a plan's own wiring, where the rows are those of the meaning
+-- and by each result of a step, under a plan's own wiring, if the rows are those of the meaning
 pub asked_sound : (p : Plan) (w : Wiring) (s new : State) (e : Step) (result : Result Heard Illegal) → w ≡ wiring_of p w.count → Sound p w (rows_in (meaning_of p)) s → rule.IsNamed p.diagram e → rule.IsStep p w s e result new
     → Sound p w (rows_in (meaning_of p)) new
 asked_sound p w s new e result wired sound named is =

@@ -110,7 +110,7 @@ module _ (p : Plan) (w : Wiring) (rows : ℕ → ℕ → List ℤ) (s : State) (
     writer : (link w k).writer < length w.tasks
     writer = own.whole.writer k read.below
 
-    -- where the writer has filled the claimed row, a look finds it
+    -- if the writer has filled the claimed row, a look finds it
     pub filled_ready : IsClaimFilled w s (read_of p w i n).link → rule.is_ready w s i n ≡ true
     filled_ready filled = elim ((sound.links k read.below).holds stands) [
       | inl stamp ↦ is_there stamp
@@ -136,7 +136,7 @@ module _ (p : Plan) (w : Wiring) (rows : ℕ → ℕ → List ℤ) (s : State) (
         let ok : TaskSound p w rows (link w k).writer (task_entry s (link w k).writer) (task s (link w k).writer) = sound.tasks (link w k).writer writer in
         filled_ready (omega (arith, number_aimed, late, ok.known, ok.ended, ok.aimed))
 
-    -- under `Ranked` it has where the look is allowed
+    -- under `Ranked` it has if the look is allowed
     pub ranked_ready : w.count ≡ Ranked → rule.blocker_refusal w.count w s i ≡ None → rule.is_ready w s i n ≡ true
     ranked_ready ranked free = elim (cases_lt 0 (link w k).delay) [
       | inl late ↦ delayed_ready late

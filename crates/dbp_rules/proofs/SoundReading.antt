@@ -34,7 +34,7 @@ use Rattle.dbp_rules.proofs.SoundGoes.{IsEarly, early_hear, early_heard, early_i
 use Rattle.dbp_rules.proofs.SoundOwn.{IsOwn, IsOwnRead, claims_aims, opens_claims}
 use Rattle.dbp_rules.proofs.StateKept.{step_kept}
 
--- the first words stay where a later one is replaced
+-- the first words stay if a later one is replaced
 take_past : {X : Type 0} (n i : ℕ) (xs : List X) (x : X) → n ≤ i → take n (set xs i x) ≡ take n xs
 take_past zero i xs x past = refl
 take_past (suc n) i [] x past = refl

@@ -64,7 +64,7 @@ seen_task p w rows i e t ok = record {
 
 -- ---- aim
 
--- the kept slots behind an aim
+-- the kept slots after an aim
 kept_stamp : (t : TaskWiring) (e : TaskEntry) (w : TaskState) (j : ℕ) → length e.kept ≡ t.kept → (slot_at w.words.slots e.current).stamp ≡ e.aimed + 1
     → ((m : ℕ) → m < t.kept → (slot_at w.words.slots (get_or e.kept m 0)).stamp ≡ e.aimed - (m + 1) + 1) → j < t.kept
     → (slot_at w.words.slots (get_or (take (length e.kept) (e.current ∷ e.kept)) j 0)).stamp ≡ e.aimed + 1 - (j + 1) + 1

@@ -119,7 +119,7 @@ link_written p w rows i k c v t e reader q x work ok shape fits busy from same n
       ];
     }
 
--- places behind a put
+-- places after a put
 pub put_running : (ports n : ℕ) → (filled_by (move.put_place ports n) ≡ 0) × (shut_by (move.put_place ports n) ≡ 1) × ((reads : ℕ) → taken_by reads (move.put_place ports n) ≡ reads)
 put_running ports n = cond_both (ltb n ports) (place.Put n) place.Done (λ q. (filled_by q ≡ 0) × (shut_by q ≡ 1) × ((reads : ℕ) → taken_by reads q ≡ reads)) (λ _. (refl, refl, λ reads. refl)) (λ _. (refl, refl, λ reads. refl))
 

@@ -1,4 +1,4 @@
--- No step changes a slot that a claim of an instance which hasn't ended names, but where the claimed instance fills it.
+-- No step changes a slot that a claim of an instance which hasn't ended names, except if the claimed instance fills it.
 -- And under `All` no aim names a slot that a standing claim names.
 use Rattle.std.proofs.Common.{◌≡◌, ℕ, ℤ, pos, ◌+◌, ◌<◌, ◌⊎◌, true, List, length, get_or, set, Some, None, refl, sym, ◌∙◌, ap, arith, inl, inr, get_or-set_other}
 use Rattle.std.proofs.lemmas.Bool.{cases_eq, eq-eqb, lt-ltb}

@@ -47,15 +47,15 @@ words_after_open w aimed = record w { gate = aimed }
 
 -- ---- of a task: where it goes
 
--- behind so many of its reads
+-- after so many of its reads
 abbrev pub read_place : ℕ → ℕ → Place
 read_place reads n = if nat_lt n reads then place.Look n else place.Shut
 
--- behind so many of its orders
+-- after so many of its orders
 abbrev pub hear_place : TaskWiring → ℕ → Place
 hear_place t n = if nat_lt n (1 + length t.links) then place.Hear n else read_place (length t.reads) 0
 
--- behind so many of its puts
+-- after so many of its puts
 abbrev pub put_place : ℕ → ℕ → Place
 put_place ports p = if nat_lt p ports then place.Put p else place.Done
 
@@ -108,7 +108,7 @@ with_ended w n = record w { ended = n }
 abbrev pub with_now : WorkWords → ℕ → ℤ → WorkWords
 with_now w place word = record w { now = slice_set w.now place word }
 
--- the word of a read, which stands behind the states and the senses
+-- the word of a read, which stands after the states and the senses
 abbrev pub with_read : Task → WorkWords → ℕ → ℤ → WorkWords
 with_read task w n word = with_now w (length task.states + length task.senses + n) word
 
@@ -118,7 +118,7 @@ work_words_of task given =
     let env = env_from task given in
     record { now = env; later = states_after task env (take (length task.states) env); row = outs_in task env }
 
--- the values of the senses, which stand behind the states
+-- the values of the senses, which stand after the states
 abbrev pub with_senses : Task → List ℤ → WorkWords → WorkWords
 with_senses task senses w = record w { now = take (length task.states) w.now ++ (senses ++ drop (length task.states + length senses) w.now) }
 

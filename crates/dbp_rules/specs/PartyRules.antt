@@ -31,12 +31,12 @@ abbrev pub or_else : Option Illegal → Option Illegal → Option Illegal
 or_else (Some x) y = Some x
 or_else None y = y
 
--- broken where the test fails, with these values
+-- broken if the test fails, with these values
 abbrev pub unless : Bool → Broken → ℕ → ℕ → Option Illegal
 unless true b l r = None
 unless false b l r = Some (record { broken = b; left = l; right = r })
 
--- broken where there is such a value, which is the left one
+-- broken if there is such a value, which is the left one
 abbrev pub none_of : Option ℕ → Broken → ℕ → Option Illegal
 none_of None b r = None
 none_of (Some l) b r = Some (record { broken = b; left = l; right = r })
@@ -98,7 +98,7 @@ least f (suc n) = option_or (least f n) (if f n then Some n else None)
 
 -- ---- refusals
 
--- why the task can't be aimed at the slot, where its aim is the next action
+-- why the task can't be aimed at the slot, if its aim is the next action
 abbrev pub aim_refusal : Wiring → ReleaserPart → ℕ → ℕ → Option Illegal
 aim_refusal w r i slot =
     or_else (unless ((entry_in r i).aimed == (entry_in r i).known) broken.LastNotEnded (entry_in r i).aimed (entry_in r i).known)

@@ -59,7 +59,7 @@ pub record IsFilledByItsOwn (w : Wiring) (s : State) (e : Step) (k : ℕ) : Type
   pub slot : (link_entry s k).slot ≡ own_slot (task s (link w k).writer).part
   pub number : (link_entry s k).number ≡ (task s (link w k).writer).part.ended + 1
 
--- a slot that a claim of an instance which hasn't ended names stays as it is, but where the claimed instance fills it
+-- a slot that a claim of an instance which hasn't ended names stays as it is, except if the claimed instance fills it
 abbrev pub SparesClaims : Plan → Wiring → State → Step → Type 0
 SparesClaims p w s e = (k : ℕ) → k < length w.links → (task s (link w k).reader).words.ended < (link_entry s k).instance
     → (slot_at (task (next p w s e) (link w k).writer).words.slots (link_entry s k).slot ≡ slot_of_claim w s k) ⊎ IsFilledByItsOwn w s e k

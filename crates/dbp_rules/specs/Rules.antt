@@ -58,7 +58,7 @@ steps_next w s i kind subject = task_next (wired w i) (task s i).part kind subje
 abbrev pub claims_slot : Wiring → State → ℕ → ℕ → ℕ → Bool
 claims_slot w s i slot k = claims_slot_in w s.releaser i slot k
 
--- the time of the task's first instance that hasn't ended; 0 where all have
+-- the time of the task's first instance that hasn't ended; 0 if all have
 abbrev pub own_time : Wiring → State → ℕ → ℕ
 own_time w s i = time (wired w i) ((task s i).part.ended + 1)
 

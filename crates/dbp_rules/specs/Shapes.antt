@@ -102,7 +102,7 @@ place_count_at t End = 1
 abbrev pub PlaceIn : TaskWiring → Place → Type 0
 PlaceIn t q = place_number q < place_count_at t q
 
--- 1 where the task has started an instance that hasn't ended
+-- 1 if the task has started an instance that hasn't ended
 abbrev pub running_count : Place → ℕ
 running_count Idle = 0
 running_count (Hear n) = 1

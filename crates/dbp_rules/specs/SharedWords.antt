@@ -28,7 +28,7 @@ value_in s (claim k) = order_value (order s k)
 value_in s (stamp i n) = (slot_at (task s i).words.slots n).stamp
 value_in s (word i n p) = signed_value (slice_index_or (slot_at (task s i).words.slots n).words p (pos 0))
 
--- the task that makes the step; none where the releaser does
+-- the task that makes the step; none if the releaser does
 abbrev pub made_by : Step → Option ℕ
 made_by (Seen i) = None
 made_by (Aim i slot) = None

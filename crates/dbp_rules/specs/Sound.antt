@@ -8,7 +8,7 @@ use Rattle.dbp_rules.specs.SoundParts.{ClaimSound, LinkSound, TaskSound}
 use Rattle.dbp_rules.specs.declared.state.State.{State}
 use Rattle.dbp_rules.specs.declared.wiring.Wiring.{Wiring}
 
--- the state is sound where row n of task i is `rows i n`. The shape has the ranges and lengths, and besides: the aimed instances are
+-- the state is sound; row n of task i is `rows i n`. The shape has the ranges and lengths, and besides: the aimed instances are
 -- those of the releaser's place, a task's ended instances with the running one are within its gate, and the gate within the aimed ones
 pub record Sound (p : Plan) (w : Wiring) (rows : ℕ → ℕ → List ℤ) (s : State) : Type 0 where
   pub shape : IsShape p w s

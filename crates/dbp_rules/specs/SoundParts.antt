@@ -19,7 +19,7 @@ use Rattle.dbp_rules.specs.declared.wiring.Wiring.{Wiring}
 
 -- ---- how far a task has come in its instance
 
--- 1 where its slot is stamped with the new row, and 1 where its slot is shut and the row is computed
+-- 1 if its slot is stamped with the new row, and 1 if its slot is shut and the row is computed
 abbrev pub filled_by : Place → ℕ
 filled_by Idle = 0
 filled_by (Hear n) = 0
@@ -91,7 +91,7 @@ pub record ClaimSound (p : Plan) (w : Wiring) (place k : ℕ) (c : LinkEntry) (o
   pub number : c.number ≡ seen_by w.links p.batches k c.instance - (link w k).delay
   pub order : o ≡ claim_order c
 
--- a task, with what the releaser knows of it; where row n of task i is `rows i n`
+-- a task, with what the releaser knows of it; row n of task i is `rows i n`
 pub record TaskSound (p : Plan) (w : Wiring) (rows : ℕ → ℕ → List ℤ) (i : ℕ) (e : TaskEntry) (t : TaskState) : Type 0 where
   -- no more is known to have ended than has; the task knows how many have; at most one instance more is aimed than is known to have ended
   pub known : e.known ≤ t.words.ended
@@ -102,11 +102,11 @@ pub record TaskSound (p : Plan) (w : Wiring) (rows : ℕ → ℕ → List ℤ) (
   pub heard : 0 < length t.part.heard.items → heard_order t.part 0 ≡ t.words.aim
   -- a slot that has a stamp holds a row that is filled, and it holds the row that the stamp says
   pub whole : (n l : ℕ) → n < (wired w i).slots → (slot_at t.words.slots n).stamp ≡ l + 1 → (l ≤ last_filled t) × ((slot_at t.words.slots n).words ≡ rows i l)
-  -- the current slot: it holds the last aimed row where this is filled; while it is being filled it has no stamp, and the outs put so far are those of the next row
+  -- the current slot: it holds the last aimed row if this is filled; while it is being filled it has no stamp, and the outs put so far are those of the next row
   pub filled : e.aimed ≤ last_filled t → (slot_at t.words.slots e.current).stamp ≡ e.aimed + 1
   pub filling : last_filled t < last_shut t → (slot_at t.words.slots e.current).stamp ≡ 0
   pub put : (port : ℕ) → port < put_by (wired w i).ports t.part.place → slice_index_or (slot_at t.words.slots e.current).words port (pos 0) ≡ slice_index_or (rows i (t.part.ended + 1)) port (pos 0)
-  -- the kept slots hold the rows before, the latest first, and row 0 where there are fewer; they aren't the current one once there is an aim
+  -- the kept slots hold the rows before, the latest first, and row 0 if there are fewer; they aren't the current one once there is an aim
   pub kept : (j : ℕ) → j < (wired w i).kept → (slot_at t.words.slots (slice_index_or e.kept j 0)).stamp ≡ e.aimed - (j + 1) + 1
   pub kept_apart : 0 < e.aimed → (j : ℕ) → j < (wired w i).kept → slice_index_or e.kept j 0 ≢ e.current
   -- the states are those before the instance, the words taken are those of the meaning, the row is the last computed one
@@ -115,12 +115,12 @@ pub record TaskSound (p : Plan) (w : Wiring) (rows : ℕ → ℕ → List ℤ) (
   pub row : t.work.row ≡ rows i (last_shut t)
   pub later : 0 < shut_by t.part.place → t.work.later ≡ states_at p.diagram p.samples p.batches rows i (declared p i) (t.part.ended + 1)
 
--- up to which instance of the reader a claim no longer stands: where the link is counted the last one known to have ended, else the last one that has
+-- up to which instance of the reader a claim no longer stands: if the link is counted the last one known to have ended, else the last one that has
 abbrev pub last_passed : Bool → ℕ → ℕ → ℕ
 last_passed true known ended = known
 last_passed false known ended = ended
 
--- the claim stands: its instance hasn't ended, or, where the link is counted, isn't known to have
+-- the claim stands: its instance hasn't ended, or, if the link is counted, isn't known to have
 abbrev pub Stands : Wiring → ℕ → LinkEntry → TaskEntry → TaskState → Type 0
 Stands w k c e reader = last_passed (is_counted w k) e.known reader.words.ended < c.instance
 
@@ -128,10 +128,10 @@ Stands w k c e reader = last_passed (is_counted w k) e.known reader.words.ended 
 pub record LinkSound (p : Plan) (w : Wiring) (k : ℕ) (c : LinkEntry) (v : TaskEntry) (writer : TaskState) (e : TaskEntry) (reader : TaskState) : Type 0 where
   -- while the claim stands its slot holds the claimed row, or it is the current one and this row is to come
   pub holds : Stands w k c e reader → ((slot_at writer.words.slots c.slot).stamp ≡ c.number + 1) ⊎ ((c.slot ≡ v.current) × (c.number ≡ v.aimed) × (last_filled writer < c.number))
-  -- a claim that stands on the current slot is for the row that this slot is to hold; where the link isn't counted it may be for an earlier one,
+  -- a claim that stands on the current slot is for the row that this slot is to hold; if the link isn't counted it may be for an earlier one,
   -- as long as the writer hasn't shut the slot: the reader was then released before the writer's last aimed instance
   pub current : Stands w k c e reader → c.slot ≡ v.current → (c.number ≡ v.aimed) ⊎ ((is_counted w k ≡ false) × (last_shut writer < v.aimed) × (seen_by w.links p.batches k c.instance < v.aimed))
   -- what the reader has heard over the link is the claim
   pub heard : (j : ℕ) → j + 1 < length reader.part.heard.items → link_in (wired w (link w k).reader) j ≡ k → heard_order reader.part (j + 1) ≡ claim_order c
-  -- where the reader is to take a word over the link, the claimed row is there
+  -- if the reader is to take a word over the link, the claimed row is there
   pub ready : (n : ℕ) → reader.part.place ≡ Take n → (read_of p w (link w k).reader n).link ≡ k → (slot_at writer.words.slots c.slot).stamp ≡ c.number + 1

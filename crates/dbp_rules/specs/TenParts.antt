@@ -21,7 +21,7 @@ use Rattle.dbp_rules.specs.declared.wiring.Wiring.{Wiring}
 
 -- ---- claims
 
--- the last claim over the link stands: its instance hasn't ended, or, where the link is counted, isn't known to have
+-- the last claim over the link stands: its instance hasn't ended, or, if the link is counted, isn't known to have
 abbrev pub IsStanding : Wiring → State → ℕ → Type 0
 IsStanding w s k = Stands w k (link_entry s k) (task_entry s (link w k).reader) (task s (link w k).reader)
 
@@ -104,7 +104,7 @@ abbrev pub StampsTell : Wiring → (ℕ → ℕ → List ℤ) → State → Type
 StampsTell w rows s = (i n l : ℕ) → i < length w.tasks → n < (wired w i).slots → (slot_at (task s i).words.slots n).stamp ≡ l + 1
     → (l ≤ last_filled (task s i)) × ((slot_at (task s i).words.slots n).words ≡ rows i l)
 
--- 6. The current slot holds the last aimed row where this is filled. From the shut to the done its stamp is 0, and the
+-- 6. The current slot holds the last aimed row if this is filled. From the shut to the done its stamp is 0, and the
 -- outs put so far are those of the next row.
 pub record CurrentSlot (w : Wiring) (rows : ℕ → ℕ → List ℤ) (i : ℕ) (e : TaskEntry) (t : TaskState) : Type 0 where
   pub filled : e.aimed ≤ last_filled t → (slot_at t.words.slots e.current).stamp ≡ e.aimed + 1
@@ -114,7 +114,7 @@ pub record CurrentSlot (w : Wiring) (rows : ℕ → ℕ → List ℤ) (i : ℕ) 
 abbrev pub CurrentSlots : Wiring → (ℕ → ℕ → List ℤ) → State → Type 0
 CurrentSlots w rows s = (i : ℕ) → i < length w.tasks → CurrentSlot w rows i (task_entry s i) (task s i)
 
--- 7. The kept slots hold the rows before the last aimed one, the latest first, and row 0 where there are fewer. Once an
+-- 7. The kept slots hold the rows before the last aimed one, the latest first, and row 0 if there are fewer. Once an
 -- instance is aimed none of them is the current slot.
 pub record KeptSlots (w : Wiring) (s : State) : Type 0 where
   pub stamp : (i j : ℕ) → i < length w.tasks → j < (wired w i).kept → (slot_at (task s i).words.slots (slice_index_or (task_entry s i).kept j 0)).stamp ≡ (task_entry s i).aimed - (j + 1) + 1
@@ -133,7 +133,7 @@ ClaimsOnCurrent p w s = (k : ℕ) → k < length w.links → IsStanding w s k �
     → ((link_entry s k).number ≡ writer_aimed w s k) ⊎ ((is_counted w k ≡ false) × (writer_shut w s k < writer_aimed w s k) × IsReleasedBefore p w s k)
 
 -- 10. What a task computes with is the meaning's: its states are those before its instance, the words that it took those
--- of its reads, its row that of its last computed instance, and from its shut on its next states those behind it. Where
+-- of its reads, its row that of its last computed instance, and from its shut on its next states those after it. If
 -- it is about to take, the claimed slot holds the claimed row.
 pub record TaskWork (p : Plan) (w : Wiring) (rows : ℕ → ℕ → List ℤ) (s : State) (i : ℕ) (t : TaskState) : Type 0 where
   pub states : take (length (declared p i).states) t.work.now ≡ states_at p.diagram p.samples p.batches rows i (declared p i) t.part.ended

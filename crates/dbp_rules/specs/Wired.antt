@@ -30,7 +30,7 @@ turn_of reads r = count_by (λ q. is_sooner q r) (enumerate_from 0 reads)
 abbrev pub in_turn : List Read → List ℕ
 in_turn reads = map (λ (turn, _). position_or_len (λ r. turn_of reads r == turn) (enumerate_from 0 reads)) (enumerate_from 0 reads)
 
--- the read with this number, as the steps see it: its order stands behind the task's own
+-- the read with this number, as the steps see it: its order stands after the task's own
 abbrev pub read_wiring : List Link → List ℕ → List Read → ℕ → ReadWiring
 read_wiring links ins reads n =
     let r = slice_index_or reads n no_read in
@@ -62,7 +62,7 @@ task_wiring p count (i, task) = record {
   reads = map (read_wiring p.diagram.links (links_into p.diagram.links i) task.reads) (in_turn task.reads);
 }
 
--- the task's wiring with the times of these batches behind its own
+-- the task's wiring with the times of these batches after its own
 abbrev pub with_times_of : List Batch → ℕ × TaskWiring → TaskWiring
 with_times_of batches (i, t) = record t { times = t.times ++ times_of batches i }
 

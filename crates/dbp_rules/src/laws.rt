@@ -41,13 +41,13 @@ pub fn a_delayed_look_is_ready()
         → 0 < (link (wiring_of p count) (slice_index_or (declared p i).reads r no_read).link).delay → hears (wiring_of p count) s (Look i r) ≡ Ready }
 {}
 
-/// Where tasks step by their ranks, every allowed look finds its row.
+/// If tasks step by their ranks, every allowed look finds its row.
 pub fn a_ranked_look_is_ready()
     ensures { (p : Plan) (steps : Items Step) (s : State) (i r : ℕ) → Leads p (wiring_of p Ranked) (start_of p (wiring_of p Ranked)) steps s
         → i < length p.diagram.tasks → refusal (wiring_of p Ranked) s (Look i r) ≡ None → hears (wiring_of p Ranked) s (Look i r) ≡ Ready }
 {}
 
-/// Whatever steps were made, where all links are counted an allowed aim names no slot that a standing claim names.
+/// Whatever steps were made, if all links are counted an allowed aim names no slot that a standing claim names.
 pub fn an_aim_names_no_claimed_slot()
     ensures { (p : Plan) (steps : Items Step) (s : State) (i slot : ℕ) → Leads p (wiring_of p All) (start_of p (wiring_of p All)) steps s
         → refusal (wiring_of p All) s (Aim i slot) ≡ None → IsUnclaimed (wiring_of p All) s i slot }

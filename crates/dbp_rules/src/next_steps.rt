@@ -14,7 +14,7 @@ use release_list::Release;
 // Stands for a step of the right kind that names another task, link, read or port.
 const OTHER_SUBJECT: u32 = 13;
 
-// A party's next step: the number of its kind, 0 where there is none, and the task, link, read or port that it names.
+// A party's next step: the number of its kind, 0 if there is none, and the task, link, read or port that it names.
 #[derive(Clone, Copy)]
 pub(crate) struct NextStep {
     pub(crate) number: u32,

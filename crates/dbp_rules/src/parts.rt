@@ -34,7 +34,7 @@ pub enum Place {
     Put(u32),
     /// It stamps its slot.
     Done,
-    /// It tells that its instance has ended.
+    /// It says that its instance has ended.
     End,
 }
 
@@ -43,7 +43,7 @@ pub enum Place {
 pub struct TaskEntry {
     /// How many of its instances are known to have ended.
     pub known: u32,
-    /// The number of its last instance that was told its slot.
+    /// The number of its last instance that was given its slot.
     pub aimed: u32,
     /// That slot.
     pub current: u32,

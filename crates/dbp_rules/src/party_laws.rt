@@ -22,7 +22,7 @@ ghost use Rattle.dbp_rules.specs.declared.step.Step.{Step};
 ghost use Rattle.dbp_rules.specs.declared.wiring.Wiring.{Wiring};
 
 /// Why a step isn't allowed is said by the part of the party that makes it: by the releaser's under both counts, by a
-/// task's where tasks step in any order. Where they step by their ranks, an allowed step is one that the task's part allows.
+/// task's if tasks step in any order. If they step by their ranks, an allowed step is one that the task's part allows.
 pub fn a_step_is_refused_by_its_party()
     ensures releaser { (w : Wiring) (s : State) (e : Step) → made_by e ≡ None → refusal w s e ≡ releaser_refusal w s.releaser e }
     ensures task { (w : Wiring) (s : State) (e : Step) (i : ℕ) → w.count ≡ All → made_by e ≡ Some i → refusal w s e ≡ task_refusal (wired w i) (task s i).part e }
@@ -59,7 +59,7 @@ pub fn sound_parts_are_in_shape()
 {}
 
 /// A least slot for each aim, from the releaser's part alone: the claimed slots and those that stay kept are fewer than a
-/// task's slots, so where a task's aim comes next, and its last instance is known to have ended, the least slot that is in
+/// task's slots, so if a task's aim comes next, and its last instance is known to have ended, the least slot that is in
 /// neither may be aimed at.
 pub fn a_releaser_has_a_free_slot()
     ensures few { (p : Plan) (count : Count) (r : ReleaserPart) (i : ℕ) → i < length p.diagram.tasks → length (entry_in r i).kept ≡ (wired (wiring_of p count) i).kept → HasFreeSlotIn (wiring_of p count) r i }

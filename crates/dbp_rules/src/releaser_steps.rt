@@ -83,7 +83,7 @@ fn broken(broken: Broken, left: u32, right: u32) -> Illegal
     }
 }
 
-// Why the task can't be aimed at the slot, where its aim is the next action.
+// Why the task can't be aimed at the slot, if its aim is the next action.
 fn aim_refusal(wiring: &Wiring, part: &ReleaserPart, i: u32, slot: u32) -> Option<Illegal>
     requires task { i < length wiring.now.tasks }
     requires links { LinksFit wiring.now }
@@ -106,7 +106,7 @@ fn aim_refusal(wiring: &Wiring, part: &ReleaserPart, i: u32, slot: u32) -> Optio
     Some(broken(Broken::SlotClaimed, link, slot))
 }
 
-// Puts the slot in front of the kept ones, and drops the last of these.
+// Puts the slot before the kept ones, and drops the last of these.
 fn keep(kept: &mut List<u32>, slot: u32)
     ensures { kept.new ≡ take (length kept.old) (slot ∷ kept.old) }
 {

@@ -1,4 +1,4 @@
-// What holds of every sound state, and of each step that is allowed in one. Where a law speaks of values, the rows are
+// What holds of every sound state, and of each step that is allowed in one. If a law speaks of values, the rows are
 // those of a table that meets the meaning's equations.
 
 ghost use Rattle.std.specs.Prelude.{◌≡◌, ◌<◌, ℕ, ℤ, List as Items, Some, None, length, slice_get, slice_index_or};
@@ -54,14 +54,14 @@ pub fn an_aim_spares_claimed_slots()
     ensures { (p : Plan) (s : State) (i slot : ℕ) → refusal (wiring_of p All) s (Aim i slot) ≡ None → IsUnclaimed (wiring_of p All) s i slot }
 {}
 
-/// No allowed step changes a slot that a claim of an instance which hasn't ended names, but for the steps by which the
+/// No allowed step changes a slot that a claim of an instance which hasn't ended names, except the steps by which the
 /// claimed instance itself fills it; under both counts.
 pub fn a_step_spares_claimed_rows()
     ensures { (p : Plan) (count : Count) (rows : ℕ → ℕ → Items ℤ) (s : State) (e : Step) → Sound p (wiring_of p count) rows s → IsNamed p.diagram e → refusal (wiring_of p count) s e ≡ None
         → SparesClaims p (wiring_of p count) s e }
 {}
 
-/// The claimed slots and those that stay kept are fewer than a task's slots. So where a task's aim comes next, and its
+/// The claimed slots and those that stay kept are fewer than a task's slots. So if a task's aim comes next, and its
 /// last instance is known to have ended, there is a least slot that may be aimed at: the least that is in neither.
 pub fn a_slot_is_free_for_each_aim()
     ensures few { (p : Plan) (count : Count) (rows : ℕ → ℕ → Items ℤ) (s : State) (i : ℕ) → Sound p (wiring_of p count) rows s → i < length p.diagram.tasks → HasFreeSlot (wiring_of p count) s i }

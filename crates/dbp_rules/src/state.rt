@@ -7,7 +7,7 @@ use dbp_plan::List;
 /// A slot of a task.
 #[derive(Drop)]
 pub struct Slot {
-    /// 1 more than the number of the row that the slot holds; 0 where it holds none, at first and while it is being
+    /// 1 more than the number of the row that the slot holds; 0 if it holds none, at first and while it is being
     /// filled.
     pub stamp: u32,
     /// A word for each port.

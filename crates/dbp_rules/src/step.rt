@@ -3,7 +3,7 @@
 /// Which links of a writer keep it from a slot, and so how many slots a task has, and whether tasks step by their ranks.
 #[derive(Clone, Copy, Debug, PartialEq, Eq)]
 pub enum Count {
-    /// The links to lower-ranked readers; a task has the slots of a simulation. It steps only where no task ranked above
+    /// The links to lower-ranked readers; a task has the slots of a simulation. It steps only if no task ranked above
     /// it has an instance that hasn't ended and that was aimed in the batch of its own instance or in an earlier one; a
     /// `Start` that finds the gate closed is free of that. For the simulation, where higher ranks preempt lower ones.
     Ranked,
@@ -18,17 +18,17 @@ pub enum Count {
 pub enum Step {
     /// The releaser loads how many instances of the task have ended.
     Seen { task: u32 },
-    /// The releaser tells the task's next instance which slot it is to fill. Any number may be asked for.
+    /// The releaser gives the task's next instance the slot that it is to fill. Any number may be asked for.
     Aim { task: u32, slot: u32 },
-    /// The releaser tells the link's reader which slot its next instance is to read.
+    /// The releaser gives the link's reader the slot that its next instance is to read.
     Claim { link: u32 },
     /// The releaser opens the gate of the task's next instance.
     OpenGate { task: u32 },
-    /// The task loads its gate, and begins its next instance where that is open.
+    /// The task loads its gate, and begins its next instance if that is open.
     Start { task: u32 },
     /// The task loads its next order: first its own, then that of each link into it.
     Hear { task: u32 },
-    /// The task loads the stamp of the slot that it was told for the read.
+    /// The task loads the stamp of the slot that it heard for the read.
     Look { task: u32, read: u32 },
     /// The task loads the word of the read's port from that slot.
     Take { task: u32, read: u32 },
@@ -38,7 +38,7 @@ pub enum Step {
     Put { task: u32, port: u32 },
     /// The task stamps its slot with its instance.
     Done { task: u32 },
-    /// The task tells that its instance has ended.
+    /// The task says that its instance has ended.
     End { task: u32 },
 }
 
@@ -89,6 +89,6 @@ pub struct Illegal {
     pub broken: Broken,
     /// The value that it compares, as the kind of the next step or the number of slots.
     pub left: u64,
-    /// The value that it is compared with, as the kind of the asked step, 13 where only the operand is wrong, or the slot.
+    /// The value that it is compared with, as the kind of the asked step, 13 if only the operand is wrong, or the slot.
     pub right: u64,
 }

@@ -47,7 +47,7 @@ fn put_place(ports: u32, p: u32) -> Place
 }
 
 impl Place {
-    // The number of the order that the task hears there; 0 where it hears none.
+    // The number of the order that the task hears there; 0 if it hears none.
     fn hear(self) -> u32
         ensures { result ≡ rule.hears_at self }
     {
@@ -57,7 +57,7 @@ impl Place {
         }
     }
 
-    // The turn of the read that the task looks for or takes there; 0 where there is none.
+    // The turn of the read that the task looks for or takes there; 0 if there is none.
     fn turn(self) -> u32
         ensures { result ≡ rule.turn_at self }
     {

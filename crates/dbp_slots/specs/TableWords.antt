@@ -46,7 +46,7 @@ block_begin s i = 1 + 3 * length s.tasks + s.links + sum_by block_size (take i s
 abbrev pub word_count : Sizes → ℕ
 word_count s = block_begin s (length s.tasks)
 
--- The address of the word. A task has three words in front, and a slot its stamp and then its ports.
+-- The address of the word. A task has three words first, and a slot its stamp and then its ports.
 abbrev pub address_of : Sizes → TableWord → ℕ
 address_of s (gate i) = 1 + 3 * i
 address_of s (ended i) = 2 + 3 * i

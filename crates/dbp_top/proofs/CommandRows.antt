@@ -74,6 +74,6 @@ all-listed rows all =
     let text : CommandRow → List ℕ = λ l. listed_forms l.0 in
     flat-map-map text row_of rows ∙ ap (λ (ls : List CommandRow). flat_map text ls) all
 
--- what stands for a row where there is none
+-- what stands for a row if there is none
 abbrev pub no_row : Row
 no_row = record { patterns = record { ref_ptr = (0, 0); now = [] }; command = Mean }

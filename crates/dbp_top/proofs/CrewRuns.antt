@@ -15,7 +15,7 @@ use Rattle.dbp_top.specs.declared.stop.Stop.{Stop}
 use Rattle.dbp_top.specs.declared.stop.Stop.TheVariants as stop
 use Rattle.dbp_top.proofs.Endings.{whole-input}
 
--- after an answer without a text: of a run that was refused nothing was run, and want of memory may come at any time
+-- after an answer without a text: of a run that was refused nothing was run, and out of memory may come at any time
 pub runs-told : {A E : Type 0} (input : List ℕ) (a b : List CrewEntry) (why : Stop) (r : Result (Status × A) E) → IfOk r (λ told. told.0 ≡ status_of_stop why)
     → RunsAfter (status_of_stop why) (Some input) a b → MatchResult r (λ told. RunsAfter told.0 (Some input) a b) (λ _. RunsAfter NoMemory (Some input) a b)
 runs-told input a b why (Fine told) status runs = subst (λ (s : Status). RunsAfter s (Some input) a b) (sym status) runs

@@ -59,7 +59,7 @@ module _ {S K : Type 0} (left : S → Option (List ℕ)) (source_faults : S → 
   ends-named serves words command s t k l NoMemory named served ends = (command, named, served, ends)
   ends-named serves words command s t k l TooLarge named served ends = (command, named, served, ends)
 
-  -- where nothing failed, the call was answered
+  -- if nothing failed, the call was answered
   pub answered-without-faults : (serves : Command → Bool) (words : List (String Global)) (source new_source : S) (sink new_sink : K) (status : Status)
       → Ends left source_faults written sink_faults serves words source new_source sink new_sink status
       → (Rose (source_faults source) (source_faults new_source) → ⊥) → (Rose (sink_faults sink) (sink_faults new_sink) → ⊥)

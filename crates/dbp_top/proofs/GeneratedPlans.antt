@@ -12,7 +12,7 @@ use Rattle.dbp_top.specs.declared.status.Status.TheVariants as status
 use Rattle.dbp_top.specs.declared.stop.Stop.{Stop}
 use Rattle.dbp_top.specs.declared.stop.Stop.TheVariants.{Refused, Overrun, NoMemory}
 
--- a text that is accepted stops for want of memory alone
+-- a text that is accepted stops only if memory runs out
 pub never-refused : ((text : List ℕ) (p : Plan) (line : ℕ) (code : Code) → Accepts text p → Refuses text line code → ⊥)
     → (text : List ℕ) (p : Plan) (stop : Stop) → Accepts text p → IsFaultOf text stop → stop ≡ NoMemory
 never-refused none text p (Refused (Document line code)) accepted fault = absurd (none text p line code accepted fault)

@@ -12,7 +12,7 @@ use Rattle.dbp_top.specs.declared.pattern.Pattern.{Pattern}
 use Rattle.dbp_top.specs.declared.pattern.Pattern.TheVariants.{Word}
 use Rattle.dbp_top.specs.declared.command.Numbers.{Numbers}
 
--- what is left behind a prefix is one text
+-- what is left after a prefix is one text
 pub after-prefix : (prefix rest other : List ℕ) → prefix ++ rest ≡ prefix ++ other → rest ≡ other
 after-prefix prefix rest other same =
     sym (drop_at prefix rest (length prefix) refl) ∙ ap (λ (l : List ℕ). drop (length prefix) l) same ∙ drop_at prefix other (length prefix) refl
@@ -96,7 +96,7 @@ not-both (f ∷ fs) (g ∷ gs) (w ∷ ws) b c x y apart fit other =
       | inr rest ↦ not-both fs gs ws fit.0 other.0 x y rest fit.2 other.2
     ]
 
--- ---- what the code tells of a word
+-- ---- what the code says of a word
 
 pub given-number : (prefix w x : List ℕ) (m : ℕ) (before after : Numbers) → w ≡ prefix ++ x → IsNumber x × (m ≡ digits_value 10 x)
     → (Some record { number = m; size = before.size } ≡ Some after) ↔ Fits (number prefix) w before after
@@ -138,6 +138,6 @@ next-word ps words k p w below within before given =
     let left : drop k words ≡ get_or words k w ∷ drop (k + 1) words = at_drop_more (λ (l : List (String Global)). l) words k w within in
     λ i. AllFit (map form_of (forms i)) (map (λ w. string_bytes w) (left i)) before given
 
--- what stands for a pattern where there is none
+-- what stands for a pattern if there is none
 abbrev pub no_pattern : Pattern
 no_pattern = Word (record { ref_ptr = (0, 0); now = [] })

@@ -1,4 +1,4 @@
--- What is answered where no read and no write fails.
+-- What is answered if no read and no write fails.
 use Rattle.std.specs.Prelude.{◌≡◌, ℕ, Bool, true, false, List, Option}
 use Rattle.dbp_rules.specs.declared.step.Count.{Count}
 use Rattle.dbp_rules.specs.declared.step.Count.TheVariants.{Ranked, All}
@@ -106,7 +106,7 @@ pub data Overruns (input : List ℕ) (command : Command) : List ℕ → ℕ → 
   of_plan_overrun : (plan : Plan) (x : Instance) (time : ℕ) → Accepts input plan → PlanOverrun plan command x time
       → Overruns input command (declared plan x.task).name x.number time
 
--- the line that tells it
+-- the line that says so
 pub data IsOverrunLine (input : List ℕ) (command : Command) : List ℕ → Type 0 where
   line_of : (name : List ℕ) (number time : ℕ) → Overruns input command name number time
       → IsOverrunLine input command (overrun_line name number time)

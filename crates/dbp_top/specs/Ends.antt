@@ -35,7 +35,7 @@ module _ {S K : Type 0} (left : S → Option (List ℕ)) (source_faults : S → 
   abbrev pub Reads : S → S → Command → Type 0
   Reads source new_source command = WhereRead (reads_input command) (ReadWhole source new_source) (new_source ≡ source)
 
-  -- this holds of the input, where the source tells it; a command that doesn't read has an empty one
+  -- this holds of the input, if it is known; a command that doesn't read has an empty one
   abbrev pub OfInput : S → Command → (List ℕ → Type 0) → Type 0
   OfInput source command P = WhereRead (reads_input command) (IfSome (left source) P) (P [])
 
@@ -45,7 +45,7 @@ module _ {S K : Type 0} (left : S → Option (List ℕ)) (source_faults : S → 
     pub wrote : OfInput source command (λ input. (text : List ℕ) × Answers input command status text × Appends (written sink) (written new_sink) text)
     pub no_fault : sink_faults new_sink ≡ sink_faults sink
 
-  -- the source was read to its end, the sink failed, and it gained a front of a text of this command that isn't all of it
+  -- the source was read to its end, the sink failed, and it gained a prefix of a text of this command that isn't all of it
   pub record WrotePart (source new_source : S) (sink new_sink : K) (command : Command) : Type 0 where
     pub read : Reads source new_source command
     pub wrote : OfInput source command (λ input. (status : Status) × (text : List ℕ) × Answers input command status text × AppendsFront (written sink) (written new_sink) text)

@@ -1,4 +1,4 @@
--- What a user is told of a call's end.
+-- What a user reads of a call's end.
 use Rattle.std.specs.Prelude.{ℕ, List, codes}
 use Rattle.dbp_top.specs.declared.status.Status.{Status}
 use Rattle.dbp_top.specs.declared.status.Status.TheVariants.{Ok, Overrun, Refused, Usage, ReadFault, WriteFault, NoMemory, TooLarge}

@@ -6,7 +6,7 @@ use Rattle.dbp_top.specs.declared.command.Numbers.{Numbers}
 use Rattle.dbp_top.specs.declared.pattern.Pattern.{Pattern}
 use Rattle.dbp_top.specs.declared.pattern.Pattern.TheVariants.{Word, Number, Size}
 
--- the form of a word: this text, a number behind a prefix, or a size
+-- the form of a word: this text, a number after a prefix, or a size
 pub data WordForm : Type 0 where
   word : List ℕ → WordForm
   number : List ℕ → WordForm
@@ -43,12 +43,12 @@ AllFit [] (w ∷ ws) before after = ⊥
 AllFit (f ∷ fs) [] before after = ⊥
 AllFit (f ∷ fs) (w ∷ ws) before after = (between : Numbers) × Fits f w before between × AllFit fs ws between after
 
--- what a user is told of a form
+-- what a user reads of a form
 abbrev pub form_text : WordForm → List ℕ
 form_text (word text) = text
 form_text (number prefix) = prefix ++ codes "N"
 form_text size = codes "SIZE"
 
--- the line that lists words of these forms: a space, each of them behind a space (32), and LF (10)
+-- the line that lists words of these forms: a space, each of them after a space (32), and LF (10)
 abbrev pub listed_forms : List WordForm → List ℕ
 listed_forms forms = 32 ∷ flat_map (λ f. 32 ∷ form_text f) forms ++ 10 ∷ []

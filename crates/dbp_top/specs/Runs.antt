@@ -22,11 +22,11 @@ use Rattle.dbp_top.specs.declared.stop.Stop.{Stop}
 abbrev pub IsOneRunMore : Plan → List CrewEntry → List CrewEntry → Type 0
 IsOneRunMore plan old new = new ≡ old ++ entry_of plan ∷ []
 
--- the runs grew by the entry of one run of a plan; it is the input's, where the source tells its bytes
+-- the runs grew by the entry of one run of a plan; it is the input's, if the source's bytes are known
 abbrev pub HasRunInput : Option (List ℕ) → List CrewEntry → List CrewEntry → Type 0
 HasRunInput input old new = (plan : Plan) × IsOneRunMore plan old new × IfSome input (λ bytes. Accepts bytes plan)
 
--- the runs are as before, and the input is refused, where the source tells its bytes
+-- the runs are as before, and the input is refused, if the source's bytes are known
 abbrev pub HasRefusedInput : Option (List ℕ) → List CrewEntry → List CrewEntry → Type 0
 HasRefusedInput input old new = (new ≡ old) × IfSome input (λ bytes. (line : ℕ) × (code : Code) × Refuses bytes line code)
 

@@ -40,20 +40,20 @@ abbrev pub stop_of_replay : ReplayFail → Stop
 stop_of_replay (replay.Illegal step why) = Refused (Illegal step why)
 stop_of_replay replay.NoMemory = NoMemory
 
--- the stop tells the first fault of the text's document; want of memory tells nothing
+-- the stop says the first fault of the text's document; out of memory says nothing
 abbrev pub IsFaultOf : List ℕ → Stop → Type 0
 IsFaultOf input (Refused (Document line code)) = Refuses input line code
 IsFaultOf input (Refused _) = ⊥
 IsFaultOf input (Overrun _) = ⊥
 IsFaultOf input NoMemory = Unit {0}
 
--- what a stop tells of the input and the command; want of memory tells nothing
+-- what a stop says of the input and the command; out of memory says nothing
 abbrev pub IsStopOf : List ℕ → Command → Stop → Type 0
 IsStopOf input command (Refused refusal) = IsRefused input command refusal
 IsStopOf input command (Overrun line) = IsOverrunLine input command line.items
 IsStopOf input command NoMemory = Unit {0}
 
--- the status with which a stop is told
+-- the status of a stop
 abbrev pub status_of_stop : Stop → Status
 status_of_stop (Refused refusal) = status.Refused
 status_of_stop (Overrun line) = status.Overrun

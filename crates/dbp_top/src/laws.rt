@@ -36,7 +36,7 @@ pub fn one_answer()
     one_meaning();
 }
 
-/// If a text is accepted with a plan, `replay --ranked` answers with status 0 each text that spells a document with the
+/// If a text is accepted with a plan, `replay --ranked` returns status 0 for each text that spells a document with the
 /// same body, except that its script is that of the plan's recorded list. Each document that is read is printable, as
 /// `read_doc` says.
 pub fn a_recorded_script_is_replayed()

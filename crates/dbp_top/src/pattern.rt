@@ -11,7 +11,7 @@ use crate::command::Numbers;
 pub(crate) enum Pattern {
     /// This word.
     Word(&'static str),
-    /// A number behind these bytes.
+    /// A number after these bytes.
     Number(&'static str),
     /// A size.
     Size,

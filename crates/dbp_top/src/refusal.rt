@@ -23,7 +23,7 @@ pub(crate) enum Refusal {
     Illegal { step: u32, why: Illegal },
 }
 
-/// The line `refused: line L: CODE NAME`, with the limit's word behind a passed limit, or `illegal step K: TEXT`.
+/// The line `refused: line L: CODE NAME`, with the limit's word after a passed limit, or `illegal step K: TEXT`.
 pub(crate) fn refusal_line(alloc: Global, refusal: &Refusal) -> Result<Vec<u8>, NoMemory>
     ensures { IfOk result (λ text. text.items ≡ refusal_line refusal.now) }
 {
@@ -60,7 +60,7 @@ fn push_line_number(text: &mut Vec<u8>, line: u32) -> Result<(), NoMemory>
     push_numbered(text, "refused: line ", line)
 }
 
-// Adds the words and the number behind them, and a colon and a space.
+// Adds the words and the number after them, and a colon and a space.
 fn push_numbered(text: &mut Vec<u8>, words: &str, number: u32) -> Result<(), NoMemory>
     ensures { OnOk result (text.new.items
         ≡ text.old.items ++ words.now ++ decimal number ++ codes ": ") }

@@ -35,7 +35,7 @@ fn push_line(text: &mut Vec<u8>, name: &[u8], counts: Counts) -> Result<(), NoMe
     Ok(())
 }
 
-// Adds the number behind a comma.
+// Adds the number after a comma.
 fn push_cell(text: &mut Vec<u8>, number: u32) -> Result<(), NoMemory>
     ensures { OnOk result (text.new.items ≡ text.old.items ++ 44 ∷ decimal number) }
 {

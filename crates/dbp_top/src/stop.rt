@@ -14,7 +14,7 @@ use trace_io::{Code, TraceFail};
 pub(crate) enum Stop {
     /// The input is refused.
     Refused(Refusal),
-    /// A release of a simulation meets an unfinished instance of its task: the line that tells it.
+    /// A release of a simulation meets an unfinished instance of its task: the line that says so.
     Overrun(Vec<u8>),
     /// Memory ran out.
     NoMemory,

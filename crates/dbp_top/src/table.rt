@@ -17,7 +17,7 @@ struct Row {
     command: Command,
 }
 
-// All commands. What a user is told of them is made of this table too. The numbers of a command's words stand in the
+// All commands. What a user reads of them is made of this table too. The numbers of a command's words stand in the
 // place of those that it has here.
 static ROWS: [Row; 14] = [
     Row {

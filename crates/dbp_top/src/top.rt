@@ -32,7 +32,7 @@ const _: () = prove!(MAX_DOCUMENT == 1_048_576);
 /// writes it. `run` runs the tasks by `crew`, and `run --turns N` by `turns`, which draws from N. Clause `ends` says for each
 /// status when it comes, and what was read and written then; clause `answered` says the same of a call in which nothing
 /// failed; clause `crews` says for each status which runs the crews then have made (docs/LAYERS.md has them as tables). It
-/// may wait where it runs tasks, and its clauses hold if it returns.
+/// may wait if it runs tasks, and its clauses hold if it returns.
 pub fn dbp_main<R: Threads + Wait + Sync, S: Source, K: Sink, C: Crew>(
     rt: &R,
     alloc: Global,
@@ -44,7 +44,7 @@ pub fn dbp_main<R: Threads + Wait + Sync, S: Source, K: Sink, C: Crew>(
 ) -> Status
     // What each status says.
     ensures ends { Ends S.left S.faults K.written K.faults serves_all words.now source.old source.new sink.old sink.new result }
-    // Where no read and no write failed, the call was answered.
+    // If no read and no write failed, the call was answered.
     ensures answered { (Rose (S.faults source.old) (S.faults source.new) → ⊥)
         → (Rose (K.faults sink.old) (K.faults sink.new) → ⊥)
         → Answered S.left S.faults K.written K.faults serves_all words.now source.old source.new sink.old sink.new result }
@@ -65,7 +65,7 @@ pub fn plain_main<S: Source, K: Sink>(
 ) -> Status
     // What each status says.
     ensures ends { Ends S.left S.faults K.written K.faults serves_plain words.now source.old source.new sink.old sink.new result }
-    // Where no read and no write failed, the call was answered.
+    // If no read and no write failed, the call was answered.
     ensures answered { (Rose (S.faults source.old) (S.faults source.new) → ⊥)
         → (Rose (K.faults sink.old) (K.faults sink.new) → ⊥)
         → Answered S.left S.faults K.written K.faults serves_plain words.now source.old source.new sink.old sink.new result }

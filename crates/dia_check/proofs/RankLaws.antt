@@ -1,4 +1,4 @@
--- The first fault of a diagram's ranks, and what follows where there is none.
+-- The first fault of a diagram's ranks, and what follows if there is none.
 use Rattle.std.proofs.Common.{◌≡◌, ◌≢◌, ℕ, zero, suc, ◌+◌, ◌<◌, ◌≤◌, Bool, true, false, All, List, [], ◌∷◌, ◌++◌, length, map, drop, get_or, slice_get, Option, Some, None, refl, sym, ap, subst, ◌∙◌, inl, inr, arith}
 use Rattle.std.specs.Prelude.{◌==◌, ◌||◌, ◌&&◌, nat_lt, if◌then◌else◌, is_none, IsSome, slice_index}
 use Rattle.std.specs.List.{flat_map, list_any}

@@ -1,4 +1,4 @@
--- A document says one diagram at most, and none where it has a fault; its first fault is one except for the names of a cycle.
+-- A document says one diagram at most, and none if it has a fault; its first fault is one except for the names of a cycle.
 use Rattle.std.proofs.Common.{◌≡◌, ℕ, suc, ◌<◌, List, [], ◌∷◌, length, slice_get, Option, Some, None, refl, sym, ap, ◌∙◌, subst, arith, inl, inr}
 use Rattle.std.proofs.lemmas.Bool.{cases_order}
 use Rattle.std.proofs.lemmas.Option.{none-some, same_Some}
@@ -23,7 +23,7 @@ use Rattle.dia_check.specs.RankFaults.{IsRankFault, code_of_rank}
 
 -- ---- one diagram
 
--- lists of one length are the same where their items are
+-- lists of one length are the same if their items are
 same-items : {A B : Type 0} (raws : List A) (xs ys : List B) → length xs ≡ length raws → length ys ≡ length raws
     → ((i : ℕ) (raw : A) (x y : B) → slice_get raws i ≡ Some raw → slice_get xs i ≡ Some x → slice_get ys i ≡ Some y → x ≡ y) → xs ≡ ys
 same-items raws [] [] one other each = refl

@@ -16,7 +16,7 @@ pub rest-is : (n : ℕ) (xs : List ℕ) → take (length xs - n) (drop n xs) ≡
 rest-is n xs = take_all (length xs - n) (drop n xs) (omega (arith, length-drop n xs))
 
 module _ (body : Body) (ts : List RawTask) (ns ps : List ℕ) where
-  -- what stands from a task on decides, where these are the lines of the bodies
+  -- what stands from a task on decides, if these are the lines of the bodies
   pub record TasksFrom (k : ℕ) (rest : List ℕ) : Type 0 where
     pub so_far : first_fault (task_faults body [] ts ns ps) ≡ first_fault (task_faults body (take k ts) (drop k ts) (drop k ns) rest)
     pub enough : sum_by (λ t. length t.parts) (drop k ts) ≤ length rest

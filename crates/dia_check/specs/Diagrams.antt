@@ -32,12 +32,12 @@ use Rattle.dia_check.specs.Placed.{placed}
 abbrev pub is_same_link : Link → Link → Bool
 is_same_link k l = k.writer == l.writer && k.reader == l.reader && k.delay == l.delay
 
--- the link that a line of this task's body reads over, where it is a read
+-- the link that a line of this task's body reads over, if it is a read
 abbrev pub link_of : List RawTask → ℕ → Part → List Link
 link_of tasks reader (part.Read n delay writer port at) = record { writer = index_of (task_names tasks) writer; reader = reader; delay = delay } ∷ []
 link_of tasks reader _ = []
 
--- the links of the read lines of these tasks, in their order, where the first task has this number
+-- the links of the read lines of these tasks, in their order, if the first task has this number
 abbrev pub links_used : List RawTask → ℕ → List RawTask → List Link
 links_used tasks number [] = []
 links_used tasks number (t ∷ ts) = flat_map (link_of tasks number) t.parts ++ links_used tasks (number + 1) ts

@@ -98,7 +98,7 @@ task_faults body before (t ∷ ts) (n ∷ ns) parts =
     (n, task_fault body before t) ∷ (faults_behind (part_fault body t) [] t.parts parts ++ task_faults body (before ++ t ∷ []) ts ns (drop (length t.parts) parts))
 task_faults body before _ _ parts = []
 
--- the lines of declarations, tasks and bodies, where each of them has a number
+-- the lines of declarations, tasks and bodies, if each of them has a number
 abbrev pub line_faults : Doc → List (ℕ × Option LineFault)
 line_faults doc = faults_behind decl_fault [] doc.body.decls doc.lines.decls ++ task_faults doc.body [] doc.body.tasks doc.lines.tasks doc.lines.parts
 
@@ -168,7 +168,7 @@ line_without_out doc = outless_line doc.body.tasks doc.lines.tasks
 
 -- ---- of a document
 
--- no line has a fault, and each task is whole, where there is a line of each item
+-- no line has a fault, and each task is whole, if there is a line of each item
 pub record HasNoShapeFault (doc : Doc) : Type 0 where
   pub lines : first_fault (line_faults doc) ≡ None
   pub whole : (i : ℕ) (t : RawTask) → slice_get doc.body.tasks i ≡ Some t → IsWhole t

@@ -64,6 +64,6 @@ declared_name (Out n first e) = n ∷ []
 abbrev pub env_names : List Part → List (List ℕ)
 env_names parts = flat_map state_name parts ++ flat_map sense_name parts ++ flat_map read_name parts ++ flat_map let_name parts
 
--- the outs of the first task with the name, where there is one
+-- the outs of the first task with the name, if there is one
 abbrev pub port_names : List RawTask → List ℕ → List (List ℕ)
 port_names tasks writer = elim (find (λ t. bytes_eq t.name writer) tasks) [ None ↦ [] | Some t ↦ flat_map out_name t.parts ]

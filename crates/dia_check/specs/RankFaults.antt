@@ -22,7 +22,7 @@ abbrev pub task_rank_fault : Policy → Task → Option RankFault
 task_rank_fault Fp t = if is_none t.prio then Some MissingPrio else None
 task_rank_fault Edf t = if is_none t.deadline then Some MissingDeadline else None
 
--- of a link, where the tasks have these ranks: it is direct, and its reader is above its writer
+-- of a link, if the tasks have these ranks: it is direct, and its reader is above its writer
 abbrev pub link_rank_fault : List ℕ → Link → Option RankFault
 link_rank_fault ranks l = if l.delay == 0 && nat_lt (slice_index ranks l.reader) (slice_index ranks l.writer) then Some (UndelayedUpward l.writer l.reader) else None
 

@@ -46,7 +46,7 @@ pub fn bare_bodies_decide_shapes()
     one_front_order();
 }
 
-/// A document has one checked diagram at most, and none where it has a fault; it has one first fault at most, except for
+/// A document has one checked diagram at most, and none if it has a fault; it has one first fault at most, except for
 /// the names of a cycle.
 pub fn one_check()
     ensures one { (doc : Doc) (d e : Diagram) → IsCheckedOf doc d → IsCheckedOf doc e → d ≡ e }

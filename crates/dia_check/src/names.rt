@@ -34,7 +34,7 @@ pub fn is_same_name(name: &Name, other: &Name) -> bool
     name == other
 }
 
-/// The place of the name, the first of them; after all where it isn't among them.
+/// The place of the name, the first of them; after all if it isn't among them.
 pub(crate) fn index_of(names: &[Name], name: &Name) -> u32
     requires { length names.now < 2 ^ 32 }
     ensures { result ≡ index_of names.now name.now }
@@ -71,7 +71,7 @@ pub(crate) fn event_names(alloc: Global, decls: &[Decl]) -> Result<List<Name>, N
     Ok(names)
 }
 
-/// The name that the part declares, where it is of the kind.
+/// The name that the part declares, if it is of the kind.
 fn named(kind: Kind, part: &Part) -> Option<Name>
     ensures { option_to_list result ≡ named kind part.now }
 {

@@ -16,7 +16,7 @@ use crate::shaped::{ReadLine, Shaped};
 use dbp_plan::{Diagram, Link, Policy, Task};
 use std::alloc::Global;
 
-/// `MissingPrio` or `MissingDeadline`, where the task lacks what the policy ranks it by.
+/// `MissingPrio` or `MissingDeadline`, if the task lacks what the policy ranks it by.
 fn task_rank_fault(policy: Policy, task: &Task) -> Option<RankFault>
     ensures { result ≡ task_rank_fault policy task.now }
 {
@@ -41,7 +41,7 @@ fn tasks_rank_fault(policy: Policy, tasks: &[Task], lines: &[u32]) -> Option<(u3
     None
 }
 
-/// `UndelayedUpward`, where the link is direct and its reader is ranked above its writer.
+/// `UndelayedUpward`, if the link is direct and its reader is ranked above its writer.
 fn link_rank_fault(policy: Policy, tasks: &[Task], link: Link) -> Option<RankFault>
     requires { (link.writer < length tasks.now) × (link.reader < length tasks.now) }
     ensures { result ≡ link_rank_fault (ranks_of policy tasks.now) link }

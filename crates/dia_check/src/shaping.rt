@@ -128,7 +128,7 @@ fn shaped_of(alloc: Global, doc: &Doc) -> Result<Shaped, CheckFail>
 /// without a `next` keeps its value.
 ///
 /// Refused is the first line with a fault, with the first of its faults in this order: `Duplicate`, `Unknown`,
-/// `SelfLink`, `ReadPastCost`. Where no line has one, it is the first task with `NoOut`, at its first line, or with
+/// `SelfLink`, `ReadPastCost`. If no line has one, it is the first task with `NoOut`, at its first line, or with
 /// `LetCycle`, at the line of the earliest let on a cycle. The order of lets is that of `order_lets`.
 pub fn shape(alloc: Global, doc: &Doc) -> Result<Shaped, CheckFail>
     requires printable { IsPrintable doc.now.body }

@@ -145,7 +145,7 @@ fn task_of(
     })
 }
 
-/// The line of the let with the number, from 0, where the lines of the body have the first of these numbers.
+/// The line of the let with the number, from 0, if the lines of the body have the first of these numbers.
 fn let_line(parts: &[Part], lines: &[u32], number: u32) -> u32
     requires lines { length parts.now ≤ length lines.now }
     requires there { number < length (let_lines parts.now lines.now) }

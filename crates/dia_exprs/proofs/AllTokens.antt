@@ -32,7 +32,7 @@ all-spelled n ts x e =
 pub one-spelled : (ts : List Token) (t u : Expression) → Spells Whole ts t → Spells Whole ts u → t ≡ u
 one-spelled ts t u d e = ap (λ (p : Place). p.0) (some_is _ _ (sym (all-read ts t d) ∙ all-read ts u e))
 
--- where nothing is read nothing is spelled
+-- if nothing is read nothing is spelled
 pub none-spelled : (ts : List Token) (e : ExpressionFail) → HasNone (of_level Whole) ts e → e ≡ NoExpression → SpellsNone ts
 none-spelled ts NoMemory h same t d = cc
 none-spelled ts NoExpression h same t d = let wrong : None ≡ given (t, []) = sym (h (length ts) (omega arith)) ∙ all-read ts t d in cc
@@ -41,14 +41,14 @@ no_token : (ts : List Token) → length ts ≡ 0 → ts ≡ []
 no_token [] e = refl
 no_token (t ∷ ts) e = absurd (omega arith)
 
--- where all is read it is spelled
+-- if all is read it is spelled
 pub read-spelled : (nodes grown : List (Node (List ℕ))) (ts rest : List Token) → nodes ≡ [] → length rest ≡ 0 → HasRead (of_level Whole) nodes ts grown rest
     → (x : Expression) × Spells Whole ts x × (grown ≡ nodes_of 0 x)
 read-spelled nodes grown ts rest empty ended r =
     let whole : reader (length ts) Whole ts ≡ given (r.0, []) = r.2 (length ts) (omega arith) ∙ ap (λ (us : List Token). given (r.0, us)) (no_token rest ended) in
     (r.0, all-spelled (length ts) ts r.0 whole, r.1 ∙ ap (λ (ns : List (Node (List ℕ))). ns ++ nodes_of (length ns) r.0) empty)
 
--- where tokens are left nothing is spelled
+-- if tokens are left nothing is spelled
 pub left-over : (nodes grown : List (Node (List ℕ))) (ts rest : List Token) → (length rest ≡ 0 → ⊥) → HasRead (of_level Whole) nodes ts grown rest → SpellsNone ts
 left-over nodes grown ts rest more r t d =
     let same : (r.0, rest) ≡ (t, []) = some_is _ _ (sym (r.2 (length ts) (omega arith)) ∙ all-read ts t d) in

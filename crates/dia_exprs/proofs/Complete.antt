@@ -133,7 +133,7 @@ no_operator Sum (token.Symbol symbol.Slash) h = absurd (omega arith)
 no_operator Sum (token.Symbol symbol.Percent) h = absurd (omega arith)
 no_operator _ _ h = refl
 
--- a level is done where no operator of it comes
+-- a level is done if no operator of it comes
 abbrev pub Ends : Level → List Token → Type 0
 Ends l [] = Unit {0}
 Ends l (t ∷ ts) = operator l t ≡ None

@@ -1,4 +1,4 @@
--- An expression can be printed where its tokens can.
+-- An expression can be printed if its tokens can.
 use Rattle.std.proofs.Common.{ℕ, ◌+◌, All, List, [], ◌∷◌, ◌++◌}
 use Rattle.std.specs.List.{AllByRecursion}
 use Rattle.std.proofs.lemmas.List.Elements.{All-nil, All-cons, All-append}

@@ -1,4 +1,4 @@
--- What an answer says of the tokens.
+-- What a result says of the tokens.
 use Rattle.std.specs.Prelude.{ℕ, List, Result, Ok, Err}
 use Rattle.dbp_plan.specs.declared.expr.Expr.{Expr}
 use Rattle.dbp_plan.specs.Expr.{IsExprOf}
@@ -16,7 +16,7 @@ SpellsNone ts = (t : Expression) → Spells Whole ts t → ⊥
 abbrev pub IsSpelled : List Token → Expr (List ℕ) → Type 0
 IsSpelled ts e = (t : Expression) × Spells Whole ts t × IsExprOf e t
 
--- the answer holds the expression, unless memory ran out
+-- the result holds the expression, unless memory ran out
 abbrev pub Gives : Expression → Result (Expr (List ℕ)) ExpressionFail → Type 0
 Gives t (Ok e) = IsExprOf e t
 Gives t (Err NoMemory) = Unit {0}

@@ -18,13 +18,13 @@ has_node _ = true
 abbrev pub node_count : List Token → ℕ
 node_count ts = length (filter has_node ts)
 
--- how many parentheses are open after the token, where so many are open before it: one that closes none stays without effect
+-- how many parentheses are open after the token, if so many are open before it: one that closes none stays without effect
 abbrev pub opened : ℕ → Token → ℕ
 opened open_now (token.Symbol symbol.Open) = open_now + 1
 opened open_now (token.Symbol symbol.Close) = open_now - 1
 opened open_now _ = open_now
 
--- how many parentheses are open at once, at most, where so many are open before the tokens
+-- how many parentheses are open at once, at most, if so many are open before the tokens
 abbrev pub deepest : ℕ → List Token → ℕ
 deepest open_now [] = open_now
 deepest open_now (t ∷ ts) = max open_now (deepest (opened open_now t) ts)

@@ -39,7 +39,7 @@ Says r ts p = (n : ℕ) → length ts ≤ n → r n ts ≡ p
 abbrev pub HasRead : Readers → List (Node (List ℕ)) → List Token → List (Node (List ℕ)) → List Token → Type 0
 HasRead r nodes ts grown rest = (x : Expression) × (grown ≡ nodes ++ nodes_of (length nodes) x) × Says r ts (Some (x, rest))
 
--- No expression is read at the front of the tokens. Where memory ran out nothing is said.
+-- No expression is read at the front of the tokens. If memory ran out nothing is said.
 abbrev pub HasNone : Readers → List Token → ExpressionFail → Type 0
 HasNone r ts NoMemory = Unit {0}
 HasNone r ts NoExpression = Says r ts None

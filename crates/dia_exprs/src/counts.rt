@@ -17,7 +17,7 @@ pub fn node_tokens(tokens: &[Token]) -> usize
     tokens.iter().filter(|token| has_node(token)).count()
 }
 
-/// How many parentheses are open at once, at most. One that closes where none is open counts for nothing.
+/// How many parentheses are open at once, at most. One that closes nothing counts for nothing.
 pub fn depth(tokens: &[Token]) -> usize
     ensures { result ≡ depth_of tokens.now }
 {

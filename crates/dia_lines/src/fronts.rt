@@ -1,4 +1,4 @@
-// What stands at the front of tokens, and the tokens after it; or what all that is left is.
+// What stands at the beginning of tokens, and the tokens after it; or what all that is left is.
 
 ghost use Rattle.std.specs.Prelude.{◌≡◌};
 ghost use Rattle.std.specs.Option.{option_map};

@@ -102,7 +102,7 @@ either : (b : ℕ) (c : Bool) (k l : Kind) → HasText b k → HasText b l → H
 either b true k l h i = h
 either b false k l h i = i
 
--- where b is n, or another symbol
+-- if b is n, or another symbol
 if-symbol : (b n : ℕ) (k l : Kind) → Says n k → HasText b l → HasText b (cond (b == n) k l)
 if-symbol b n k l h i =
     elim (cases_Bool (b == n)) [
@@ -110,7 +110,7 @@ if-symbol b n k l h i =
       | inr n ↦ rw n i
     ]
 
--- where b is no symbol
+-- if b is no symbol
 no-symbol : {b : ℕ} {k : Kind} → Says b k → HasText b k
 no-symbol h = record { says = h }
 
@@ -238,7 +238,7 @@ pub joined-fits : (line : List ℕ) (ps : List Piece) → Lexes true line ps →
 joined-fits line [] d = omega arith
 joined-fits line (p ∷ ps) d = omega (arith, left-fits true line (p ∷ ps) d)
 
--- where there are tokens, one more byte fits
+-- if there are tokens, one more byte fits
 pub joined-shorter : (line : List ℕ) (p : Piece) (ps : List Piece) → Lexes true line (p ∷ ps) → length (joined (p ∷ ps)) + 1 ≤ 2 * length line
 joined-shorter line p ps d = omega (arith, left-fits true line (p ∷ ps) d)
 
@@ -372,7 +372,7 @@ left-none : (first : Bool) → left first [] ≡ []
 left-none true = refl
 left-none false = refl
 
--- where no token is at the front
+-- if no token is at the front
 pub Leaves-ends : {line out : List ℕ} {first signed : Bool} {rest : List ℕ} → Leaves line out first signed rest → nothing ≡ token_at signed rest → (ps : List Piece) → Lexes true line ps → out ≡ joined ps
 Leaves-ends {line} {out} {first} {signed} {rest} l e ps d =
     let t = l.tokens ps d in

@@ -1,4 +1,4 @@
--- What the code finds at the front of a line, without where it lies in memory.
+-- What the code finds at the beginning of a line, without where it lies in memory.
 use Rattle.dia_tokens.specs.declared.lexing.Front.{Front}
 use Rattle.dia_tokens.specs.declared.lexing.Front.TheVariants as held
 use Rattle.dia_tokens.specs.Pieces.{seen}

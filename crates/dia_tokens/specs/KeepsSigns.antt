@@ -10,7 +10,7 @@ abbrev pub IsUnsigned : Token → Type 0
 IsUnsigned (Number (negsuc n)) = ⊥
 IsUnsigned _ = Unit {0}
 
--- Negative numbers stand only where a `-` belongs to the number after it: as the first token where signed says so, or
+-- Negative numbers stand only where a `-` belongs to the number after it: as the first token if signed says so, or
 -- after a reserved word or a symbol other than `)`.
 abbrev pub KeepsSigns : Bool → List Token → Type 0
 KeepsSigns signed [] = Unit {0}

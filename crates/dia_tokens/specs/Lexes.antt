@@ -7,7 +7,7 @@ use Rattle.dia_tokens.specs.Kinds.{kind_of, is_name, is_digit, is_equals}
 use Rattle.dia_tokens.specs.Pieces.{Piece, name, number, symbol}
 use Rattle.dia_tokens.specs.Words.{word_of}
 
--- whether a `-` before a digit belongs to the number, where this is the token before it on the line
+-- whether a `-` before a digit belongs to the number, if this is the token before it on the line
 abbrev pub signs : Piece → Bool
 signs (name t) = false
 signs (number t) = false

@@ -30,7 +30,7 @@ pub data HasFault : List ℕ → LineFail → Type 0 where
 abbrev pub HasBadStart : List ℕ → Type 0
 HasBadStart line = (list_all is_allowed line ≡ true) × (token_at true line ≡ bad)
 
--- what holds where a line was refused: where memory ran out nothing is said
+-- what holds if a line was refused: if memory ran out nothing is said
 abbrev pub Refuses : List ℕ → LineFail → Type 0
 Refuses line NoMemory = Unit {0}
 Refuses line fault = HasFault line fault

@@ -5,7 +5,7 @@ use Rattle.dia_tokens.specs.declared.token.Word.{Word}
 use Rattle.dia_tokens.specs.declared.piece.Piece.{Piece as Held}
 use Rattle.dia_tokens.specs.declared.piece.Piece.TheVariants as held
 
--- a token, with its text where that matters
+-- a token, with its text if that matters
 pub data Piece : Type 0 where
   word : Word → Piece
   name : List ℕ → Piece

@@ -1,4 +1,4 @@
--- The token at the front of a line.
+-- The token at the beginning of a line.
 use Rattle.std.specs.Prelude.{ℕ, ◌+◌, Bool, false, List, [], ◌∷◌, take, drop, ◌&&◌, if◌then◌else◌}
 use Rattle.std.specs.List.{prefix_len}
 use Rattle.dia_tokens.specs.declared.token.Symbol.TheVariants.{Unequal, Minus}
@@ -27,7 +27,7 @@ number_in sign line =
     let n = sign + prefix_len is_digit (drop sign line) in
     if begins is_name (drop n line) then bad else found (number (take n line)) (drop n line)
 
--- where the line's first byte is of the kind
+-- if the line's first byte is of the kind
 abbrev pub front_of : Bool → Kind → List ℕ → Front
 front_of signed Hash line = nothing
 front_of signed Letter line = name_in line
@@ -38,7 +38,7 @@ front_of signed (Pair short long) line = if begins is_equals (drop 1 line) then 
 front_of signed (Plain x) line = found (symbol x) (drop 1 line)
 front_of signed _ line = bad
 
--- where no blank is at the front
+-- if no blank is at the front
 abbrev pub token_in : Bool → List ℕ → Front
 token_in signed [] = nothing
 token_in signed (b ∷ bs) = front_of signed (kind_of b) (b ∷ bs)

@@ -42,7 +42,7 @@ pub fn read_word()
     ensures { (w : Reserved) → word_of (word_text w) ≡ word w }
 {}
 
-/// The line of tokens spells these tokens, where each can be printed and negative numbers stand where a `-` belongs to
+/// The line of tokens spells these tokens, if each can be printed and negative numbers stand where a `-` belongs to
 /// the number after it.
 pub fn line_spells()
     ensures { (ts : Items Spelled) → All IsPrintableToken ts → KeepsSigns true ts

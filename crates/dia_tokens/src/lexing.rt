@@ -14,7 +14,7 @@ use crate::kind::{Kind, kind_at};
 use crate::piece::Piece;
 use crate::reserved::word_or_name;
 
-/// What stands at the front of a line.
+/// What stands at the beginning of a line.
 #[derive(Clone, Copy)]
 pub(crate) enum Front<'a> {
     Nothing,
@@ -167,7 +167,7 @@ pub(crate) fn next_token<'a>(signed: bool, line: &'a [u8]) -> Front<'a>
     }
 }
 
-/// Whether a `-` before a digit belongs to the number, where this is the token before it.
+/// Whether a `-` before a digit belongs to the number, if this is the token before it.
 pub(crate) fn may_sign(last: Piece) -> bool
     ensures { result ≡ signs (seen last.entry) }
 {

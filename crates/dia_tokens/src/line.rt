@@ -14,7 +14,7 @@ use crate::values::{first_fault, token_of};
 use dbp_plan::NoMemory;
 use std::alloc::{AllocError, AllocFailed, Global};
 
-/// Why a line has no tokens. Where it has several faults, the first of these that it has.
+/// Why a line has no tokens. If it has several faults, the first of these that it has.
 #[derive(Clone, Copy, Debug, PartialEq, Eq)]
 pub enum LineFail {
     /// A byte that is neither printed ASCII, a space nor a tab.

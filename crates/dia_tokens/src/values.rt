@@ -29,7 +29,7 @@ impl From<ValueFail> for LineFail {
     }
 }
 
-/// The number that the text makes, where it fits in 64 bits.
+/// The number that the text makes, if it fits in 64 bits.
 fn number(text: &[u8]) -> Option<i64>
     requires { IsNumberText text.now }
     ensures some { IfSome result (λ n. (n ≡ number_of text.now) × (is_in_range text.now ≡ true)) }

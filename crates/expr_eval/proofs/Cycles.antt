@@ -12,7 +12,7 @@ use Rattle.expr_eval.specs.LetSearch.{AreListed}
 use Rattle.expr_eval.proofs.Listed.{place_of, contains_cases, once_push, listed_none, listed_push, listed_few, listed_all, listed_full}
 use Rattle.expr_eval.proofs.FrontOrders.{IsFront, order_ready}
 
--- an order holds each let of a cycle behind the next one
+-- an order holds each let of a cycle after the next one
 before_next : (base : ℕ) (lets : List Let) (order cycle : List ℕ) → IsLetOrder base lets order → IsCycle base lets cycle
     → (n p i m : ℕ) → m < n → slice_get cycle p ≡ Some i → slice_get order m ≡ Some i → ⊥
 before_next base lets order cycle is loops zero p i m less at placed = absurd (omega arith)
@@ -129,7 +129,7 @@ path_drop base lets path last q inside is =
       ends = λ p end. let all : q + p + 1 ≡ length path = omega (arith, size) in drop_place path q p ∙ is.ends (q + p) all;
     }
 
--- where no let that isn't placed is ready, one lies on a cycle: a path among them comes back
+-- if no let that isn't placed is ready, one lies on a cycle: a path among them comes back
 grown : (base : ℕ) (lets : List Let) (placed : List ℕ) → All (λ l. VariablesBelow (base + length lets) l.expr.nodes) lets → AllWait base lets placed
     → (room : ℕ) (path : List ℕ) (last : ℕ) → IsPath base lets path last → All (λ i. i < length lets) path → last < length lets → (Contains placed last → ⊥) → length lets < length path + room
     → (i : ℕ) × (i < length lets) × LiesOnCycle base lets i
@@ -155,7 +155,7 @@ grown base lets placed variables wait (suc room) path last is named below fresh 
           (All-push (λ i. i < length lets) path next named inside) inside waits.2 longer
     ]
 
--- so where none lies on a cycle all are placed
+-- so if none lies on a cycle all are placed
 pub all_placed : (base : ℕ) (lets : List Let) (placed : List ℕ) → All (λ l. VariablesBelow (base + length lets) l.expr.nodes) lets → IsFront base lets placed → AllWait base lets placed
     → ((i : ℕ) → i < length lets → LiesOnCycle base lets i → ⊥) → length placed ≡ length lets
 all_placed base lets placed variables front wait none =

@@ -27,7 +27,7 @@ to_variables : (base j : ℕ) (xs : List ℕ) → Contains xs j → list_any (λ
 to_variables base j xs among =
     list_any_at (λ i. eqb (base + i) (base + j)) xs among.0 j among.1 (eq-eqb (base + get_or xs among.0 j) (base + j) (ap (λ (z : ℕ). base + z) among.2))
 
--- each let of an order stands behind those that it uses
+-- each let of an order stands after those that it uses
 pub order_ready : (base : ℕ) (lets : List Let) (order : List ℕ) → IsLetOrder base lets order → (p i : ℕ) → slice_get order p ≡ Some i → IsReady base lets (take p order) i
 order_ready base lets order is p i at j used =
     from_variables base j (take p order) (is.behind p i used.place (base + j) used.user at used.is used.variable (omega arith))
@@ -85,7 +85,7 @@ front_end base lets placed front full = record { is_order = ready_order base let
 
 -- there is one at most
 
--- where two orders have the same front, the next of the one isn't less than that of the other
+-- if two orders have the same front, the next of the one isn't less than that of the other
 not_less : (base : ℕ) (lets : List Let) (one other : List ℕ) (p a b : ℕ) → IsFrontOrder base lets one → IsFrontOrder base lets other
     → take p one ≡ take p other → slice_get one p ≡ Some a → slice_get other p ≡ Some b → a < b → ⊥
 not_less base lets one other p a b is_one is_other same at_one at_other less =

@@ -45,7 +45,7 @@ variables_more P base nodes n node here holds before k j below at = elim (cases_
   | inr apart ↦ before k j (omega arith) at
 ]
 
--- what the let of a node tells, where it is compared with a let
+-- what the let of a node says, if it is compared with a let
 pub used_node : (r : Option ℕ) (base used : ℕ) (node : Node ℕ) → MatchOption r ((j : ℕ) → node ≡ Var (base + j) → ⊥) (λ j. node ≡ Var (base + j))
     → true ≡ option_eq eqb r (Some used) → node ≡ Var (base + used)
 used_node None base used node is same = cc

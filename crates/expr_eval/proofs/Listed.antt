@@ -58,7 +58,7 @@ listed_few n xs listed =
     length-le_from_distinct_below xs n (IsDistinct-from_AllPairs Decides-eqb xs listed.once)
     (λ q member. All-contains (λ i. i < n) xs q listed.named ((is_member-Decides Decides-eqb xs q).0 member))
 
--- and fewer where one below the bound is missing
+-- and fewer if one below the bound is missing
 pub listed_room : (n : ℕ) (xs : List ℕ) (x : ℕ) → AreListed n xs → x < n → (Contains xs x → ⊥) → length xs < n
 listed_room n xs x listed below fresh = omega (arith, listed_few n (xs ++ x ∷ []) (listed_push n xs x listed below fresh), length-append xs (x ∷ []))
 

@@ -38,7 +38,7 @@ lead_more base lets target found user lead below fresh uses_one =
       ];
     }
 
--- a path from the target through lets that were found, each further in front; the next one is below the bound
+-- a path from the target through lets that were found, each earlier; the next one is below the bound
 pub record IsDescent (base : ℕ) (lets : List Let) (target : ℕ) (found : List ℕ) (bound : ℕ) (path : List ℕ) (last : ℕ) : Type 0 where
   pub is : IsPath base lets path last
   pub begins : slice_get path 0 ≡ Some target
@@ -113,7 +113,7 @@ leads_back base lets target found cycle lead all loops (suc n) p i end at =
     let next = at_place cycle (p + 1) more in
     all i next.0 (leads_back base lets target found cycle lead all loops n (p + 1) next.0 (omega arith) next.1) (loops.is.linked p i next.0 at next.1)
 
--- where the target uses none of those that were found it lies on no cycle
+-- if the target uses none of those that were found it lies on no cycle
 no_cycle : (base : ℕ) (lets : List Let) (target : ℕ) (found : List ℕ) → LeadTo base lets target found → AreAllLeading base lets found → UsesNoneOf base lets found target → LiesOnCycle base lets target → ⊥
 no_cycle base lets target found lead all none (cycle, loops) = elim (cases_lt 1 (length cycle)) [
   | inl more ↦

@@ -48,7 +48,7 @@ abbrev pub Settled : List (Node ℕ) → List ℤ → List ℤ → ℕ → Type 
 Settled nodes env values n =
     (k : ℕ) (node : Node ℕ) → k < n → slice_get nodes k ≡ Some node → get_or values k (pos 0) ≡ value_of_node env values node
 
--- a write behind a node's operands keeps its value
+-- a write after a node's operands keeps its value
 keeps : (env values : List ℤ) (i : ℕ) (v : ℤ) (node : Node ℕ) → OperandsBelow i node → value_of_node env (set values i v) node ≡ value_of_node env values node
 keeps env values i v (Num z) below = refl
 keeps env values i v (Var p) below = refl
@@ -159,7 +159,7 @@ tree_settled nodes env values settled (choice c y n) front behind at size is =
     ∙ ap (λ (x : ℤ). value_of_choice (tree_value env c) x (get_or values (at + size_of c + size_of y + size_of n - 1) (pos 0))) second
     ∙ ap (λ (x : ℤ). value_of_choice (tree_value env c) (tree_value env y) x) third)
 
--- where all nodes have their values, the last has that of the tree
+-- if all nodes have their values, the last has that of the tree
 pub last_settled : (nodes : List (Node ℕ)) (env values : List ℤ) (tree : HasTree nodes) (n : ℕ) → n ≡ length nodes → Settled nodes env values n
     → get_or values (length nodes - 1) (pos 0) ≡ tree_value env tree.0
 last_settled nodes env values tree n all settled =

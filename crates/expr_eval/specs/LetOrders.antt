@@ -62,7 +62,7 @@ pub record AreNamesOf (lets : List Let) (numbers : List ℕ) (names : List (List
   pub size : length names ≡ length numbers
   pub each : (p i : ℕ) (l : Let) → slice_get numbers p ≡ Some i → slice_get lets i ≡ Some l → slice_get names p ≡ Some l.name
 
--- what a failure tells of the lets; want of memory tells nothing
+-- what a failure says of the lets; out of memory says nothing
 abbrev pub IsFailOf : ℕ → List Let → LetFail → Type 0
 IsFailOf base lets (Cycle first names) = (cycle : List ℕ) × IsFirstCycle base lets first cycle × AreNamesOf lets cycle names
 IsFailOf base lets NoMemory = Unit {0}

@@ -16,7 +16,7 @@ use Rattle.dbp_plan.specs.Tree.{Tree, number, variable, unary, binary, choice}
 abbrev pub nearest : ℤ → ℤ
 nearest z = saturate_signed w64 z
 
--- a word is true where it isn't 0
+-- a word is true if it isn't 0
 abbrev pub holds : ℤ → Bool
 holds z = not (int_eq z (pos 0))
 
@@ -24,11 +24,11 @@ holds z = not (int_eq z (pos 0))
 abbrev pub truth : Bool → ℤ
 truth b = if b then pos 1 else pos 0
 
--- the quotient towards zero, 0 where the divisor is 0
+-- the quotient towards zero, 0 if the divisor is 0
 abbrev pub quotient : ℤ → ℤ → ℤ
 quotient a b = if holds b then nearest (int_div a b) else pos 0
 
--- the remainder with the dividend's sign, 0 where the divisor is 0
+-- the remainder with the dividend's sign, 0 if the divisor is 0
 abbrev pub remainder : ℤ → ℤ → ℤ
 remainder a b = if holds b then int_rem a b else pos 0
 
@@ -55,11 +55,11 @@ value_of_binary Or a b = truth (holds a || holds b)
 value_of_binary Min a b = int_min a b
 value_of_binary Max a b = int_max a b
 
--- the value of a choice: the first where the condition is true, else the second
+-- the value of a choice: the first if the condition is true, else the second
 abbrev pub value_of_choice : ℤ → ℤ → ℤ → ℤ
 value_of_choice c a b = if holds c then a else b
 
--- the value of a tree, where the variables are places of the environment
+-- the value of a tree, if the variables are places of the environment
 abbrev pub tree_value : List ℤ → Tree ℕ → ℤ
 tree_value env (number z) = z
 tree_value env (variable v) = slice_index_or env v (pos 0)
@@ -71,7 +71,7 @@ tree_value env (choice c y n) = value_of_choice (tree_value env c) (tree_value e
 abbrev pub value_of : Expr ℕ → List ℤ → ℤ
 value_of e env = tree_value env (tree_of e)
 
--- the value of a node, where its operands are places of values
+-- the value of a node, if its operands are places of values
 abbrev pub value_of_node : List ℤ → List ℤ → Node ℕ → ℤ
 value_of_node env values (Num z) = z
 value_of_node env values (Var v) = slice_index_or env v (pos 0)

@@ -68,8 +68,8 @@ fn is_new_user(lets: &List<Let>, base: u32, user: u32, found: &[u32]) -> bool
     !is_among(user, found) && uses_one_of(lets, base, user, found)
 }
 
-// A cycle from the target, where it lies on one. It is the first of the lets that were found, and from each other one
-// uses lead to it, each time to a let further in front.
+// A cycle from the target, if it lies on one. It is the first of the lets that were found, and from each other one
+// uses lead to it, each time to a let earlier.
 fn cycle_from(
     alloc: Global,
     lets: &List<Let>,

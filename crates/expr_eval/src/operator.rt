@@ -38,7 +38,7 @@ pub(crate) fn binary(operator: BinOp, left: i64, right: i64) -> i64
     }
 }
 
-// The quotient, or 0 where the divisor is 0.
+// The quotient, or 0 if the divisor is 0.
 fn divided(left: i64, right: i64) -> i64
     ensures { result ≡ quotient left right }
 {
@@ -49,7 +49,7 @@ fn divided(left: i64, right: i64) -> i64
     }
 }
 
-// The remainder, or 0 where the divisor is 0.
+// The remainder, or 0 if the divisor is 0.
 fn rest(left: i64, right: i64) -> i64
     ensures { result ≡ remainder left right }
 {

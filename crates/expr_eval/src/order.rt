@@ -33,7 +33,7 @@ impl From<NoMemory> for LetFail {
 
 /// The lets in the order of evaluation from the front, by their places from 0: each time the earliest let that isn't
 /// placed yet and whose used lets all are. The variable of a let is the base plus its place; variables below the base are no lets.
-/// There are at most `MAX_BODY` lets. Refused exactly where lets use each other in a cycle.
+/// There are at most `MAX_BODY` lets. Refused exactly if lets use each other in a cycle.
 pub fn order_lets(alloc: Global, lets: &List<Let>, base: u32) -> Result<List<u32>, LetFail>
     requires few { length lets.now ≤ MAX_BODY }
     requires variables { All (λ l. VariablesBelow (base + length lets.now) l.expr.nodes) lets.now }

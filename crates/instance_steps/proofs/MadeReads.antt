@@ -110,7 +110,7 @@ events_same reads i served k isnt =
     numbers_more (λ r. (get_or reads r no_read).at == served) k ∙ rw (ne_eqb (get_or reads k no_read).at served isnt) (append-nil (filter (λ r. (get_or reads r no_read).at == served) (range_with_len 0 k))) in
     ap (flat_map (look_events i)) same
 
--- a row that is filled stays so where only the reader changes
+-- a row that is filled stays so if only the reader changes
 still_filled : (a : Recorder) (new : State) (i j instances : ℕ) (q : Place) → i < length (plan_in a).diagram.tasks → j < length (reads_of a i) → ChangesTask (state_in a) new i instances q
     → IsClaimFilled (wiring_in a) (state_in a) (get_or (reads_of a i) j no_read).link → IsClaimFilled (wiring_in a) new (get_or (reads_of a i) j no_read).link
 still_filled a new i j instances q named inside changes filled =

@@ -28,7 +28,7 @@ use Rattle.instance_steps.proofs.Aimed.{seen_few}
 use Rattle.instance_steps.proofs.BatchTasks.{batch_there}
 use Rattle.instance_steps.proofs.ReleaserMoves.{release_on}
 
--- where so many batches are released, as many instances of each task are aimed, and may start, as they name it
+-- if so many batches are released, as many instances of each task are aimed, and may start, as they name it
 module _ (r : Recorder) (number : ℕ) (released : HasReleased (plan_in r) (state_in r) number) (i : ℕ) (named : i < length (plan_in r).diagram.tasks) where
   pub aimed_there : (task_entry (state_in r) i).aimed ≡ length (times_of (take number (plan_in r).batches) i)
   aimed_there =

@@ -1,4 +1,4 @@
--- The releaser's steps: each is allowed where it is the next action, and leaves the tasks as they were.
+-- The releaser's steps: each is allowed if it is the next action, and leaves the tasks as they were.
 use Rattle.std.proofs.Common.{◌≡◌, ◌≢◌, ℕ, ◌+◌, ◌<◌, List, [], ◌∷◌, ◌++◌, length, get_or, set, slice_get, Some, refl, sym, ap, ◌∙◌, subst, get_or-set_other, get_or-set_same}
 use Rattle.std.proofs.lemmas.Bool.{eq-eqb}
 use Rattle.dbp_plan.specs.declared.plan.Plan.{Plan}

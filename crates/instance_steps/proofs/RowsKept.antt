@@ -39,7 +39,7 @@ ended_row p s table i n rows has named few at =
     let scaled : (n + 1) * length (declared p i).outs ≤ ((task s i).part.ended + 1) * length (declared p i).outs = mul-le-mul_right (length (declared p i).outs) (omega arith) in
     record { rows = rows; has_rows = at; there = omega (arith, ports, scaled, own.size); is = refl }
 
--- where as many instances have ended, the rows are those of the ended ones still
+-- if as many instances have ended, the rows are those of the ended ones still
 pub ended_rows_stay : (p : Plan) (s new : State) (table : Table) → ((i : ℕ) → (task new i).part.ended ≡ (task s i).part.ended) → HasEndedRows p s table → HasEndedRows p new table
 ended_rows_stay p s new table same has = record {
   size = has.size;
@@ -145,7 +145,7 @@ ended_rows_start p w table size first = record {
 
 -- ---- the end
 
--- where all instances have ended, the table is the meaning
+-- if all instances have ended, the table is the meaning
 pub ended_rows_all : (p : Plan) (s : State) (table : Table) → HasEndedRows p s table → ((i : ℕ) → i < length p.diagram.tasks → (task s i).part.ended ≡ length (times_of p.batches i)) → table ≡ meaning_of p
 ended_rows_all p s table has all =
     let rows : HasAllRows p.diagram.tasks p.batches table = record {

@@ -1,4 +1,4 @@
--- A task's steps: each is allowed where the task stands before it and no higher-ranked task is due, and changes that task alone.
+-- A task's steps: each is allowed if the task stands before it and no higher-ranked task is due, and changes that task alone.
 use Rattle.std.proofs.Common.{◌≡◌, ℕ, zero, suc, ◌+◌, ◌-◌, ◌<◌, Bool, true, false, length, get_or, Option, None, refl, sym, ap, ◌∙◌, subst, arith, inl, inr, get_or-set_other, get_or-set_same}
 use Rattle.std.specs.Prelude.{nat_lt, nat_le, ◌&&◌}
 use Rattle.std.proofs.lemmas.Bool.{cases_eq, eq-eqb, lt-leb, ltb-true}
@@ -26,7 +26,7 @@ highest_none : (w : Wiring) (f : ℕ → Bool) (n : ℕ) → ((r : ℕ) → r < 
 highest_none w f zero none = refl
 highest_none w f (suc n) none = rw (none n (omega arith), highest_none w f n (λ r below. none r (omega arith))) refl
 
--- of three tests the last fails where the first two pass
+-- of three tests the last fails if the first two pass
 third_fails : (a b c : Bool) → (a ≡ true → b ≡ true → c ≡ false) → (a && (b && c)) ≡ false
 third_fails true true c fails = fails refl refl
 third_fails true false c fails = refl
@@ -69,7 +69,7 @@ changes_on s u v i m n a b first then_ = record {
   place = then_.place;
 }
 
--- the ended number of each task is as it was, where that of the changed one is
+-- the ended number of each task is as it was, if that of the changed one is
 pub changed_ended : (s u : State) (i r : ℕ) (a : Place) → ChangesTask s u i (task s i).part.ended a → (task u r).part.ended ≡ (task s r).part.ended
 changed_ended s u i r a changes = elim (cases_eq r i) [
   | inl same ↦ subst (λ (x : ℕ). (task u x).part.ended ≡ (task s x).part.ended) (sym same) changes.ended

@@ -26,7 +26,7 @@ ended_there w i s there done = record {
   ended = done ∙ time_count w s.seat there.0 ∙ ap (λ n. length (times_of w.plan.batches n)) there.1;
 }
 
--- the party that was read behind the releaser's and those of the tasks before
+-- the party that was read after the releaser's and those of the tasks before
 module _ (w : SlotWords) (ps : List Party) (done : HaveFinished w ps) (i : ℕ) (few : i < length w.plan.diagram.tasks) (p : Party) (read : p ≡ get_or ps (i + 1) p) where
   stands : slice_get ps (i + 1) ≡ Some p
   stands = read_place ps (i + 1) p (omega (arith, few, done.parties.size)) read

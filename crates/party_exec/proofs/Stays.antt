@@ -23,7 +23,7 @@ module _ (p : Plan) (i : ℕ) (t : TaskPart) (work : WorkWords) (rows : TaskRows
   abbrev w : TaskWiring
   w = wired (run_wiring p) i
 
-  -- in the same instance, where no more is taken and the slot is as shut as it was
+  -- in the same instance, if no more is taken and the slot is as shut as it was
   pub stays : (new : TaskPart) → new.ended ≡ t.ended → shut_by new.place ≡ shut_by t.place → taken_by (length w.reads) new.place ≡ taken_by (length w.reads) t.place → HasComputed p i new work rows
   stays new ended shut taken =
       let last : last_computed new ≡ last_computed t = omega (arith, ended, shut) in

@@ -105,7 +105,7 @@ module _ (w : SlotWords) (s : TaskParty) (here : TaskSits w s.seat) where
       let row : s.work.row ≡ meaning_row p i (t.ended + 1) = s.computed.words.row ∙ ap (λ (x : ℕ). meaning_row p i (t.ended + x)) (ap shut_by at) in
       omega (arith, few, (task_wired w s.seat here).ports, ap length row, meant_width p i (t.ended + 1) s.seat.same.named occurs)
 
--- ---- what a start and a look answer
+-- ---- what a start and a look return
 
 pub started : (b : Bool) (gate : ℕ) (r : Opened) → MatchBool b (r ≡ Started) (r ≡ Closed gate) → r ≡ Started → Stepped ≡ stepped_if b (Idle NotOpened)
 started true gate r told is = refl

@@ -64,7 +64,7 @@ meant_is p i m r word is =
     ∙ ap (λ (l : List ℤ). get_or l is.read.port (pos 0)) row
     ∙ get_or_from_slice_get is.is.row is.read.port word (pos 0) is.is.has_word
 
--- the first words stay where a later one is replaced
+-- the first words stay if a later one is replaced
 take_past : {X : Type 0} (n i : ℕ) (xs : List X) (x : X) → n ≤ i → take n (set xs i x) ≡ take n xs
 take_past zero i xs x past = refl
 take_past (suc n) i [] x past = refl

@@ -35,7 +35,7 @@ pub record MakeTurnsBetween (w : SlotWords) (from to draws : ℕ) (old new : Lis
   pub earlier : (k : ℕ) (d : Party) → k < from → slice_index_or new k d ≡ slice_index_or old k d
   pub later : (k : ℕ) (d : Party) → to ≤ k → slice_index_or new k d ≡ slice_index_or old k d
 
--- how many parties of so many have their turns before the one at this place, where a round begins at the place first
+-- how many parties of so many have their turns before the one at this place, if a round begins at the place first
 abbrev pub turns_before : ℕ → ℕ → ℕ → ℕ
 turns_before count first k = if nat_lt k first then count - first + k else k - first
 
@@ -50,7 +50,7 @@ pub record IsDrawnRound (w : SlotWords) (draws : ℕ) (old new : List Party) : T
 abbrev pub after_round : ℕ → ℕ → ℕ
 after_round count draws = after_draws (count + 1) draws
 
--- rounds, each drawn from where the one before it left the generator; before each not all parties have finished
+-- rounds, each drawn from if the one before it left the generator; before each not all parties have finished
 pub data HaveDrawnRounds (w : SlotWords) (draws : ℕ) (ps : List Party) : ℕ → List Party → Type 0 where
   no_round : HaveDrawnRounds w draws ps draws ps
   one_round : (now : ℕ) (qs rs : List Party) → HaveDrawnRounds w draws ps now qs → (All (HasFinished w) qs → ⊥) → IsDrawnRound w now qs rs

@@ -7,7 +7,7 @@ use Rattle.party_exec.specs.declared.party.Party.TheVariants.{Releaser, Task}
 use Rattle.party_exec.specs.declared.turn.Turn.{Turn}
 use Rattle.party_exec.specs.declared.turn.Turn.TheVariants.{Idle}
 
--- ---- what a pace is told
+-- ---- what a pace hears
 
 -- the number of the turn after so many; it stays at the last number of 64 bits
 abbrev pub next_turn : ℕ → ℕ

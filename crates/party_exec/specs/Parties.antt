@@ -30,7 +30,7 @@ abbrev pub HasFinished : SlotWords → Party → Type 0
 HasFinished w (Releaser s) = ReleaserHasFinished w s
 HasFinished w (Task s) = TaskHasFinished w s
 
--- one step of the party, or none where it has finished
+-- one step of the party, or none if it has finished
 abbrev pub IsTurn : SlotWords → Party → Party → Turn → Type 0
 IsTurn w (Releaser old) (Releaser new) turn = IsReleaserTurn w old new turn
 IsTurn w (Task old) (Task new) turn = IsTaskTurn w old new turn

@@ -1,4 +1,4 @@
--- What a turn of a party makes of it, and what it answers.
+-- What a turn of a party makes of it, and what it returns.
 use Rattle.std.specs.Prelude.{◌≡◌, ◌≢◌, ℕ, ◌<◌, nat_lt, Bool, true, false, length, slice_index_or, None}
 use Rattle.dbp_plan.specs.Lookups.{declared, no_read}
 use Rattle.dbp_rules.specs.PartyRules.{Loaded, is_opened_by, is_stamp_of, loaded_number, read_order_in, task_after, task_refusal, turn_at}
@@ -25,7 +25,7 @@ abbrev pub stepped_if : Bool → Turn → Turn
 stepped_if true other = Stepped
 stepped_if false other = other
 
--- it waits where it loaded a gate that isn't open for its next instance, or a stamp that isn't that of the ordered row
+-- it waits if it loaded a gate that isn't open for its next instance, or a stamp that isn't that of the ordered row
 abbrev pub task_answer : TaskWiring → TaskPart → Step → Loaded → Turn
 task_answer w t (step.Start i) l = stepped_if (is_opened_by t (loaded_number l)) (Idle NotOpened)
 task_answer w t (step.Look i r) l = stepped_if (is_stamp_of (read_order_in w t (turn_at t.place)) (loaded_number l)) (Idle WriterNotDone)
@@ -52,7 +52,7 @@ abbrev pub idle_if : Bool → Turn
 idle_if true = Idle LastNotEnded
 idle_if false = Stepped
 
--- it waits where it saw a task of which fewer instances have ended than are aimed
+-- it waits if it saw a task of which fewer instances have ended than are aimed
 abbrev pub releaser_answer : ReleaserPart → ReleaseStep → Turn
 releaser_answer new (release.Seen i) = idle_if (nat_lt (entry_in new i).known (entry_in new i).aimed)
 releaser_answer new e = Stepped
@@ -71,7 +71,7 @@ pub record ReleaserTurn (w : SlotWords) (old new : ReleaserParty) (turn : Turn) 
 
 -- ---- of both
 
--- a task has finished where all its occurrences have ended, the releaser where its book has no next step
+-- a task has finished if all its occurrences have ended, the releaser if its book has no next step
 abbrev pub TaskHasFinished : SlotWords → TaskParty → Type 0
 TaskHasFinished w s = s.seat.part.ended ≡ length (wired w.wiring s.seat.task).times
 

@@ -36,7 +36,7 @@ pub(crate) fn job<P: Pace>(pace: &P, words: &SlotWords, party: &mut Party)
     }
 }
 
-// One turn of the party, of which the pace is told.
+// One turn of the party, which the pace hears of.
 fn paced_turn<P: Pace>(pace: &P, words: &SlotWords, party: &mut Party) -> Turn
     requires { Belongs words.now party.old }
     ensures { IsCountedTurn words.now party.old party.new result }

@@ -19,7 +19,7 @@ pub enum Party {
 }
 
 impl Party {
-    /// Makes the party's next step, which is exactly one atomic step on the words, or none where the party has finished.
+    /// Makes the party's next step, which is exactly one atomic step on the words, or none if the party has finished.
     /// It takes no memory.
     pub fn turn(&mut self, words: &SlotWords) -> Turn
         requires { Belongs words.now self.old }

@@ -16,7 +16,7 @@ use dbp_rules::ReleaserPart;
 use release_book::ReleaseStep;
 use word_rule::{ReleaserSeat, SlotWords};
 
-// Makes the step on the words, and returns the number that it heard; 0 where it hears none.
+// Makes the step on the words, and returns the number that it heard; 0 if it hears none.
 fn make_step(seat: &mut ReleaserSeat, words: &SlotWords, step: ReleaseStep) -> u32
     requires here { ReleaserSits words.now seat.old }
     requires some { step ≢ release.Finished }
@@ -36,7 +36,7 @@ fn make_step(seat: &mut ReleaserSeat, words: &SlotWords, step: ReleaseStep) -> u
     0
 }
 
-// What the releaser answers of a step, from its part after it.
+// What the releaser returns of a step, from its part after it.
 fn answer_of(part: &ReleaserPart, step: ReleaseStep) -> Turn
     requires { (i : ℕ) → step ≡ release.Seen i → i < length part.now.tasks }
     ensures { result ≡ releaser_answer part.now step }

@@ -10,7 +10,7 @@ use dbp_plan::{List, NoMemory, Table, TaskRows};
 use std::alloc::Global;
 use word_rule::SlotWords;
 
-/// The rows of all parties, where they have finished: the meaning of the plan. They are those of one table: the releaser's
+/// The rows of all parties, if they have finished: the meaning of the plan. They are those of one table: the releaser's
 /// first, and then one of each task, in order.
 pub fn table_of(alloc: Global, words: &SlotWords, parties: &List<Party>) -> Result<Table, NoMemory>
     requires { HaveFinished words.now parties.now }

@@ -1,4 +1,4 @@
-// What a party answers of its turn.
+// What a party returns of its turn.
 
 /// What a turn did.
 #[derive(Clone, Copy, Debug, PartialEq, Eq)]

@@ -13,7 +13,7 @@ module _ {X : Type 0} (before : X → X → Type 0) (not_both : (x y : X) → be
   one_first Q (Some x) (Some y) h k =
       ⊎_elim (λ same. ap Some (sym same)) (λ earlier. ⊎_elim (λ same. ap Some same) (λ later. absurd (not_both x y earlier later)) (k.1 x h.0)) (h.1 y k.0)
 
--- the same first, where the same holds
+-- the same first, if the same holds
 pub first_like : {X : Type 0} (before : X → X → Type 0) (Q R : X → Type 0) (o : Option X) → ((x : X) → Q x → R x) → ((x : X) → R x → Q x)
     → IsFirst before Q o → IsFirst before R o
 first_like before Q R None there back h = λ y r. h y (back y r)

@@ -12,7 +12,7 @@ pub record Ran (serve : ℕ → Option Instance) (x : Instance) (t k : ℕ) : Ty
   pub own : served_ticks serve x (t + k) ≡ served_ticks serve x t + k
   pub others : (y : Instance) → y ≢ x → served_ticks serve y (t + k) ≡ served_ticks serve y t
 
--- in the d ticks from t on, but for the first, none is released
+-- in the d ticks from t on, except the first, none is released
 abbrev pub IsQuiet : Plan → ℕ → ℕ → Type 0
 IsQuiet p t d = (y : Instance) → IsInstance p y → release_of p y < t + d → release_of p y ≤ t
 
@@ -55,7 +55,7 @@ module _ (p : Plan) (serve : ℕ → Option Instance) (service : IsService p ser
     pub serves : (k : ℕ) → k < d → serve (t + k) ≡ Some x
     serves k less = still k less (runs k (omega (arith, less)))
 
-  -- where none waits none is served until the next release
+  -- if none waits none is served until the next release
   module _ (none : (y : Instance) → Waits p (left_of p serve) t y → ⊥) where
     idle : (k : ℕ) → k < d → ((y : Instance) → served_ticks serve y (t + k) ≡ served_ticks serve y t) → serve (t + k) ≡ None
     idle k less same =

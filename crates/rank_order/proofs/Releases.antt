@@ -31,7 +31,7 @@ next_instance p task k named within there =
       λ e. time_of-batch p.batches task before k e at,
     )
 
--- where exactly the first batches have come, the instances that are released are those of these batches
+-- if exactly the first batches have come, the instances that are released are those of these batches
 pub released_by : (p : Plan) (k t : ℕ) (x : Instance) → IsInstance p x
     → ((j : ℕ) (d : Batch) → j < k → j < length p.batches → (get_or p.batches j d).time ≤ t)
     → ((j : ℕ) (d : Batch) → k ≤ j → j < length p.batches → t < (get_or p.batches j d).time)

@@ -1,4 +1,4 @@
--- The served ticks of an instance, where whoever is served waits.
+-- The served ticks of an instance, if whoever is served waits.
 use Rattle.std.proofs.Common.{◌≡◌, ◌≢◌, ℕ, zero, suc, ◌+◌, ◌-◌, ◌≤◌, Option, Some, refl, ap, inl, inr, arith}
 use Rattle.dbp_plan.specs.declared.plan.Plan.{Plan}
 use Rattle.dbp_plan.specs.Lookups.{declared}

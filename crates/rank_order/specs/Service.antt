@@ -30,7 +30,7 @@ unfoldable pub served_ticks : (ℕ → Option Instance) → Instance → ℕ →
 served_ticks serve x zero = 0
 served_ticks serve x (suc t) = served_ticks serve x t + (if is_served x (serve t) then 1 else 0)
 
--- what is left of the instance at t: its task's cost but for the ticks before t in which it is served
+-- what is left of the instance at t: its task's cost except the ticks before t in which it is served
 abbrev pub left_of : Plan → (ℕ → Option Instance) → Instance → ℕ → ℕ
 left_of p serve x t = (declared p x.task).cost - served_ticks serve x t
 

@@ -27,7 +27,7 @@ abbrev pub instances_below : Plan → ℕ → List Instance
 instances_below p zero = []
 instances_below p (suc i) = instances_of i (length (times_of p.batches i)) ++ instances_below p i
 
--- whether the instance waits at t, where this many ticks were given to each
+-- whether the instance waits at t, if this many ticks were given to each
 abbrev pub is_waiting : Plan → (Instance → ℕ) → ℕ → Instance → Bool
 is_waiting p given t x = nat_le (release_of p x) t && nat_lt (given x) (declared p x.task).cost
 

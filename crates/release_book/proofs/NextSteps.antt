@@ -30,7 +30,7 @@ pub record MayMake (w : Wiring) (r : ReleaserPart) (e : Step) : Type 0 where
   pub named : IsNamedIn w e
   pub allowed : releaser_refusal w r e ≡ None
 
--- also where it is given as an equal step of the releaser
+-- also if it is given as an equal step of the releaser
 may_too : (w : Wiring) (r : ReleaserPart) (e f : ReleaseStep) (a b : Step) → e ≡ f → step_of f ≡ Some b → step_of e ≡ Some a → MayMake w r b → MayMake w r a
 may_too w r e f a b same is also may = subst (λ (x : Step). MayMake w r x) (same_Some b a (sym is ∙ ap step_of (sym same) ∙ also)) may
 

@@ -19,7 +19,7 @@ use Rattle.dbp_rules.specs.declared.wiring.Wiring.{Wiring}
 abbrev pub first_unended : Wiring → ReleaserPart → Option ℕ
 first_unended w r = least (λ i. nat_lt (entry_in r i).known (length (wired w i).times)) (length w.tasks)
 
--- after the last action such a task is seen; where there is none the releaser has finished
+-- after the last action such a task is seen; if there is none the releaser has finished
 abbrev pub end_step : Option ℕ → ReleaseStep
 end_step (Some i) = Seen i
 end_step None = Finished

@@ -9,7 +9,7 @@ use dbp_rules::{Count, ReleaserPart, Wiring, wire_plan};
 use std::alloc::Global;
 
 /// The releaser of a run: what it knows, and which step it makes next. It looks at no task's part and at no shared word;
-/// what it hears of the tasks, it is told.
+/// what it hears of the tasks, it is given.
 #[derive(Drop)]
 pub struct Book {
     wiring: Wiring,

@@ -10,9 +10,9 @@ use dbp_rules::Step;
 pub enum ReleaseStep {
     /// It loads how many instances of the task have ended.
     Seen { task: u32 },
-    /// It tells the task's next instance which slot it is to fill.
+    /// The task's next instance gets the slot that it is to fill.
     Aim { task: u32, slot: u32 },
-    /// It tells the link's reader which slot its next instance is to read.
+    /// The link's reader gets the slot that its next instance is to read.
     Claim { link: u32 },
     /// It opens the gate of the task's next instance.
     OpenGate { task: u32 },
@@ -21,7 +21,7 @@ pub enum ReleaseStep {
 }
 
 impl ReleaseStep {
-    /// The step of the protocol that it is; none where the releaser has finished.
+    /// The step of the protocol that it is; none if the releaser has finished.
     pub fn step(self) -> Option<Step>
         ensures { result ≡ step_of self }
     {

@@ -1,4 +1,4 @@
--- A place of the releaser's list is one of a batch's, behind those of the batches before it.
+-- A place of the releaser's list is one of a batch's, after those of the batches before it.
 use Rattle.std.proofs.Common.{◌≡◌, ℕ, suc, ◌+◌, ◌<◌, inl, inr, Bool, All, List, [], ◌∷◌, ◌++◌, length, take, Some, refl, sym, ap, ◌∙◌, arith, append_assoc}
 use Rattle.std.specs.Prelude.{count_by, slice_get}
 use Rattle.std.specs.List.Sorted.{IsStrictlyIncreasing}

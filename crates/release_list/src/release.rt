@@ -9,9 +9,9 @@ use std::alloc::Global;
 /// One action of the releaser.
 #[derive(Clone, Copy, Debug, PartialEq, Eq)]
 pub enum Release {
-    /// The task's next instance is told the slot that it is to fill.
+    /// The task's next instance is given the slot that it is to fill.
     Aim { task: u32 },
-    /// The link's reader is told the slot that its next instance is to read.
+    /// The link's reader is given the slot that its next instance is to read.
     Claim { link: u32 },
     /// The gate of the task's next instance is opened.
     OpenGate { task: u32 },

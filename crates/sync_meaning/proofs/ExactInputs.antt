@@ -75,7 +75,7 @@ taken_more inputs samples time k s values at come a = record {
 before_le : (a b : Sample) → is_before a b ≡ true → a.time ≤ b.time
 before_le a b before = grind (arith, nat_tests)
 
--- samples stand by time, so behind a later one all are later
+-- samples stand by time, so after a later one all are later
 pub rest_later : (samples : List Sample) (time k : ℕ) → AllPairs (λ a b. IsTrue (is_before a b)) samples → ((s : Sample) → slice_get samples k ≡ Some s → time < s.time) → All (λ s. time < s.time) (drop k samples)
 rest_later samples time k order next j d below =
     let inside : k + j < length samples = omega (arith, below, length-drop k samples) in

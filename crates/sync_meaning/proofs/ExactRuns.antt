@@ -155,7 +155,7 @@ streams_same d samples batches run later done envs table has = record {
       (has.each i m t e at_t (ap (λ (l : List ℕ). slice_get l i) (sym done) ∙ at_m) (ap (λ (l : List Env). slice_get l i) (sym envs) ∙ at_e));
 }
 
--- the states behind an instance stand at the front
+-- the states after an instance stand at the front
 pub states_behind : (t : Task) (later env after : List ℤ) → length later ≡ length t.states → after ≡ later ++ drop (length later) env → take (length t.states) after ≡ later
 states_behind t later env after size is =
     ap (take (length t.states)) is ∙ ap (λ (n : ℕ). take n (later ++ drop (length later) env)) (sym size) ∙ take-append_seam later (drop (length later) env)

@@ -81,7 +81,7 @@ read_stays links occurred table later r word stay is = record {
   has_word = is.has_word;
 }
 
--- and is the same where the writer's occurrences are as many
+-- and is the same if the writer's occurrences are as many
 pub read_counted : (links : List Link) (occurred other : ℕ → ℕ) (table : Table) (r : Read) (word : ℤ) → ((l : Link) → slice_get links r.link ≡ Some l → occurred l.writer ≡ other l.writer) → IsRead links occurred table r word
     → IsRead links other table r word
 read_counted links occurred other table r word same is = record {

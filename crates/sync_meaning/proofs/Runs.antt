@@ -1,4 +1,4 @@
--- A run, before, in and behind its batches.
+-- A run, before, in and after its batches.
 use Rattle.std.proofs.Common.{◌≡◌, ◌≢◌, ℕ, ℤ, ◌<◌, ◌≤◌, ◌+◌, ◌^◌, List, ◌++◌, length, map, get_or, slice_get, set, drop, Some, sym, ◌∙◌, ap, arith, subst, length-append, length-drop}
 use Rattle.std.specs.Prelude.{All, slice_index, replicate}
 use Rattle.std.specs.List.{refill}

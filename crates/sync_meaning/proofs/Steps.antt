@@ -25,7 +25,7 @@ done_none count rank ranks named done size no_named no_done =
       above = λ i m n r at_r below at_m at_n. done_at i m at_m ∙ sym (named_at i n at_n);
     }
 
--- a batch is named where all instances are computed
+-- a batch is named if all instances are computed
 pub done_marked : (batch : Batch) (rank : ℕ) (ranks named later done : List ℕ) → ((i r : ℕ) → slice_get ranks i ≡ Some r → r < rank) → IsDoneAbove rank ranks named done → IsMarked batch named later → IsDoneAbove 0 ranks later done
 done_marked batch rank ranks named later done below steps marked = record {
   size = marked.size ∙ steps.size;

@@ -1,4 +1,4 @@
--- The lets, one after another in an order in which each comes behind those that it uses.
+-- The lets, one after another in an order in which each comes after those that it uses.
 use Rattle.std.proofs.Common.{◌≡◌, ◌≢◌, ℕ, ℤ, pos, ◌<◌, ◌≤◌, ◌+◌, true, List, [], ◌∷◌, ◌++◌, length, take, get_or, slice_get, set, Some, refl, sym, ◌∙◌, ap, subst, arith, inl, inr, length-take, get_or-set_other}
 use Rattle.std.specs.Prelude.{◌==◌}
 use Rattle.std.specs.List.{Any}
@@ -72,7 +72,7 @@ lets_none task before = record {
   value = λ p k l below. absurd (omega arith);
 }
 
--- what a let at a place of the order uses is no let at this place or behind it
+-- what a let at a place of the order uses is no let at this place or after it
 apart_from : (task : Task) (p q i k v at : ℕ) (l : Let) → IsLetOrder (let_base task) task.lets task.order → slice_get task.order p ≡ Some k → slice_get task.lets k ≡ Some l → slice_get l.expr.nodes at ≡ Some (Var v)
     → p ≤ q → slice_get task.order q ≡ Some i → v ≢ let_base task + i
 apart_from task p q i k v at l order at_k at_l at_v le at_i same =

@@ -16,8 +16,8 @@ use Rattle.dbp_plan.specs.Samples.{input_value}
 use Rattle.dbp_plan.specs.Table.{IsRow, HasAllRows}
 use Rattle.expr_eval.specs.Values.{value_of}
 
--- What a read gives where the tasks have occurred so often: the word of its port in the row of the writer's last
--- instance, or as many instances before that as the link's delay. Where the writer had no such instance, the row is
+-- What a read gives if the tasks have occurred so often: the word of its port in the row of the writer's last
+-- instance, or as many instances before that as the link's delay. If the writer had no such instance, the row is
 -- that of first values.
 pub record IsRead (links : List Link) (occurred : ℕ → ℕ) (table : Table) (read : Read) (word : ℤ) : Type 0 where
   pub link : Link

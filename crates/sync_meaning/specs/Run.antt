@@ -33,7 +33,7 @@ pub record IsRun (d : Diagram) (rank : ℕ) (run : Run) : Type 0 where
   pub rows : HasRowsUpTo d.tasks run.done.items run.table.tasks
   pub steps : IsDoneAbove rank d.ranks run.named.items run.done.items
 
--- each task's equations hold for the instances that are computed, and its states are those behind them
+-- each task's equations hold for the instances that are computed, and its states are those after them
 pub record HasStreams (d : Diagram) (samples : List Sample) (batches : List Batch) (run : Run) : Type 0 where
   pub each : (i m : ℕ) (t : Task) (e : Env) → slice_get d.tasks i ≡ Some t → slice_get run.done.items i ≡ Some m → slice_get run.envs.items i ≡ Some e → IsStreamTo d samples batches run.table i t m (take (length t.states) e.now)
 

@@ -42,7 +42,7 @@ pub record IsMarked (batch : Batch) (before after : List ℕ) : Type 0 where
 pub record AreCounted (batches : List Batch) (named : List ℕ) : Type 0 where
   pub each : (i n : ℕ) → slice_get named i ≡ Some n → n ≡ length (times_of batches i)
 
--- the batch is the next one behind those that are counted
+-- the batch is the next one after those that are counted
 pub record IsNextBatch (batches : List Batch) (batch : Batch) (named : List ℕ) : Type 0 where
   pub place : ℕ
   pub is : slice_get batches place ≡ Some batch

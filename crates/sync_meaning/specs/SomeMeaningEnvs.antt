@@ -19,7 +19,7 @@ use Rattle.sync_meaning.specs.Nexts.{NextsUpTo, nexts_all, nexts_more, nexts_non
 use Rattle.dbp_plan.specs.Places.{all_place, front_place, at_place, same_item, same_list}
 use Rattle.dbp_plan.specs.Rankings.{task_of}
 
--- the environment begins with the words that are given, and behind them stand the lets
+-- the environment begins with the words that are given, and after them stand the lets
 pub record IsEnvFrom (task : Task) (given env : List ℤ) : Type 0 where
   pub size : length env ≡ place_count task
   pub given_words : (j : ℕ) → j < let_base task → slice_get env j ≡ slice_get given j

@@ -36,7 +36,7 @@ rank_le (x ∷ xs) zero = omega (arith, sum_by-cons (λ (y : ℕ). y) x xs)
 rank_le (x ∷ xs) (suc i) = omega (arith, rank_le xs i, sum_by-cons (λ (y : ℕ). y) x xs)
 
 module _ (d : Diagram) (samples : List Sample) (batches : List Batch) where
-  -- the word that the read gives at a time where these are the rows
+  -- the word that the read gives at a time if these are the rows
   abbrev pub word_at : (ℕ → ℕ → List ℤ) → ℕ → Read → ℤ
   word_at rows time read = option_map_or (λ l. get_or (rows l.writer (count_until (times_of batches l.writer) time - l.delay)) read.port (pos 0)) (slice_get d.links read.link) (pos 0)
 

@@ -73,7 +73,7 @@ same_rows outs n x y has_x has_y same =
     let words : x.words ≡ y.words = same_words outs n x.words y.words has_x.size has_y.size rows in
     λ i. record { ports = ports i; words = words i }
 
--- a table's row with this number, and none where there is no such task
+-- a table's row with this number, and none if there is no such task
 abbrev pub rows_in : Table → ℕ → ℕ → List ℤ
 rows_in table i n = option_map_or (λ rows. row_at rows n) (slice_get table.tasks i) []
 

@@ -1,4 +1,4 @@
--- The samples that a run has taken, and the inputs' values behind them.
+-- The samples that a run has taken, and the inputs' values after them.
 use Rattle.std.specs.Prelude.{◌≡◌, ℕ, ℤ, ◌≤◌, ◌==◌, All, List, filter, length, map, slice_get, take, Some}
 use Rattle.dbp_plan.specs.declared.diagram.Input.{Input}
 use Rattle.dbp_plan.specs.declared.schedule.Sample.{Sample}

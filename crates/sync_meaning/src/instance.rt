@@ -26,7 +26,7 @@ pub fn work(task: &Task, env: &mut Env, outs: &mut Row)
     set_outs(task, env.now.items(), outs);
 }
 
-// Computes the lets, each behind those that it uses.
+// Computes the lets, each after those that it uses.
 fn set_lets(task: &Task, now: &mut List<i64>)
     requires closed { IsClosedSomewhere task.now }
     requires size { length now.old ≡ place_count task.now }

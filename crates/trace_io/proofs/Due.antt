@@ -15,7 +15,7 @@ use Rattle.dbp_plan.specs.Clocks.{time_at}
 use Rattle.trace_io.specs.Merging.{AreNext, TakesDue, is_at, next_of}
 use Rattle.std.proofs.lemmas.Grind.{common_steps}
 
--- a list of numbers stays in order where a greater one is added
+-- a list of numbers stays in order if a greater one is added
 pub rising-push : (xs : List ℕ) (x : ℕ) → IsStrictlyIncreasing xs → All (λ y. y < x) xs → IsStrictlyIncreasing (xs ++ x ∷ [])
 rising-push xs x up below k fits = grind (arith, common_steps, up k, below k 0)
 

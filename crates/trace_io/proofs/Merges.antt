@@ -263,7 +263,7 @@ merge-step until events clocks taken next made time tasks table closed m least t
       in_time,
     )
 
--- where no clock has a next time, the batches are those of the clocks
+-- if no clock has a next time, the batches are those of the clocks
 pub merge-end : (until : ℕ) (events : List (List ℕ)) (clocks : List Clock) (taken : List ℕ) (made : List Batch)
     → All (IsClockOf (length events)) clocks → sum_by (count_of until events) clocks ≤ MAX_OCCURRENCES
     → Merged until events clocks taken made → IsLeastNext until events clocks taken (length clocks) None

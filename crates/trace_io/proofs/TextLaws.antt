@@ -21,7 +21,7 @@ use Rattle.trace_io.specs.Batches.{AreBatches}
 use Rattle.trace_io.specs.Traces.{TraceCode, events_of, clocks_of, trace_faults, IsPlanOf, IsTraceFault}
 use Rattle.trace_io.specs.Texts.{Accepts, Refuses, of_reading, of_checking, of_the_trace, IsSameCode}
 
--- plans are the same where their parts are
+-- plans are the same if their parts are
 same-plan : (p q : Plan) → p.diagram ≡ q.diagram → p.samples ≡ q.samples → p.batches ≡ q.batches → p ≡ q
 same-plan p q diagram samples batches = ap made (Σ_prop_path kept (λ i. (diagram i, samples i, batches i)))
   where

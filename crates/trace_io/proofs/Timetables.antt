@@ -1,4 +1,4 @@
--- What the trace of a document gives to its clocks and inputs, where no line has a fault.
+-- What the trace of a document gives to its clocks and inputs, if no line has a fault.
 use Rattle.std.proofs.Common.{◌≡◌, ℕ, ◌<◌, ◌≤◌, All, AllPairs, List, length, map, drop, None, sym, ap, ◌∙◌, subst, arith}
 use Rattle.std.specs.Prelude.{IsTrue}
 use Rattle.std.specs.List.Sorted.{IsStrictlyIncreasing}

@@ -34,7 +34,7 @@ IsLeastBelow until times r = MatchOption r
 abbrev pub is_at : ℕ → Option ℕ → Bool
 is_at time r = option_eq nat_eq r (Some time)
 
--- one more where a next occurrence is at this time
+-- one more if a next occurrence is at this time
 abbrev pub one_if : Bool → ℕ
 one_if true = 1
 one_if false = 0

@@ -1,4 +1,4 @@
--- One batch of the printed lines, where each task was counted before it.
+-- One batch of the printed lines, if each task was counted before it.
 use Rattle.std.specs.Prelude.{◌≡◌, ℕ, ◌+◌, ◌<◌, ◌≤◌, ◌==◌, if◌then◌else◌, All, List, length, slice_index}
 use Rattle.std.specs.List.{flat_map, list_any}
 use Rattle.std.specs.List.Sorted.{IsStrictlyIncreasing}

@@ -41,12 +41,12 @@ abbrev pub header_fault : Diagram → List (List (List ℕ)) → Option TraceCod
 header_fault d [] = Some BadHeader
 header_fault d (header ∷ rows) = if is_header d.inputs d.events header then None else Some BadHeader
 
--- the line of the first record; that which begins the section, where there is no record
+-- the line of the first record; that which begins the section, if there is no record
 abbrev pub header_line : Doc → List (List (List ℕ)) → ℕ
 header_line doc [] = doc.lines.trace_at
 header_line doc (header ∷ rows) = slice_index_or doc.lines.trace 0 0
 
--- where there is a section: its header's line, with the header's fault
+-- if there is a section: its header's line, with the header's fault
 abbrev pub header_faults : Doc → Diagram → Option (List ℕ) → List (ℕ × Option TraceCode)
 header_faults doc d None = []
 header_faults doc d (Some text) = let records = records_of (Some text) in (header_line doc records, header_fault d records) ∷ []
@@ -59,7 +59,7 @@ occurrence_fault doc d = if nat_lt MAX_OCCURRENCES (total_of d.until (events_of 
 abbrev pub section_faults : Doc → Diagram → List (ℕ × Option TraceCode)
 section_faults doc d = header_faults doc d doc.body.trace ++ row_faults d.until (map (kind_of_column d.inputs) (columns_of doc)) (rows_of doc) (drop 1 doc.lines.trace)
 
--- the lines of the section, and at last that of `until`, where the occurrences are counted: each with its first fault
+-- the lines of the section, and at last that of `until`, if the occurrences are counted: each with its first fault
 abbrev pub trace_faults : Doc → Diagram → List (ℕ × Option TraceCode)
 trace_faults doc d = section_faults doc d ++ (doc.lines.until_at, occurrence_fault doc d) ∷ []
 

@@ -7,7 +7,7 @@ ghost use Rattle.trace_io.specs.Batches.{HasNumbersInRange, IsClockOf, count_of}
 
 use dbp_plan::{Clock, List};
 
-// The time of the clock's occurrence with this number, counted from 0, where it has one.
+// The time of the clock's occurrence with this number, counted from 0, if it has one.
 pub(crate) fn nth_time(until: u64, events: &[List<u64>], clock: Clock, number: u64) -> Option<u64>
     requires clock { IsClockOf (length events.now) clock }
     requires until { until ≤ MAX_TIME }

@@ -28,7 +28,7 @@ pub fn count_is_exact()
         → (k < count_of until events clock) ↔ IsSome (time_at until events clock k) }
 {}
 
-/// A text is accepted with one plan at most, and not where it is refused; it is refused with one first fault at most,
+/// A text is accepted with one plan at most, and not if it is refused; it is refused with one first fault at most,
 /// except for the names of a cycle.
 pub fn one_plan()
     ensures one { (text : Items ℕ) (p q : AnyPlan) → Accepts text p → Accepts text q → p ≡ q }

@@ -26,7 +26,7 @@ pub fn lines(alloc: Global, plan: &Plan, table: &Table) -> Result<Vec<u8>, NoMem
     Ok(text)
 }
 
-// Adds the lines of one batch, where this is how often each task occurs before it. Its tasks are then counted.
+// Adds the lines of one batch, if this is how often each task occurs before it. Its tasks are then counted.
 fn push_batch(
     text: &mut Vec<u8>,
     tasks: &[Task],

@@ -167,7 +167,7 @@ fn clocks_of(alloc: Global, tasks: &[Task]) -> Result<Vec<Clock>, NoMemory>
 /// which each task occurs at exactly the times of its clock. A document without a trace section has an empty trace.
 ///
 /// Refused is the first of these that has a fault: the header, with `BadHeader` at its line, or at the line that begins
-/// the section where no line is kept; then the rows in order, each with its first fault in the order `TooManyRows`,
+/// the section if no line is kept; then the rows in order, each with its first fault in the order `TooManyRows`,
 /// `BadRow`, `BadCell`, `TimeNotRising`, `TimePastEnd`; at last the line of `until`, with `TooManyOccurrences`, which is
 /// found without walking ticks. With an error `diagram` is given up.
 pub fn read_trace(alloc: Global, diagram: Diagram, doc: &Doc) -> Result<Plan, TraceFail>

@@ -1,4 +1,4 @@
--- The times of rows without a fault rise, and stay below the end, also where only some of the rows are taken.
+-- The times of rows without a fault rise, and stay below the end, also if only some of the rows are taken.
 use Rattle.std.proofs.Common.{◌≡◌, ℕ, zero, suc, ◌+◌, ◌<◌, ◌≤◌, Bool, false, All, List, [], ◌∷◌, ◌++◌, length, map, Option, Some, None, refl, inl, inr, arith}
 use native.Mathlib.Numerals.{unary_clauses}
 use Rattle.std.specs.Prelude.{filter, nat_le, nat_lt, not, ◌==◌, ⊤}

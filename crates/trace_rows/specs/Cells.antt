@@ -23,7 +23,7 @@ is_time cell = are_digits cell && is_in_range cell
 abbrev pub is_number : List ℕ → Bool
 is_number cell = are_digits (if is_negative cell then drop 1 cell else cell) && is_in_range cell
 
--- the number in the cell, where one stands there
+-- the number in the cell, if one stands there
 abbrev pub value_in : List ℕ → Option ℤ
 value_in cell = if is_number cell then Some (number_of cell) else None
 
@@ -42,10 +42,10 @@ cells_fit [] [] = true
 cells_fit (kind ∷ kinds) (cell ∷ cells) = cell_fits kind cell && cells_fit kinds cells
 cells_fit _ _ = false
 
--- the time of a row: the value of its first cell, where that is a time
+-- the time of a row: the value of its first cell, if that is a time
 abbrev pub time_of : List (List ℕ) → ℕ
 time_of row = digits_value (slice_index_or row 0 [])
 
--- of a row with a cell for each column: its cell in the column with this name, and an empty one where there is no such column
+-- of a row with a cell for each column: its cell in the column with this name, and an empty one if there is no such column
 abbrev pub cell_under : List (List ℕ) → List ℕ → List (List ℕ) → List ℕ
 cell_under columns name row = slice_index_or (drop 1 row) (index_of columns name) []

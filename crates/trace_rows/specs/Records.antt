@@ -10,7 +10,7 @@ use Rattle.dia_lines.specs.Text.{lines_of}
 abbrev pub cells_of : List ℕ → List (List ℕ)
 cells_of line = map trimmed (slice_split (λ b. b == 44) line)
 
--- the cells of each line that the section keeps; none where there is no section
+-- the cells of each line that the section keeps; none if there is no section
 abbrev pub records_of : Option (List ℕ) → List (List (List ℕ))
 records_of None = []
 records_of (Some text) = map cells_of (lines_of text)

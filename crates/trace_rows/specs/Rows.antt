@@ -12,7 +12,7 @@ abbrev pub row_fits : List Kind → List (List ℕ) → Bool
 row_fits kinds [] = false
 row_fits kinds (time ∷ cells) = if is_time time then cells_fit kinds cells else false
 
--- the time isn't greater than the one before, where there is one
+-- the time isn't greater than the one before, if there is one
 abbrev pub is_not_after : Option ℕ → ℕ → Bool
 is_not_after None time = false
 is_not_after (Some before) time = nat_le time before

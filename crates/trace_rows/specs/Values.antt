@@ -17,7 +17,7 @@ times_under columns rows name = map time_of (filter (is_marked columns name) row
 abbrev pub event_times : List (List ℕ) → List (List (List ℕ)) → List (List ℕ) → List (List ℕ)
 event_times columns rows events = map (times_under columns rows) events
 
--- a sample of the input with this number, where there is a value
+-- a sample of the input with this number, if there is a value
 abbrev pub sample_of : ℕ → ℕ → Option ℤ → List Sample
 sample_of time input None = []
 sample_of time input (Some value) = record { time = time; input = input; value = value } ∷ []

@@ -107,7 +107,7 @@ pub fn kinds(alloc: Global, inputs: &[Input], header: &ByteRecord) -> Result<Vec
     Ok(kinds)
 }
 
-/// The place of the name among the columns, and how many columns there are where it isn't among them.
+/// The place of the name among the columns, and how many columns there are if it isn't among them.
 pub(crate) fn index_of(header: &ByteRecord, name: &[u8]) -> usize
     ensures { result ≡ index_of (drop 1 (fields_of header.now)) name.now }
 {

@@ -15,7 +15,7 @@ use csv::{ByteRecord, Error, ErrorKind, ReaderBuilder};
 use dbp_plan::NoMemory;
 use std::alloc::Global;
 
-/// What an error of the reader of records says, where it doesn't say that a record is no text or of another length: a
+/// What an error of the reader of records says, if it doesn't say that a record is no text or of another length: a
 /// slice can always be read, so memory ran out.
 fn want_of_memory(error: &Error) -> NoMemory
     requires { IsOfMemory (error_kind error.now) }

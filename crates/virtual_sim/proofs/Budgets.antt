@@ -88,7 +88,7 @@ reads_up_to (x ∷ reads) c d less =
     let one = split_one x.at c d less in
     omega (arith, rest, one, count-cons (λ (r : Read). r.at == c) x reads, count-cons (λ (r : Read). nat_lt r.at c) x reads, count-cons (λ (r : Read). nat_lt r.at d) x reads)
 
--- where none is in between, as many are early
+-- if none is in between, as many are early
 pub same_early : (p : Plan) (i c d : ℕ) → ((n : ℕ) → c ≤ n → n < d → NoReadAt p i n) → c ≤ d → early_reads p i d ≡ early_reads p i c
 same_early p i c d none le = count-like (λ r. nat_lt r.at d) (λ r. nat_lt r.at c) (declared p i).reads each
   where
@@ -120,7 +120,7 @@ module _ (p : Plan) (i : ℕ) where
   few_reads : i < length p.diagram.tasks → (c : ℕ) → early_reads p i c ≤ 16
   few_reads il c = let few = (rules.closed_task p i il).reads in omega (arith, few, count_by-le-length (λ (r : Read). nat_lt r.at c) (declared p i).reads)
 
-  -- of what is left, the steps made so far: none where all is left
+  -- of what is left, the steps made so far: none if all is left
   pub bound_all : step_bound p i (declared p i).cost ≡ 0
   bound_all = none_if ((declared p i).cost == 0) ((declared p i).cost == (declared p i).cost) (130 + 2 * early_reads p i ((declared p i).cost - (declared p i).cost)) (eq-eqb (declared p i).cost (declared p i).cost refl)
     where

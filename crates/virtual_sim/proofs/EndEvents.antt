@@ -56,7 +56,7 @@ module _ (p : Plan) (serve : ℕ → Option Instance) (is_service : IsService p 
       (λ (other : (serve (e + k) ≢ Some x) × (tick_of x (serve (e + k)) ≡ 0)). let z = other.1 in omega (arith, before, tick, z))
       (tick_cases (serve (e + k)) x)
 
--- where all have ended, each end stands at its time
+-- if all have ended, each end stands at its time
 pub end_stands : (p : Plan) (script : List Step) → IsRecord p script → (x : Instance) (e : ℕ) → IsEnd (service p) x e → end_events_at p (service p) e ≡ end_events p x.task
 end_stands p script record_is x e end =
     let serve : ℕ → Option Instance = service p in

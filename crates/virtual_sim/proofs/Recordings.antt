@@ -98,11 +98,11 @@ idle_if : (a b : Bool) (x : Place) → b ≡ true → (if a || b then Idle else 
 idle_if true b x is = refl
 idle_if false b x is = rw is refl
 
--- idle where all is left
+-- idle if all is left
 pub place_all : (p : Plan) (i : ℕ) → place_of p i (declared p i).cost ≡ Idle
 place_all p i = idle_if ((declared p i).cost == 0) ((declared p i).cost == (declared p i).cost) (place_after p i ((declared p i).cost - (declared p i).cost)) (eq-eqb (declared p i).cost (declared p i).cost refl)
 
--- and under way where some is
+-- and under way if some is
 pub place_some : (p : Plan) (i rest : ℕ) → 0 < rest → rest < (declared p i).cost → place_of p i rest ≡ place_after p i ((declared p i).cost - rest)
 place_some p i rest some less = rw (ne_eqb rest 0 (λ e. omega (arith, e, some)), ne_eqb rest (declared p i).cost (λ e. omega (arith, e, less))) refl
 

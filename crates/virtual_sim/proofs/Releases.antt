@@ -31,7 +31,7 @@ module _ (P : Plan) (serve : ℕ → Option Instance) (service : IsService P ser
         ap (λ (n : ℕ). get_or (times_of P.batches i) n 0) back ∙ t ∙ due,
       )
 
-  -- the task's number so far is that of its last noted end, where it needs nothing
+  -- the task's number so far is that of its last noted end, if it needs nothing
   all_ended : (i : ℕ) → i < length P.diagram.tasks → get_or rest i 0 ≡ 0 → release_count P.batches b i ≡ length (get_or ends i [])
   all_ended i il none = let c = at.counts i il in let z = busy_count_none (get_or rest i 0) none in omega (arith, c, z)
 

@@ -101,7 +101,7 @@ same_places p b events events' places places' ends r h same each = record {
   place = λ i il. h.place i il ∙ sym (each i il);
 }
 
--- where an instance stands behind all its reads
+-- where an instance stands after all its reads
 all_read : (n : ℕ) → read_place n n ≡ Shut
 all_read n = rw (le-ltb n n (omega arith)) refl
 
@@ -136,7 +136,7 @@ of_first p s h i first cost rest same read =
 pub sooner : (p : Plan) (b limit t : ℕ) → NoBatchBefore p b limit → t ≤ limit → NoBatchBefore p b t
 sooner p b limit t until le = record { later = λ k d bk kl. let u = until.later k d bk kl in omega (arith, u, le) }
 
--- the next event of the task, told of the declared one and of fewer ticks
+-- the next event of the task, by the declared one and fewer ticks
 pub no_sooner_in : (p : Plan) (i : ℕ) (t : Task) (served event ticks : ℕ) → t ≡ declared p i → IsNextEvent t served event → ticks ≤ event
     → (r : ℕ) → r < length (declared p i).reads → served < (get_or (declared p i).reads r no_read).at → served + ticks ≤ (get_or (declared p i).reads r no_read).at
 no_sooner_in p i t served event ticks same next le =
@@ -177,7 +177,7 @@ module _ (p : Plan) (s : Simulation) (h : IsSimulation p s) (i served : ℕ) (fi
       → ((j : ℕ) → j < length p.diagram.tasks → (task_entry t j).aimed ≡ release_count p.batches s.run.released j) → MayStep (wiring_of p Ranked) t i
   may until t ended aimed = may_step p s.run h.run t ended aimed i (s.run.time + 1) first until (omega arith)
 
-  -- where it stands before its begin
+  -- if it stands before its begin
   pub stands : (task (state_in s.recorder) i).part.place ≡ place_of p i (get_or s.run.rest.items i 0)
   stands = h.recorded.place i il
 
@@ -319,7 +319,7 @@ module _ (p : Plan) (s : Simulation) (h : IsSimulation p s) (i served : ℕ) (fi
               rw released (omega (arith, h.few, steps, begin, reads, changed, own, bound, long, one, two));
         }
 
-    -- behind its last read
+    -- after its last read
     pub is_shut : (r : Recorder) → ticks ≡ get_or s.run.rest.items i 0 → IsRecorded p s.run.released (events_so_far p (service p) s.run.released s.run.time ++ (begin_events_at p (service p) i served ++ read_events p i served)) (places_with p s.run.rest.items i (place_after p i (served + 1))) s.run.ends r
         → (task (state_in r) i).part.place ≡ Shut
     is_shut r all g =

@@ -1,4 +1,4 @@
--- A step of a seat is one that the table allows it, and its play is told.
+-- A step of a seat is one that the table allows it, and its play is said.
 use Rattle.std.proofs.Common.{◌≡◌, ℕ, ◌<◌, length, get_or, Some, refl, sym, ◌∙◌, ap, subst, arith}
 use Rattle.std.proofs.lemmas.Option.{same_Some}
 use Rattle.atomic_table.specs.Table.{Allows, keeps}
@@ -89,7 +89,7 @@ module _ (w : SlotWords) (me : Seated) (here : me.0.plan ≡ w.plan) where
       omega arith
 
   module _ (slots id : ℕ) (e : Step) (own : IsOwnStep me.0.plan me.0 e) (q : TableWord) (inside : IsWord (sizes_of me.0.plan.diagram) q) (a : ℕ) (at : a ≡ address_of (sizes_of me.0.plan.diagram) q) where
-    -- what a load of the table requires, where its play at the address is `then`
+    -- what a load of the table requires, if its play at the address is `then`
     pub may_load : word_loaded (run_wiring me.0.plan) me.0.role e ≡ Some q → (then : ℕ → ℕ → Seated → Type 0)
         → ((x : ℕ) (new : Seated) → OneStep me new → Makes e (loaded_of e x) me new → then (address_of (sizes_of me.0.plan.diagram) q) x new)
         → (a < w.table.shared.table_id.words) × Allows (Keeps w.table.shared.key) slots id me a (λ n. n) (then a)

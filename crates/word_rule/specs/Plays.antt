@@ -1,4 +1,4 @@
--- What each kind of step tells the seat that makes it, and what a seat knows.
+-- What a seat learns by each kind of step, and what it knows.
 use Rattle.std.specs.Prelude.{◌≡◌, ℕ, ◌+◌, ◌<◌, ◌^◌, [], length, Some, None}
 use Rattle.atomic_table.specs.Table.{Me, Step as WordStep}
 use Rattle.dbp_slots.specs.TableWords.{TableWord, address_of, aim, claim, ended, gate, sizes_of}
@@ -125,7 +125,7 @@ pub record Finishes (s : WordStep (Unit {0})) (me : Seated) (x : ℕ) (new : Sea
   pub one : OneStep me new
   pub makes : (i : ℕ) → task_of me.0.role ≡ Some i → Makes (Done i) no_word me new
 
--- it has told that its instance has ended
+-- it has said that its instance has ended
 pub record Ends (s : WordStep (Unit {0})) (me : Seated) (x : ℕ) (new : Seated) : Type 0 where
   pub one : OneStep me new
   pub makes : (i : ℕ) → task_of me.0.role ≡ Some i → Makes (End i) no_word me new

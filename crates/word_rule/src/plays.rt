@@ -1,4 +1,4 @@
-// The kinds of atomic steps, and what each tells the seat that makes it.
+// The kinds of atomic steps, and what the seat that makes one learns.
 
 use crate::views::View;
 use atomic_table::Play;
@@ -102,7 +102,7 @@ impl Play<(), View> for DonePlay {
     ghost then = { Finishes };
 }
 
-// A task tells that its instance has ended.
+// A task says that its instance has ended.
 pub(crate) struct EndPlay;
 
 impl Play<(), View> for EndPlay {

@@ -2,7 +2,7 @@ use Rattle.std.proofs.Common.{◌≡◌, ℕ, ◌+◌, ◌-◌, ◌≤◌, List,
 use Rattle.std.proofs.lemmas.List.{take_at, take-append-drop, drop-drop, length-take-le}
 use Rattle.dbp_plan.proofs.mem_source.MemSourceSource.read.Goals as goal
 
--- what was copied is the front of what was left
+-- what was copied is a prefix of what was left
 served : (bytes buf copied : List ℕ) (at n : ℕ) → at + n ≤ length bytes → copied ≡ take ((at + n) - at) (drop at bytes) → drop at bytes ≡ take n (copied ++ buf) ++ drop (at + n) bytes
 served bytes buf copied at n within is_copied =
     let count : (at + n) - at ≡ n = omega arith in
