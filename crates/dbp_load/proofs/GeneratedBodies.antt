@@ -15,7 +15,8 @@ use Rattle.dbp_load.specs.Listed.{listed}
 use Rattle.dbp_load.proofs.DrawLaws.{drawn-below}
 use Rattle.dbp_load.proofs.GeneratedParts.{few-lines, parts-print}
 use Rattle.dbp_load.proofs.GeneratedTraces.{can-write, the_columns, the_inputs}
-use Rattle.dbp_load.proofs.ListedItems.{all-listed, length-listed, sum-listed, only-one}
+use Rattle.dia_check.proofs.PlaceLaws.{only-one}
+use Rattle.dbp_load.proofs.ListedItems.{all-listed, length-listed, sum-listed}
 use Rattle.dbp_load.proofs.NameTexts.{g-prints, task-prints}
 
 pub task-printable : (size draws i : ℕ) → size ≤ 32 → i < size → IsPrintableTask (generated_task size draws i)

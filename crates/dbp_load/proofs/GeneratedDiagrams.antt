@@ -26,8 +26,8 @@ use Rattle.dia_check.specs.Names.{env_names, event_name, out_name, task_names}
 use Rattle.dia_check.specs.RankFaults.{link_rank_fault, read_rank_fault, task_rank_fault, HasNoRankFault}
 use Rattle.dia_check.specs.declared.shaped.ReadLine.{ReadLine}
 use Rattle.dia_check.proofs.LinkLists.{all-firsts}
+use Rattle.dia_check.proofs.NoOuts.{no-cycle}
 use Rattle.dia_check.proofs.RankLaws.{no-rank-fault}
-use Rattle.dia_check.proofs.TaskParts.{first-there}
 use Rattle.dbp_load.specs.Bodies.{parts_of, task_name, early_count, generated_task, has_late, few_early}
 use Rattle.dbp_load.specs.Draws.{after_draw, drawn, after_draws}
 use Rattle.dbp_load.specs.Listed.{listed}
@@ -51,10 +51,6 @@ no-order base = record {
   };
   earliest = λ p next i at. absurd (none-some next at);
 }
-
-no-cycle : (base : ℕ) (cycle : List ℕ) → IsCycle base [] cycle → ⊥
-no-cycle base [] is = absurd (omega (arith, is.some))
-no-cycle base (i ∷ cycle) is = absurd (omega (arith, first-there base [] i (i ∷ cycle) (record { is = is; begins = refl })))
 
 some-names : (names : List (List ℕ)) (n : List ℕ) → names ≡ n ∷ [] → names ≡ [] → ⊥
 some-names [] n is none = absurd cc

@@ -9,7 +9,8 @@ use Rattle.trace_rows.specs.Headers.{kind_of_column}
 use Rattle.trace_rows.specs.Written.{CanWrite, AreCellsOf, WrittenRow}
 use Rattle.dbp_load.specs.Bodies.{trace_row}
 use Rattle.dbp_load.specs.Listed.{listed}
-use Rattle.dbp_load.proofs.ListedItems.{all-listed, length-listed, map-listed, rising-listed, only-one}
+use Rattle.dia_check.proofs.PlaceLaws.{only-one}
+use Rattle.dbp_load.proofs.ListedItems.{all-listed, length-listed, map-listed, rising-listed}
 use Rattle.dbp_load.proofs.NameTexts.{g-name}
 
 abbrev pub the_inputs : List Input

@@ -13,9 +13,6 @@ use Rattle.std.proofs.lemmas.Option.{get_or_from_slice_get, same_Some, slice_get
 use Rattle.dbp_plan.specs.Places.{front_place, last_place}
 use Rattle.dbp_load.specs.Listed.{listed}
 
-pub only-one : {A : Type 0} (P : A → Type 0) (x : A) → P x → All P (x ∷ [])
-only-one P x is = All-push P [] x (λ k d below. absurd (omega arith)) is
-
 module _ {A : Type 0} (f : ℕ → A) where
   pub listed-more : (n : ℕ) → listed f (n + 1) ≡ listed f n ++ f n ∷ []
   listed-more n = let next : n + 1 ≡ suc n = omega arith in ap (listed f) next

@@ -11,7 +11,7 @@ use Rattle.dbp_plan.specs.Name.{IsName, is_name_byte}
 use Rattle.dia_tokens.specs.Pieces.{name}
 use Rattle.dia_tokens.specs.Printable.{IsPrintableName}
 use Rattle.dia_tokens.specs.Words.{word_of}
-use Rattle.dbp_load.proofs.ListedItems.{only-one}
+use Rattle.dia_check.proofs.PlaceLaws.{only-one}
 use Rattle.dbp_load.specs.Bodies.{task_name, read_name}
 
 -- ---- numbers of one digit and of two

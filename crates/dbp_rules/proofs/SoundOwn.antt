@@ -54,7 +54,7 @@ pub record IsOwn (p : Plan) (w : Wiring) : Type 0 where
   pub turns : (i n m : ℕ) → i < length w.tasks → n < length (wired w i).reads → m < length (wired w i).reads → (read_at (wired w i) n).read ≡ (read_at (wired w i) m).read → n ≡ m
 
 -- the read that stands at the turn of a read is that read
-turn_found : (reads : List Read) (j : ℕ) → j < length reads → get_or (in_turn reads) (turn_of reads (j, get_or reads j no_read)) 0 ≡ j
+pub turn_found : (reads : List Read) (j : ℕ) → j < length reads → get_or (in_turn reads) (turn_of reads (j, get_or reads j no_read)) 0 ≡ j
 turn_found reads j below =
     let at : slice_get reads j ≡ Some (get_or reads j no_read) = slice_get-get_or reads j no_read below in
     let n : ℕ = turn_of reads (j, get_or reads j no_read) in

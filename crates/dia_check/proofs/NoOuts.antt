@@ -60,7 +60,8 @@ no-lets names (Let m e ∷ ps) none = absurd cc
 no-lets names (Next m e ∷ ps) none = no-lets names ps none
 no-lets names (Out m v e ∷ ps) none = no-lets names ps none
 
-no-cycle : (base : ℕ) (cycle : List ℕ) → IsCycle base [] cycle → ⊥
+-- no lets have no cycle
+pub no-cycle : (base : ℕ) (cycle : List ℕ) → IsCycle base [] cycle → ⊥
 no-cycle base [] is = absurd (omega (arith, is.some))
 no-cycle base (i ∷ cycle) is = absurd (omega (arith, first-there base [] i (i ∷ cycle) (record { is = is; begins = refl })))
 

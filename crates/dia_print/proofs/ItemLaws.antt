@@ -132,7 +132,7 @@ plain-faultless : (place : Place) (ts : List Token) → lacks_header place ts �
 plain-faultless place ts h e p = let d = plain-depth 0 ts p in faultless place ts h (rw e (omega arith)) (omega (arith, d))
 
 -- so many nodes has an expression at most
-size-fits : (e : Expr (List ℕ)) → size_of (tree_of e) ≤ MAX_NODES
+pub size-fits : (e : Expr (List ℕ)) → size_of (tree_of e) ≤ MAX_NODES
 size-fits e = omega (arith, e.few, ap length e.tree.1, length-nodes_of 0 (tree_of e))
 
 expression-nodes : (e : Expr (List ℕ)) → node_count (tokens_of (tree_of e)) ≤ MAX_NODES

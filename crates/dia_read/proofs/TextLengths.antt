@@ -1,5 +1,5 @@
 -- How long the canonical text of a document is.
-use Rattle.std.proofs.Common.{◌≡◌, ℕ, ℤ, pos, negsuc, ◌+◌, ◌*◌, ◌≤◌, Bool, true, false, cond, All, List, [], ◌∷◌, ◌++◌, length, Option, Some, None, refl, ap, arith}
+use Rattle.std.proofs.Common.{◌≡◌, ℕ, ℤ, pos, negsuc, ◌+◌, ◌*◌, ◌≤◌, Bool, true, false, cond, All, List, [], ◌∷◌, ◌++◌, length, Option, Some, None, refl, arith}
 use Rattle.std.specs.Prelude.{◌==◌}
 use Rattle.std.specs.Fmt.{signed_decimal}
 use Rattle.std.specs.List.{AllByRecursion, flat_map}
@@ -9,11 +9,9 @@ use Rattle.std.proofs.lemmas.List.Elements.{All-from_recursion, recursion_from_A
 use Rattle.dbp_plan.specs.declared.diagram.Policy.{Policy}
 use Rattle.dbp_plan.specs.declared.diagram.Policy.TheVariants.{Fp, Edf}
 use Rattle.dbp_plan.specs.declared.expr.Expr.{Expr}
-use Rattle.dbp_plan.specs.declared.limits.TheConstants.{MAX_NODES}
 use Rattle.dbp_plan.specs.declared.node.BinOp.{BinOp}
 use Rattle.dbp_plan.specs.Expr.{tree_of}
 use Rattle.dbp_plan.specs.Tree.{number, variable, unary, binary, choice, size_of}
-use Rattle.dbp_plan.specs.TreeLaws.{length-nodes_of}
 use Rattle.dia_tokens.specs.declared.edge.Edge.{Edge}
 use Rattle.dia_tokens.specs.declared.edge.Edge.TheVariants.{Tight}
 use Rattle.dia_tokens.specs.declared.token.Token.{Token}
@@ -38,7 +36,7 @@ use Rattle.dia_lines.specs.declared.item.TaskLine.{TaskLine}
 use Rattle.dia_lines.specs.declared.place.Place.TheVariants as place
 use Rattle.dia_print.specs.ExpressionTokens.{call_tokens, enclosed, is_call, is_compound, operand_tokens, operator_token, tokens_of}
 use Rattle.dia_print.specs.ItemTokens.{clock_tokens, decl_tokens, header_tokens, option_tokens, part_tokens, policy_tokens, source_tokens, task_tokens, until_tokens}
-use Rattle.dia_print.proofs.ItemLaws.{IsBehindHeader, decl-line, done-line, header-line, part-line, task-line, until-line}
+use Rattle.dia_print.proofs.ItemLaws.{IsBehindHeader, decl-line, done-line, header-line, part-line, size-fits, task-line, until-line}
 use Rattle.dia_print.specs.Printable.{IsPrintableDecl, IsPrintablePart}
 use Rattle.dia_read.specs.Canonical.{canonical_text, decl_text, part_text, section_lines, task_text}
 use Rattle.dia_read.specs.Documents.{first_line}
@@ -168,9 +166,6 @@ tokens-few (choice c x y) =
       tokens-few x,
       tokens-few y,
     )
-
-size-fits : (e : Expr (List ℕ)) → size_of (tree_of e) ≤ MAX_NODES
-size-fits e = omega (arith, length-nodes_of 0 (tree_of e), ap length e.tree.1, e.few)
 
 expression-few : (e : Expr (List ℕ)) → length (tokens_of (tree_of e)) ≤ 576
 expression-few e = omega (arith, tokens-few (tree_of e), size-fits e)

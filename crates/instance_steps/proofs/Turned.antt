@@ -1,5 +1,5 @@
 -- The turns of the reads that are made at one tick: after those of earlier ticks, in order of declaration.
-use Rattle.std.proofs.Common.{◌≡◌, ◌≢◌, ℕ, zero, suc, ◌+◌, ◌-◌, ◌<◌, Bool, true, false, cond, List, [], ◌∷◌, length, get_or, slice_get, take, Some, refl, ap, ◌∙◌, arith, inl, inr}
+use Rattle.std.proofs.Common.{◌≡◌, ◌≢◌, ℕ, zero, suc, ◌+◌, ◌-◌, ◌<◌, Bool, true, false, cond, List, [], ◌∷◌, length, get_or, take, refl, ap, ◌∙◌, arith, inl, inr}
 use Rattle.std.specs.Prelude.{count_by, nat_lt, ◌==◌, ◌&&◌}
 use Rattle.std.specs.List.{enumerate_from}
 use Rattle.std.proofs.lemmas.Bool.{cases_eq, cases_lt, eq-eqb, ne_eqb, lt-ltb, le-ltb}
@@ -8,10 +8,11 @@ use Rattle.dbp_plan.specs.declared.diagram.Read.{Read}
 use Rattle.dbp_plan.specs.Lookups.{declared, no_read}
 use Rattle.dbp_plan.proofs.Counts.{count-cons}
 use Rattle.dbp_rules.specs.Places.{read_at, wired}
-use Rattle.dbp_rules.specs.Wired.{in_turn, is_sooner, turn_of}
+use Rattle.dbp_rules.specs.Wired.{is_sooner, turn_of}
 use Rattle.dbp_rules.specs.declared.wiring.ReadWiring.{ReadWiring}
 use Rattle.dbp_rules.specs.declared.wiring.TaskWiring.{TaskWiring}
-use Rattle.dbp_rules.proofs.Turns.{read_of_turn, turn_again, turn_apart, turn_below}
+use Rattle.dbp_rules.proofs.SoundOwn.{turn_found}
+use Rattle.dbp_rules.proofs.Turns.{turn_below}
 use Rattle.dbp_rules.proofs.Wirings.{turn}
 use Rattle.instance_steps.specs.Recorders.{count_in, plan_in, wiring_in}
 use Rattle.instance_steps.specs.TaskPieces.{turn_in}
@@ -91,19 +92,6 @@ count_earlier t (x ∷ xs) =
     (arith, count_earlier t xs, one_earlier t x, count-cons (λ (r : Read). nat_lt r.at (t + 1)) x xs, count-cons (λ (r : Read). nat_lt r.at t) x xs, count-cons (λ (r : Read). r.at == t) x xs)
 
 -- ---- the read of a turn
-
--- the read that stands at the turn of a read is that read
-turn_found : (reads : List Read) (j : ℕ) → j < length reads → get_or (in_turn reads) (turn_of reads (j, get_or reads j no_read)) 0 ≡ j
-turn_found reads j below =
-    let at : slice_get reads j ≡ Some (get_or reads j no_read) = slice_get-get_or reads j no_read below in
-    let n : ℕ = turn_of reads (j, get_or reads j no_read) in
-    let few : n < length reads = turn_below reads j (get_or reads j no_read) at in
-    let k : ℕ = get_or (in_turn reads) n 0 in
-    let inside : k < length reads = read_of_turn reads n 0 few in
-    elim (cases_eq k j) [
-      | inl same ↦ same
-      | inr other ↦ absurd (turn_apart reads k j (get_or reads k no_read) (get_or reads j no_read) (slice_get-get_or reads k no_read inside) at other (turn_again reads n few))
-    ]
 
 module _ (r : Recorder) (i j : ℕ) (named : i < length (plan_in r).diagram.tasks) (inside : j < length (declared (plan_in r) i).reads) where
   pub turn_within : turn_in (plan_in r) i j < length (declared (plan_in r) i).reads

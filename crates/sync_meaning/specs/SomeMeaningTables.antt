@@ -80,7 +80,7 @@ rows_in table i n = option_map_or (λ rows. row_at rows n) (slice_get table.task
 pub row_in : (table : Table) (i n : ℕ) (row : List ℤ) → IsRow table i n row → rows_in table i n ≡ row
 row_in table i n row r = rw r.has_rows (sym r.is)
 
-rows_in-at : (table : Table) (i n : ℕ) (rows : TaskRows) → slice_get table.tasks i ≡ Some rows → rows_in table i n ≡ row_at rows n
+pub rows_in-at : (table : Table) (i n : ℕ) (rows : TaskRows) → slice_get table.tasks i ≡ Some rows → rows_in table i n ≡ row_at rows n
 rows_in-at table i n rows at = rw at refl
 
 -- two tables with the same rows are one

@@ -107,10 +107,6 @@ empty-refused doc d line code line_is code_is none many =
     let faultless : first_fault (section_faults doc d) ≡ None = rw none refl in
     too-many-at doc d line code line_is code_is faultless (omega (arith, empty-total doc d none, many))
 
-pub no-bytes : (text : List ℕ) → (length text == 0) ≡ true → text ≡ []
-no-bytes [] none = refl
-no-bytes (b ∷ text) none = absurd (let some : (length (b ∷ text) == 0) ≡ false = grind (arith, nat_tests) in both_ways _ some none)
-
 pub some-bytes : (text : List ℕ) → (length text == 0) ≡ false → text ≡ [] → ⊥
 some-bytes text some empty = both_ways (length text == 0) some (rw empty refl)
 

@@ -12,6 +12,7 @@ use Rattle.csv.specs.Records.{field_at}
 use Rattle.csv.proofs.RecordFacts.{field-get}
 use Rattle.dbp_plan.specs.declared.diagram.Input.{Input}
 use Rattle.dbp_plan.specs.NameLists.{index_of, is_among}
+use Rattle.dbp_plan.proofs.NameLaws.{same-bytes}
 use Rattle.trace_rows.specs.declared.cell.Kind.{Kind}
 use Rattle.trace_rows.specs.declared.cell.Kind.TheVariants.{Value}
 use Rattle.trace_rows.specs.declared.cell.Said.{Said}
@@ -42,9 +43,6 @@ one-more-said kinds row said column one below before is =
 pub on-some : {X : Type 0} (o : Option X) (P : Type 0) → P → OnSome o P
 on-some None P p = tt
 on-some (Some x) P p = p
-
-bytes-same : (name : List ℕ) → bytes_eq name name ≡ true
-bytes-same name = (bytes_eq-Decides name name).1 refl
 
 -- a column that is found by a name has the name
 pub name-found : (columns : List (List ℕ)) (name : List ℕ) → index_of columns name < length columns → get_or columns (index_of columns name) [] ≡ name
@@ -95,7 +93,7 @@ IsValueOfInput columns row said input = (get_or said (index_of columns input.nam
 pub known-input : (inputs : List Input) → All (λ input. is_among (input_names inputs) input.name ≡ true) inputs
 known-input inputs k d below =
     let name = (get_or inputs k d).name in
-    among_inputs inputs name ∙ list_any_at (λ (i : Input). bytes_eq i.name name) inputs k d below (bytes-same name)
+    among_inputs inputs name ∙ list_any_at (λ (i : Input). bytes_eq i.name name) inputs k d below (same-bytes name)
 
 values-of-inputs : (inputs : List Input) (columns row : List (List ℕ)) (said : List Said)
     → HasSaid (map (kind_of_column inputs) columns) row said → length row ≡ length columns + 1 → length said ≡ length columns

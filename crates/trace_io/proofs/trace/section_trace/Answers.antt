@@ -3,12 +3,13 @@ use Rattle.std.proofs.lemmas.Result.{err_from_is_err_and}
 use Rattle.dbp_plan.specs.declared.limits.TheConstants.{MAX_OCCURRENCES}
 use Rattle.trace_io.specs.Batches.{total_of}
 use Rattle.trace_io.specs.Traces.{clocks_of, events_of, IsTraceOf}
-use Rattle.trace_io.proofs.TraceFaults.{no-bytes, no-line, some-bytes, too-many-at}
+use Rattle.dia_read.proofs.OneMore.{nothing-left}
+use Rattle.trace_io.proofs.TraceFaults.{no-line, some-bytes, too-many-at}
 use Rattle.trace_io.proofs.trace.section_trace.Goals as goal
 
 pub returns-then-is_empty-clause-fault : goal.returns-then-is_empty-clause-fault
 returns-then-is_empty-clause-fault c =
-    let empty : c.args.text.now ≡ [] = no-bytes c.args.text.now (sym c.is_empty.ensures ∙ c.if-is_empty.true) in
+    let empty : c.args.text.now ≡ [] = nothing-left c.args.text.now (sym c.is_empty.ensures ∙ c.if-is_empty.true) in
     rw c.bad_header.ensures (no-line c.args.doc.now c.args.diagram.now c.args.text.now c.requires.section empty)
 
 pub returns-in_err-trace-clause-no_line : goal.returns-in_err-trace-clause-no_line
