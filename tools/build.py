@@ -210,7 +210,7 @@ class Build:
 def build(rooms):
     crates = crates_of(PROGRAM)
     kept = [it for it in crates.values() if (it.folder / "out" / "rlib").is_dir()]
-    how_long = "about a quarter of an hour on four processors" if len(kept) < len(crates) / 2 else "what has changed"
+    how_long = "about half an hour on four processors" if len(kept) < len(crates) / 2 else "what has changed"
     say(f"proving {len(crates)} crates ({how_long}), then building the program")
     say("meanwhile ./try WORDS < DOCUMENT runs it unproved")
     it = Build(crates, rooms)
