@@ -2,7 +2,6 @@
 
 ghost use Rattle.std.specs.Prelude.{◌≡◌};
 ghost use Rattle.sync_meaning.specs.SomeMeaning.{meaning_of};
-ghost use Rattle.sync_meaning.specs.SomeMeaningTables.{rows_in};
 ghost use Rattle.dbp_rules.specs.Shapes.{IsShape};
 ghost use Rattle.dbp_rules.specs.Sound.{Sound};
 ghost use Rattle.dbp_rules.specs.Wired.{wiring_of};
@@ -28,13 +27,13 @@ pub struct Core {
     ghost wired: { wiring ≡ wiring_of plan.value wiring.count },
     ghost shape: { IsShape plan.value wiring state },
     ghost ranks: { HasUnfinished wiring state unfinished },
-    ghost sound: { ∥ Sound plan.value wiring (rows_in (meaning_of plan.value)) state ∥₁ },
+    ghost sound: { ∥ Sound plan.value wiring (table_row (meaning_of plan.value)) state ∥₁ },
 }
 
 impl Core {
     ghost use Rattle.std.specs.Prelude.{◌≡◌, ◌<◌, length, slice_get, Some, None, Ok, IfOk};
     ghost use Rattle.dbp_plan.specs.declared.table.Table.{Table};
-    ghost use Rattle.dbp_plan.specs.Table.{IsRow};
+    ghost use Rattle.dbp_plan.specs.Table.{IsRow, table_row};
     ghost use Rattle.sync_meaning.specs.Meaning.{IsMeaning};
     ghost use Rattle.release_list.specs.declared.release.Release.TheVariants.{Aim as AimOf};
     ghost use Rattle.dbp_core.specs.Cores.{count_in, plan_in, state_in, wiring_in};

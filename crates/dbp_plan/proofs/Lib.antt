@@ -1,4 +1,5 @@
 pub mod BatchTasks
+pub mod Chunks
 pub mod Counts
 pub mod FirstFaults
 pub mod FirstIndexes

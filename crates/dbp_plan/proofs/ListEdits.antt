@@ -1,5 +1,6 @@
--- What holds of the items of a list after an insert and after a removal: of each item, and of each two in their order.
-use Rattle.std.proofs.Common.{◌≡◌, ℕ, ◌+◌, ◌-◌, ◌<◌, ◌≤◌, ◌⊎◌, List, length, get_or, refl, sym, ap, ◌∙◌, subst, inl, inr, ⊎_elim, arith}
+-- What holds of the items of a list after an insert, after a removal and after one is replaced: of each item, and of each
+-- two in their order.
+use Rattle.std.proofs.Common.{◌≡◌, ℕ, zero, suc, ◌+◌, ◌-◌, ◌<◌, ◌≤◌, ◌⊎◌, List, [], ◌∷◌, length, get_or, take, set, refl, sym, ap, ◌∙◌, subst, inl, inr, ⊎_elim, arith}
 use Rattle.std.specs.List.{insert, remove}
 use Rattle.std.proofs.lemmas.List.Edits.{length-insert, get_or-insert_below, get_or-insert_at, get_or-insert_above, length-remove, get_or-remove_below, get_or-remove_above}
 use Rattle.std.proofs.lemmas.Bool.{cases_lt, cases_eq}
@@ -87,3 +88,10 @@ module _ {X : Type 0} (xs : List X) (i : ℕ) (lt : i < length xs) where
       (λ (jg : i ≤ j). moved R _ _ _ _ (removed_is j (j + 1) d (inr (jg, refl))) (removed_is k (k + 1) e (inr (kg, refl))) (old (j + 1) (k + 1) d e (omega (arith, less)) (omega (arith, small, n))))
       (cases_lt j i))
       (cases_lt k i)
+
+-- the first items stay if a later one is replaced
+pub take_past : {X : Type 0} (n i : ℕ) (xs : List X) (x : X) → n ≤ i → take n (set xs i x) ≡ take n xs
+take_past zero i xs x past = refl
+take_past (suc n) i [] x past = refl
+take_past (suc n) zero (y ∷ ys) x past = absurd (omega arith)
+take_past (suc n) (suc i) (y ∷ ys) x past = ap (λ zs. y ∷ zs) (take_past n i ys x (omega arith))

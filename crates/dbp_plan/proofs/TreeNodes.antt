@@ -86,7 +86,8 @@ operands_before at (choice c y n) =
     each-append OperandsBelow at ((cs ++ ys) ++ ns) (root_of at (choice c y n) ∷ []) all
     (each-one OperandsBelow (at + length ((cs ++ ys) ++ ns)) (root_of at (choice c y n)) (omega (arith, size, one_node c, one_node y, one_node n), omega (arith, size, one_node c, one_node y, one_node n), omega (arith, size, one_node c, one_node y, one_node n)))
 
-operands_weaker : {V : Type 0} (m n : ℕ) (node : Node V) → m ≤ n → OperandsBelow m node → OperandsBelow n node
+-- operands below a bound are below a greater one
+pub operands_weaker : {V : Type 0} (m n : ℕ) (node : Node V) → m ≤ n → OperandsBelow m node → OperandsBelow n node
 operands_weaker m n (Num z) less below = tt
 operands_weaker m n (Var v) less below = tt
 operands_weaker m n (Un op a) less below = omega arith

@@ -13,6 +13,7 @@ pub mod MemSink
 pub mod MemSource
 pub mod Name
 pub mod NameLists
+pub mod Numbers
 pub mod Occurrences
 pub mod Plan
 pub mod Ranked

@@ -3,7 +3,8 @@ use Rattle.std.specs.Prelude.{◌≡◌, ℕ, ◌-◌, ◌==◌, ◌||◌, Bool,
 use Rattle.dbp_plan.specs.declared.mem_sink.MemSink.{MemSink}
 use Rattle.dbp_plan.specs.declared.sink.Put.{Put}
 use Rattle.dbp_plan.specs.declared.sink.Put.TheVariants.{Bytes, Failed}
-use Rattle.dbp_plan.specs.Calls.{one_more, is_failing}
+use Rattle.dbp_plan.specs.Calls.{one_more}
+use Rattle.dbp_plan.specs.Numbers.{is_in}
 
 -- the bytes written so far
 abbrev pub stored_bytes : MemSink → List ℕ
@@ -35,7 +36,7 @@ next_size s offered = min (min (piece_size s) offered) (room_size s - length (st
 
 -- whether the next write of so many bytes fails
 abbrev pub next_fails : MemSink → ℕ → Bool
-next_fails s offered = (next_size s offered == 0) || is_failing (failing_calls s) (one_more (calls s))
+next_fails s offered = (next_size s offered == 0) || is_in (failing_calls s) (one_more (calls s))
 
 -- what the next write of so many bytes takes
 abbrev pub next_put : MemSink → ℕ → Put

@@ -1,11 +1,11 @@
 -- When a task occurs, and how often until a time.
-use Rattle.std.specs.Prelude.{ℕ, ◌-◌, Bool, List, filter, map, count_by, nat_le, length, slice_index_or, sum_by, ◌==◌}
-use Rattle.std.specs.List.{list_any}
+use Rattle.std.specs.Prelude.{ℕ, ◌-◌, Bool, List, filter, map, count_by, nat_le, length, slice_index_or, sum_by}
 use Rattle.dbp_plan.specs.declared.schedule.Batch.{Batch}
+use Rattle.dbp_plan.specs.Numbers.{is_in}
 
 -- whether the batch names the task
 abbrev pub names : ℕ → Batch → Bool
-names task batch = list_any (λ n. n == task) batch.tasks
+names task batch = is_in batch.tasks task
 
 -- the times of the batches that name the task, in order: instance n occurs at place n - 1
 abbrev pub times_of : List Batch → ℕ → List ℕ

@@ -1,5 +1,6 @@
 -- The rows of a table.
-use Rattle.std.specs.Prelude.{◌≡◌, ℕ, ℤ, ◌+◌, ◌*◌, ◌<◌, ◌≤◌, List, length, slice_get, slice_range, Some}
+use Rattle.std.specs.Prelude.{◌≡◌, ℕ, ℤ, ◌+◌, ◌*◌, ◌<◌, ◌≤◌, List, [], length, slice_get, slice_range, Some}
+use Rattle.std.specs.Option.{option_map_or}
 use Rattle.dbp_plan.specs.declared.diagram.Task.{Task}
 use Rattle.dbp_plan.specs.declared.schedule.Batch.{Batch}
 use Rattle.dbp_plan.specs.declared.table.Table.{Table}
@@ -9,6 +10,10 @@ use Rattle.dbp_plan.specs.Occurrences.{times_of}
 -- row n of the task's rows
 abbrev pub row_at : TaskRows → ℕ → List ℤ
 row_at rows n = slice_range rows.words (n * rows.ports) ((n + 1) * rows.ports)
+
+-- row n of the task; empty if the table has no such task
+abbrev pub table_row : Table → ℕ → ℕ → List ℤ
+table_row table task n = option_map_or (λ rows. row_at rows n) (slice_get table.tasks task) []
 
 -- the words are row n of the task
 pub record IsRow (table : Table) (task n : ℕ) (row : List ℤ) : Type 0 where

@@ -54,6 +54,15 @@ impl<T: Drop> List<T> {
         }
     }
 
+    /// An empty list with room for so many items: pushing them takes no more memory.
+    pub fn with_capacity(alloc: Global, count: u32) -> Result<List<T>, NoMemory>
+        ensures { IfOk result (λ made. made ≡ []) }
+    {
+        Ok(List {
+            items: Vec::with_capacity(alloc, count as usize)?,
+        })
+    }
+
     /// Adds the item at the end. If memory runs out the list stays as it was, and the item is given up.
     pub fn push(&mut self, item: T) -> Result<(), NoMemory>
         requires { length self.old + 1 < 2 ^ 32 }
@@ -115,10 +124,7 @@ impl<T: Drop> List<T> {
     pub(crate) fn sized_like(&self) -> Result<List<T>, NoMemory>
         ensures { IfOk result (λ made. made ≡ []) }
     {
-        let alloc = *self.items.allocator();
-        Ok(List {
-            items: Vec::with_capacity(alloc, self.items.len())?,
-        })
+        List::with_capacity(*self.items.allocator(), self.len())
     }
 }
 

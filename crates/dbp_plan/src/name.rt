@@ -70,7 +70,8 @@ impl Name {
     pub fn is(&self, other: &Name) -> bool
         ensures { IsTrue result ↔ (self.now ≡ other.now) }
     {
-        self.bytes() == other.bytes()
+        // eight bytes at a time
+        self.held.as_chunks::<8>().0 == other.held.as_chunks::<8>().0 && self.count == other.count
     }
 }
 
@@ -84,7 +85,7 @@ impl PartialEq for Name {
     ghost laws = { partial_equiv_from_equiv nat_list_eq_equiv };
 
     fn eq(&self, other: &Name) -> bool {
-        self.bytes() == other.bytes()
+        self.is(other)
     }
 }
 

@@ -5,7 +5,7 @@ use Rattle.std.proofs.lemmas.Option.{same_Some}
 use Rattle.dbp_plan.specs.declared.plan.Plan.{Plan}
 use Rattle.dbp_plan.specs.Lookups.{declared}
 use Rattle.sync_meaning.specs.SomeMeaning.{meaning_of}
-use Rattle.sync_meaning.specs.SomeMeaningTables.{rows_in}
+use Rattle.dbp_plan.specs.Table.{table_row}
 use Rattle.dbp_rules.specs.PartyRules as party
 use Rattle.dbp_rules.specs.PartyShapes.{LinksFit, ReleaserLoads, ReleaserShape, TaskLoads, TaskPartShape}
 use Rattle.dbp_rules.specs.Places.{no_task, task, task_entry, wired}
@@ -229,7 +229,7 @@ module _ (p : Plan) (w : Wiring) (rows : ℕ → ℕ → List ℤ) (s : State) (
 -- ---- the first parts
 
 pub first_releaser_in_shape : (p : Plan) (count : Count) → ReleaserShape p (wiring_of p count) (start_releaser (wiring_of p count))
-first_releaser_in_shape p count = releaser_in_shape p (wiring_of p count) (rows_in (meaning_of p)) (start_of p (wiring_of p count)) (first_sound p count)
+first_releaser_in_shape p count = releaser_in_shape p (wiring_of p count) (table_row (meaning_of p)) (start_of p (wiring_of p count)) (first_sound p count)
 
 pub first_task_in_shape : (p : Plan) (count : Count) (i : ℕ) → i < length p.diagram.tasks → TaskPartShape (wiring_of p count) i (task (start_of p (wiring_of p count)) i).part
-first_task_in_shape p count i named = task_in_shape p (wiring_of p count) (rows_in (meaning_of p)) (start_of p (wiring_of p count)) (first_sound p count) i named
+first_task_in_shape p count i named = task_in_shape p (wiring_of p count) (table_row (meaning_of p)) (start_of p (wiring_of p count)) (first_sound p count) i named

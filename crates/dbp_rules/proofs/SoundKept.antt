@@ -7,7 +7,7 @@ use Rattle.std.specs.Prelude.{Result}
 use Rattle.sync_meaning.proofs.OneMeaning.{meaning_solves}
 use Rattle.sync_meaning.specs.SomeMeaning.{meaning_of, meaning_of-is}
 use Rattle.sync_meaning.specs.SomeMeaningRows.{Solves}
-use Rattle.sync_meaning.specs.SomeMeaningTables.{rows_in}
+use Rattle.dbp_plan.specs.Table.{table_row}
 use Rattle.dbp_rules.specs.Moves as move
 use Rattle.dbp_rules.specs.Places.{slot_at, task, task_entry, wired}
 use Rattle.dbp_rules.specs.Rules as rule
@@ -82,13 +82,13 @@ pub sound_kept : (p : Plan) (count : Count) (rows : ℕ → ℕ → List ℤ) (s
 sound_kept p count rows s e solves sound named free = step_sound p (wiring_of p count) rows s (own_wiring p count) solves sound e named free
 
 -- and by each result of a step, under a plan's own wiring, if the rows are those of the meaning
-pub asked_sound : (p : Plan) (w : Wiring) (s new : State) (e : Step) (result : Result Heard Illegal) → w ≡ wiring_of p w.count → Sound p w (rows_in (meaning_of p)) s → rule.IsNamed p.diagram e → rule.IsStep p w s e result new
-    → Sound p w (rows_in (meaning_of p)) new
+pub asked_sound : (p : Plan) (w : Wiring) (s new : State) (e : Step) (result : Result Heard Illegal) → w ≡ wiring_of p w.count → Sound p w (table_row (meaning_of p)) s → rule.IsNamed p.diagram e → rule.IsStep p w s e result new
+    → Sound p w (table_row (meaning_of p)) new
 asked_sound p w s new e result wired sound named is =
-    let solves : Solves p.diagram p.samples p.batches (rows_in (meaning_of p)) = meaning_solves p.diagram p.samples p.batches (meaning_of p) p.rules (meaning_of-is p) in
+    let solves : Solves p.diagram p.samples p.batches (table_row (meaning_of p)) = meaning_solves p.diagram p.samples p.batches (meaning_of p) p.rules (meaning_of-is p) in
     let own : IsOwn p w = subst (λ (x : Wiring). IsOwn p x) (sym wired) (own_wiring p w.count) in
-    answered (rule.refusal w s e) (λ free. step_sound p w (rows_in (meaning_of p)) s own solves sound e named free) is
+    answered (rule.refusal w s e) (λ free. step_sound p w (table_row (meaning_of p)) s own solves sound e named free) is
   where
-    answered : (o : Option Illegal) → (o ≡ None → Sound p w (rows_in (meaning_of p)) (rule.next p w s e)) → rule.IsAnswer o p w s e result new → Sound p w (rows_in (meaning_of p)) new
-    answered None stepped is = subst (λ (x : State). Sound p w (rows_in (meaning_of p)) x) (sym is.1) (stepped refl)
-    answered (Some why) stepped is = subst (λ (x : State). Sound p w (rows_in (meaning_of p)) x) (sym is.1) sound
+    answered : (o : Option Illegal) → (o ≡ None → Sound p w (table_row (meaning_of p)) (rule.next p w s e)) → rule.IsAnswer o p w s e result new → Sound p w (table_row (meaning_of p)) new
+    answered None stepped is = subst (λ (x : State). Sound p w (table_row (meaning_of p)) x) (sym is.1) (stepped refl)
+    answered (Some why) stepped is = subst (λ (x : State). Sound p w (table_row (meaning_of p)) x) (sym is.1) sound

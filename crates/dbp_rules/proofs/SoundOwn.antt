@@ -11,7 +11,7 @@ use Rattle.dbp_plan.specs.declared.plan.Plan.{Plan}
 use Rattle.dbp_plan.specs.Closed.{IsClosed}
 use Rattle.dbp_plan.specs.Ranks.{ranks_of}
 use Rattle.dbp_plan.specs.Lookups.{link_at, no_link, declared, no_declared, no_read}
-use Rattle.dbp_plan.proofs.RankLaws.{ranks-apart, length-ranks}
+use Rattle.dbp_plan.proofs.RankLaws.{kept-rank, ranks-apart}
 use Rattle.release_list.specs.Releases.{links_into}
 use Rattle.release_list.specs.Schedule.{aims, claims, opens, seen_by}
 use Rattle.release_list.specs.declared.release.Release.TheVariants.{Claim}
@@ -118,10 +118,6 @@ module _ (p : Plan) (count : Count) where
   pub rank_is : (i : ℕ) → i < length p.diagram.tasks → (wired o i).rank ≡ get_or p.diagram.ranks i 0
   rank_is i below = ap (λ (x : TaskWiring). x.rank) (wired_is p count i below)
 
-  rank_at : (i : ℕ) → i < length p.diagram.tasks → slice_get (ranks_of p.diagram.policy p.diagram.tasks) i ≡ Some (get_or p.diagram.ranks i 0)
-  rank_at i below =
-      ap (λ (rs : List ℕ). slice_get rs i) (sym p.rules.ranked.ranks) ∙ slice_get-get_or p.diagram.ranks i 0 (omega (arith, below, length-ranks p.diagram p.rules.ranked))
-
   pub own_wiring : IsOwn p o
   own_wiring =
       let whole : IsWired p o = wiring-whole p count in
@@ -146,7 +142,7 @@ module _ (p : Plan) (count : Count) where
             let first : i < length p.diagram.tasks = omega (arith, below, whole.tasks) in
             let second : j < length p.diagram.tasks = omega (arith, less, whole.tasks) in
             let apart : get_or p.diagram.ranks i 0 ≢ get_or p.diagram.ranks j 0 =
-            ranks-apart p.diagram.policy p.diagram.tasks i j (get_or p.diagram.ranks i 0) (get_or p.diagram.ranks j 0) other (rank_at i first) (rank_at j second) in
+            ranks-apart p.diagram.policy p.diagram.tasks i j (get_or p.diagram.ranks i 0) (get_or p.diagram.ranks j 0) other (kept-rank p.diagram i p.rules.ranked first) (kept-rank p.diagram j p.rules.ranked second) in
             λ same. apart (sym (rank_is i first) ∙ same ∙ rank_is j second);
         downward = λ k below direct.
             let ends = closed.ends k no_link below in

@@ -10,6 +10,7 @@ use Rattle.dbp_plan.specs.declared.plan.Plan.{Plan}
 use Rattle.dbp_plan.specs.Occurrences.{count_until, times_of, time_of}
 use Rattle.dbp_plan.specs.declared.schedule.Batch.{Batch}
 use Rattle.dbp_plan.specs.Lookups.{link_at, no_link, declared}
+use Rattle.dbp_plan.proofs.ListEdits.{take_past}
 use Rattle.release_list.specs.Schedule.{seen_by}
 use Rattle.dbp_rules.specs.Moves as move
 use Rattle.dbp_rules.specs.Places.{link, link_entry, no_order, order, read_at, slot_at, task, task_entry, wired}
@@ -33,13 +34,6 @@ use Rattle.dbp_rules.proofs.SoundFrame.{task_step}
 use Rattle.dbp_rules.proofs.SoundGoes.{IsEarly, early_hear, early_heard, early_idle, early_look, early_read, early_take, reader_on, take_hear, take_read, taken_hear, taken_read, task_goes, writer_same}
 use Rattle.dbp_rules.proofs.SoundOwn.{IsOwn, IsOwnRead, claims_aims, opens_claims}
 use Rattle.dbp_rules.proofs.StateKept.{step_kept}
-
--- the first words stay if a later one is replaced
-take_past : {X : Type 0} (n i : ℕ) (xs : List X) (x : X) → n ≤ i → take n (set xs i x) ≡ take n xs
-take_past zero i xs x past = refl
-take_past (suc n) i [] x past = refl
-take_past (suc n) zero (y ∷ ys) x past = absurd (omega arith)
-take_past (suc n) (suc i) (y ∷ ys) x past = ap (λ zs. y ∷ zs) (take_past n i ys x (omega arith))
 
 -- what an instance sees, by its number less one
 pub seen_more : (links : List Link) (batches : List Batch) (k n : ℕ) → seen_by links batches k (n + 1) ≡ count_until (times_of batches (link_at links k).writer) (time_of batches (link_at links k).reader (n + 1))

@@ -6,7 +6,7 @@ use Rattle.sync_meaning.proofs.OneMeaning.{meaning_solves}
 use Rattle.sync_meaning.specs.Meaning.{IsMeaning}
 use Rattle.sync_meaning.specs.SomeMeaning.{meaning_of, meaning_of-is}
 use Rattle.sync_meaning.specs.SomeMeaningRows.{Solves}
-use Rattle.sync_meaning.specs.SomeMeaningTables.{rows_in}
+use Rattle.dbp_plan.specs.Table.{table_row}
 use Rattle.dbp_rules.specs.Lawful.{Leads}
 use Rattle.dbp_rules.specs.Rules as rule
 use Rattle.dbp_rules.specs.Sound.{Sound}
@@ -25,14 +25,14 @@ steps_sound p w rows [] s new own solves sound same = subst (λ (x : State). Sou
 steps_sound p w rows (e ∷ es) s new own solves sound leads = steps_sound p w rows es (rule.next p w s e) new own solves (step_sound p w rows s own solves sound e leads.0 leads.1) leads.2
 
 pub reached_meaning : (p : Plan) (count : Count) (table : Table) (es : List Step) (s : State) → IsMeaning p.diagram p.samples p.batches table → Leads p (wiring_of p count) (start_of p (wiring_of p count)) es s
-    → Sound p (wiring_of p count) (rows_in table) s
+    → Sound p (wiring_of p count) (table_row table) s
 reached_meaning p count table es s meaning leads =
-    let solves : Solves p.diagram p.samples p.batches (rows_in table) = meaning_solves p.diagram p.samples p.batches table p.rules meaning in
-    steps_sound p (wiring_of p count) (rows_in table) es (start_of p (wiring_of p count)) s (own_wiring p count) solves (start_sound p (wiring_of p count) (rows_in table) (own_wiring p count).whole solves) leads
+    let solves : Solves p.diagram p.samples p.batches (table_row table) = meaning_solves p.diagram p.samples p.batches table p.rules meaning in
+    steps_sound p (wiring_of p count) (table_row table) es (start_of p (wiring_of p count)) s (own_wiring p count) solves (start_sound p (wiring_of p count) (table_row table) (own_wiring p count).whole solves) leads
 
 -- the rows of the plan's meaning
 abbrev pub rows_of : Plan → ℕ → ℕ → List ℤ
-rows_of p = rows_in (meaning_of p)
+rows_of p = table_row (meaning_of p)
 
 pub reached_sound : (p : Plan) (count : Count) (es : List Step) (s : State) → Leads p (wiring_of p count) (start_of p (wiring_of p count)) es s → Sound p (wiring_of p count) (rows_of p) s
 reached_sound p count es s leads = reached_meaning p count (meaning_of p) es s (meaning_of-is p) leads

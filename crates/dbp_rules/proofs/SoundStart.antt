@@ -9,7 +9,7 @@ use Rattle.dbp_plan.specs.Closed.{place_count}
 use Rattle.dbp_plan.specs.Lookups.{declared, no_declared}
 use Rattle.sync_meaning.proofs.OneMeaning.{meaning_solves}
 use Rattle.sync_meaning.specs.SomeMeaning.{meaning_of, meaning_of-is}
-use Rattle.sync_meaning.specs.SomeMeaningTables.{rows_in}
+use Rattle.dbp_plan.specs.Table.{table_row}
 use Rattle.sync_meaning.specs.SomeMeaningRows.{Solves, states_at-none}
 use Rattle.dbp_plan.proofs.ListParts.{repeated}
 use Rattle.dbp_rules.specs.Places.{is_counted, link, no_link_entry, no_order, no_slot, no_task, no_task_wiring, slot_at, task, task_entry, wired}
@@ -84,6 +84,6 @@ start_sound p w rows wires solves =
     }
 
 -- by the meaning's own table
-pub first_sound : (p : Plan) (count : Count) → Sound p (wiring_of p count) (rows_in (meaning_of p)) (start_of p (wiring_of p count))
+pub first_sound : (p : Plan) (count : Count) → Sound p (wiring_of p count) (table_row (meaning_of p)) (start_of p (wiring_of p count))
 first_sound p count =
-    start_sound p (wiring_of p count) (rows_in (meaning_of p)) (wiring-whole p count) (meaning_solves p.diagram p.samples p.batches (meaning_of p) p.rules (meaning_of-is p))
+    start_sound p (wiring_of p count) (table_row (meaning_of p)) (wiring-whole p count) (meaning_solves p.diagram p.samples p.batches (meaning_of p) p.rules (meaning_of-is p))

@@ -6,7 +6,7 @@ ghost use Rattle.dbp_plan.specs.declared.plan.Plan.{Plan};
 ghost use Rattle.dbp_plan.specs.declared.table.Table.{Table};
 ghost use Rattle.dbp_plan.specs.Lookups.{declared, no_read};
 ghost use Rattle.sync_meaning.specs.Meaning.{IsMeaning};
-ghost use Rattle.sync_meaning.specs.SomeMeaningTables.{rows_in};
+ghost use Rattle.dbp_plan.specs.Table.{table_row};
 ghost use Rattle.dbp_rules.specs.Lawful.{Leads};
 ghost use Rattle.dbp_rules.specs.Places.{link};
 ghost use Rattle.dbp_rules.specs.Promises.{IsUnclaimed, SparesClaims, TakesTheMeaning};
@@ -24,7 +24,7 @@ ghost use Rattle.dbp_rules.specs.declared.step.Step.TheVariants.{Aim, Look, Take
 /// Whatever steps were made, the state is sound.
 pub fn allowed_steps_lead_to_sound_states()
     ensures { (p : Plan) (count : Count) (table : Table) (steps : Items Step) (s : State) → IsMeaning p.diagram p.samples p.batches table
-        → Leads p (wiring_of p count) (start_of p (wiring_of p count)) steps s → Sound p (wiring_of p count) (rows_in table) s }
+        → Leads p (wiring_of p count) (start_of p (wiring_of p count)) steps s → Sound p (wiring_of p count) (table_row table) s }
 {}
 
 /// Whatever steps were made, an allowed take hears the word that the meaning gives the read in the running instance.

@@ -8,7 +8,7 @@ ghost use Rattle.dbp_plan.specs.Lookups.{declared, no_read};
 ghost use Rattle.dbp_slots.specs.FreeSlot.{IsLeastFree};
 ghost use Rattle.release_list.specs.declared.release.Release.TheVariants.{Aim as AimOf};
 ghost use Rattle.sync_meaning.specs.Meaning.{IsMeaning};
-ghost use Rattle.sync_meaning.specs.SomeMeaningTables.{rows_in};
+ghost use Rattle.dbp_plan.specs.Table.{table_row};
 ghost use Rattle.dbp_rules.specs.Places.{link, task_entry, wired};
 ghost use Rattle.dbp_rules.specs.Promises.{HasFreeSlot, IsClaimFilled, IsLeastAim, IsUnclaimed, SparesClaims, TakesTheMeaning, claimed_of};
 ghost use Rattle.dbp_rules.specs.Rules.{IsNamed, hears, next, refusal, kept_after_aim};
@@ -32,13 +32,13 @@ pub fn soundness_has_ten_parts()
 
 /// The state before the first step is sound.
 pub fn the_start_is_sound()
-    ensures { (p : Plan) (count : Count) (table : Table) → IsMeaning p.diagram p.samples p.batches table → Sound p (wiring_of p count) (rows_in table) (start_of p (wiring_of p count)) }
+    ensures { (p : Plan) (count : Count) (table : Table) → IsMeaning p.diagram p.samples p.batches table → Sound p (wiring_of p count) (table_row table) (start_of p (wiring_of p count)) }
 {}
 
 /// Each allowed step keeps a state sound, under both counts.
 pub fn a_step_keeps_a_state_sound()
-    ensures { (p : Plan) (count : Count) (table : Table) (s : State) (e : Step) → IsMeaning p.diagram p.samples p.batches table → Sound p (wiring_of p count) (rows_in table) s
-        → IsNamed p.diagram e → refusal (wiring_of p count) s e ≡ None → Sound p (wiring_of p count) (rows_in table) (next p (wiring_of p count) s e) }
+    ensures { (p : Plan) (count : Count) (table : Table) (s : State) (e : Step) → IsMeaning p.diagram p.samples p.batches table → Sound p (wiring_of p count) (table_row table) s
+        → IsNamed p.diagram e → refusal (wiring_of p count) s e ≡ None → Sound p (wiring_of p count) (table_row table) (next p (wiring_of p count) s e) }
 {}
 
 /// Each allowed step changes no word but the one that it stores, and no other party's part.
@@ -73,7 +73,7 @@ pub fn a_slot_is_free_for_each_aim()
 
 /// An allowed take hears the word that the meaning gives the read in the running instance.
 pub fn a_sound_take_hears_the_meaning()
-    ensures { (p : Plan) (count : Count) (table : Table) (s : State) (i r : ℕ) → IsMeaning p.diagram p.samples p.batches table → Sound p (wiring_of p count) (rows_in table) s
+    ensures { (p : Plan) (count : Count) (table : Table) (s : State) (i r : ℕ) → IsMeaning p.diagram p.samples p.batches table → Sound p (wiring_of p count) (table_row table) s
         → i < length p.diagram.tasks → refusal (wiring_of p count) s (Take i r) ≡ None → TakesTheMeaning p (wiring_of p count) table s i r }
 {}
 

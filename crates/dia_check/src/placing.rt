@@ -28,7 +28,7 @@ fn placed_nodes(
     requires { length names.now < 2 ^ 32 }
     ensures { IfOk result (λ made. made ≡ map (placed_node names.now) nodes.now) }
 {
-    let mut made = List::new(alloc);
+    let mut made = List::with_capacity(alloc, nodes.len())?;
     for node in nodes.items() {
         made.push(placed_node(names, *node))?;
     }

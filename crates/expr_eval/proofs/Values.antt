@@ -9,23 +9,8 @@ use Rattle.dbp_plan.specs.Tree.{Tree, number, variable, unary, binary, choice, s
 use Rattle.dbp_plan.specs.TreeLaws.{length-nodes_of, one_node}
 use Rattle.dbp_plan.specs.Operands.{OperandsBelow}
 use Rattle.dbp_plan.specs.LetOrder.{VariablesBelow}
-use Rattle.dbp_plan.proofs.TreeNodes.{operands_before}
+use Rattle.dbp_plan.proofs.TreeNodes.{operands_of, operands_weaker}
 use Rattle.expr_eval.specs.Values.{tree_value, value_of_node, value_of_unary, value_of_binary, value_of_choice, VariableBelow}
-
--- operands below a bound are below a greater one
-pub operands-below : {V : Type 0} (a b : ℕ) (node : Node V) → OperandsBelow a node → a ≤ b → OperandsBelow b node
-operands-below a b (Num z) below le = tt
-operands-below a b (Var v) below le = tt
-operands-below a b (Un op x) below le = omega arith
-operands-below a b (Bin op x y) below le = (omega arith, omega arith)
-operands-below a b (Pick x y z) below le = (omega arith, omega arith, omega arith)
-
--- each operand of a node stands before it
-pub operands_at : {V : Type 0} (nodes : List (Node V)) → HasTree nodes → (k : ℕ) (node : Node V) → slice_get nodes k ≡ Some node → OperandsBelow k node
-operands_at nodes tree k node here =
-    let there : slice_get (nodes_of 0 tree.0) k ≡ Some node = ap (λ l. slice_get l k) (sym tree.1) ∙ here in
-    let zero_more : 0 + k ≡ k = omega arith in
-    subst (λ (j : ℕ). OperandsBelow j node) zero_more (operands_before 0 tree.0 k node there)
 
 -- a variable of a node is one of the nodes'
 pub variable_at : (bound : ℕ) (nodes : List (Node ℕ)) → VariablesBelow bound nodes → (k : ℕ) (node : Node ℕ) → slice_get nodes k ≡ Some node → VariableBelow bound node
@@ -80,11 +65,11 @@ settled_more nodes env values i node tree settled here room k other below there 
       | inl same ↦
           let is_node : other ≡ node = cc (ap (λ (j : ℕ). slice_get nodes j) same, here, there) in
           let written : get_or (set values i v) k (pos 0) ≡ v = ap (λ (j : ℕ). get_or (set values i v) j (pos 0)) same ∙ get_or-set_same values i v (pos 0) room in
-          written ∙ sym (keeps env values i v node (operands_at nodes tree i node here)) ∙ ap (λ (n : Node ℕ). value_of_node env (set values i v) n) (sym is_node)
+          written ∙ sym (keeps env values i v node (operands_of nodes tree.0 tree.1 i node here)) ∙ ap (λ (n : Node ℕ). value_of_node env (set values i v) n) (sym is_node)
       | inr apart ↦
           let before : k < i = omega arith in
           let order : k ≤ i = omega arith in
-          let operands : OperandsBelow i other = operands-below k i other (operands_at nodes tree k other there) order in
+          let operands : OperandsBelow i other = operands_weaker k i other (omega (arith, order)) (operands_of nodes tree.0 tree.1 k other there) in
           get_or-set_other values i k v (pos 0) apart ∙ settled k other before there ∙ sym (keeps env values i v other operands)
     ]
 

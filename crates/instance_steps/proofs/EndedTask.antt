@@ -7,9 +7,8 @@ use Rattle.dbp_plan.specs.declared.plan.Plan.{Plan}
 use Rattle.dbp_plan.specs.declared.table.Table.{Table}
 use Rattle.dbp_plan.specs.declared.table.TaskRows.{TaskRows}
 use Rattle.dbp_plan.specs.Lookups.{declared}
-use Rattle.dbp_plan.specs.Table.{HasRowsOf}
+use Rattle.dbp_plan.specs.Table.{HasRowsOf, table_row}
 use Rattle.sync_meaning.specs.SomeMeaning.{meaning_of}
-use Rattle.sync_meaning.specs.SomeMeaningTables.{rows_in}
 use Rattle.sync_meaning.proofs.Tables.{row_fits}
 use Rattle.dbp_rules.specs.Places.{task, task_entry, wired}
 use Rattle.dbp_rules.specs.Shapes.{IsTaskWired, TaskShape, running_count}
@@ -55,10 +54,10 @@ module _ (a b : Recorder) (i : ℕ) (us : List Event) (piece : AddsPiece a b us 
         let own : HasRowsOf (length (declared (plan_in b) i).outs) (task (state_in a) i).part.ended old = has_b.each i old named_b at in
         omega (arith, row_fits (length (declared (plan_in b) i).outs) (task (state_in a) i).part.ended old own wired_b.closed.outs.1 few, wide, wired_b.closed.outs.1)
 
-    meant : row ≡ rows_in (meaning_of (plan_in b)) i ((task (state_in a) i).part.ended + 1)
+    meant : row ≡ table_row (meaning_of (plan_in b)) i ((task (state_in a) i).part.ended + 1)
     meant =
         let shut : last_shut (task (state_in b) i) ≡ (task (state_in a) i).part.ended + 1 = omega (arith, piece.changes.ended, ap shut_by piece.changes.place) in
-        is ∙ ∥∥₁_elim b.core.sound (hlevel props) (λ sound. (sound.tasks i (wired_there b i named_b)).row) ∙ ap (λ (n : ℕ). rows_in (meaning_of (plan_in b)) i n) shut
+        is ∙ ∥∥₁_elim b.core.sound (hlevel props) (λ sound. (sound.tasks i (wired_there b i named_b)).row) ∙ ap (λ (n : ℕ). table_row (meaning_of (plan_in b)) i n) shut
 
     pub row_gained : (more : TaskRows) (later : Table) → more.ports ≡ old.ports → more.words ≡ old.words ++ row → later.tasks ≡ set (table_in b).tasks i more → HasEndedRows (plan_in b) (state_in b) later
     row_gained more later ports words all = ended_rows_grow (plan_in b) (state_in a) (state_in b) (table_in b) later i old more row place.Idle named_b has_b piece.changes at ports words all meant wide

@@ -10,7 +10,7 @@ use Rattle.std.proofs.lemmas.List.Concat.{flat_map-append}
 use Rattle.std.proofs.lemmas.List.Sums.{count_by_more_no, count_by_more_yes}
 use Rattle.release_list.proofs.IntoLinks.{numbers_more}
 use Rattle.sync_meaning.specs.SomeMeaning.{meaning_of}
-use Rattle.sync_meaning.specs.SomeMeaningTables.{rows_in}
+use Rattle.dbp_plan.specs.Table.{table_row}
 use Rattle.dbp_plan.specs.declared.diagram.Read.{Read}
 use Rattle.dbp_plan.specs.declared.diagram.Task.{Task}
 use Rattle.dbp_plan.specs.declared.plan.Plan.{Plan}
@@ -53,12 +53,12 @@ reads_in r i named = ((own_in r).whole.each_task i (wired_there r i named)).read
 module _ (a : Recorder) (i j : ℕ) (named : i < length (plan_in a).diagram.tasks) (inside : j < length (declared (plan_in a) i).reads) (may : MayStep (wiring_in a) (state_in a) i)
     (at : (task (state_in a) i).part.place ≡ place.Look (turn_in (plan_in a) i j))
     (row : (wiring_in a).count ≡ All → IsClaimFilled (wiring_in a) (state_in a) (get_or (declared (plan_in a) i).reads j no_read).link) where
-  ready_by : (c : Count) → (wiring_in a).count ≡ c → Sound (plan_in a) (wiring_in a) (rows_in (meaning_of (plan_in a))) (state_in a) → is_ready (wiring_in a) (state_in a) i (turn_in (plan_in a) i j) ≡ true
+  ready_by : (c : Count) → (wiring_in a).count ≡ c → Sound (plan_in a) (wiring_in a) (table_row (meaning_of (plan_in a))) (state_in a) → is_ready (wiring_in a) (state_in a) i (turn_in (plan_in a) i j) ≡ true
   ready_by All all sound =
-      filled_ready (plan_in a) (wiring_in a) (rows_in (meaning_of (plan_in a))) (state_in a) (own_in a) sound i (turn_in (plan_in a) i j) (wired_there a i named) at
+      filled_ready (plan_in a) (wiring_in a) (table_row (meaning_of (plan_in a))) (state_in a) (own_in a) sound i (turn_in (plan_in a) i j) (wired_there a i named) at
       (subst (λ (m : ℕ). IsClaimFilled (wiring_in a) (state_in a) (get_or (declared (plan_in a) i).reads m no_read).link) (sym (read_found a i j named inside)) (row all))
   ready_by Ranked ranked sound =
-      ranked_ready (plan_in a) (wiring_in a) (rows_in (meaning_of (plan_in a))) (state_in a) (own_in a) sound i (turn_in (plan_in a) i j) (wired_there a i named) at ranked (moves.may_step_free (wiring_in a) (state_in a) i may)
+      ranked_ready (plan_in a) (wiring_in a) (table_row (meaning_of (plan_in a))) (state_in a) (own_in a) sound i (turn_in (plan_in a) i j) (wired_there a i named) at ranked (moves.may_step_free (wiring_in a) (state_in a) i may)
 
   ready : is_ready (wiring_in a) (state_in a) i (turn_in (plan_in a) i j) ≡ true
   ready = ∥∥₁_elim a.core.sound (hlevel props) (λ sound. ready_by (wiring_in a).count refl sound)

@@ -13,11 +13,11 @@ use Rattle.dbp_plan.specs.declared.table.TaskRows.{TaskRows}
 use Rattle.dbp_plan.specs.Lookups.{declared, no_declared}
 use Rattle.dbp_plan.specs.Occurrences.{times_of}
 use Rattle.dbp_plan.specs.Places.{at_place, set_here, set_other}
-use Rattle.dbp_plan.specs.Table.{HasAllRows, HasRowsOf, IsRow, row_at}
+use Rattle.dbp_plan.specs.Table.{HasAllRows, HasRowsOf, IsRow, row_at, table_row}
 use Rattle.sync_meaning.specs.FirstRows.{first_rows}
 use Rattle.sync_meaning.specs.Meaning.{IsStream}
 use Rattle.sync_meaning.specs.SomeMeaning.{meaning_of, meaning_of-is}
-use Rattle.sync_meaning.specs.SomeMeaningTables.{row_in, rows_in, same_table}
+use Rattle.sync_meaning.specs.SomeMeaningTables.{row_in, same_table}
 use Rattle.sync_meaning.proofs.Growing.{row_pushed, rows_stay}
 use Rattle.dbp_rules.specs.Places.{no_task, task, wired}
 use Rattle.dbp_rules.specs.Start.{start_of, start_task}
@@ -51,7 +51,7 @@ ended_rows_stay p s new table same has = record {
 
 module _ (p : Plan) (s new : State) (table later : Table) (i : ℕ) (old more : TaskRows) (row : List ℤ) (q : Place) (named : i < length p.diagram.tasks) (has : HasEndedRows p s table) (changes : ChangesTask s new i ((task s i).part.ended + 1) q)
     (at : slice_get table.tasks i ≡ Some old) (ports : more.ports ≡ old.ports) (words : more.words ≡ old.words ++ row) (all : later.tasks ≡ set table.tasks i more)
-    (is : row ≡ rows_in (meaning_of p) i ((task s i).part.ended + 1)) (wide : length row ≡ length (declared p i).outs) where
+    (is : row ≡ table_row (meaning_of p) i ((task s i).part.ended + 1)) (wide : length row ≡ length (declared p i).outs) where
   own_rows : HasRowsOf (length (declared p i).outs) (task s i).part.ended old
   own_rows = has.each i old named at
 
@@ -79,7 +79,7 @@ module _ (p : Plan) (s new : State) (table later : Table) (i : ℕ) (old more : 
   ]
 
   -- a row that was there
-  kept : (j n : ℕ) → j < length p.diagram.tasks → n ≤ (task s j).part.ended → rows_in later j n ≡ rows_in (meaning_of p) j n
+  kept : (j n : ℕ) → j < length p.diagram.tasks → n ≤ (task s j).part.ended → table_row later j n ≡ table_row (meaning_of p) j n
   kept j n there few =
       let rows : (r : TaskRows) × (slice_get table.tasks j ≡ Some r) = at_place table.tasks j (omega (arith, there, has.size)) in
       let before : IsRow table j n (row_at rows.0 n) = ended_row p s table j n rows.0 has there few rows.1 in
@@ -87,7 +87,7 @@ module _ (p : Plan) (s new : State) (table later : Table) (i : ℕ) (old more : 
       row_in later j n (row_at rows.0 n) after ∙ sym (row_in table j n (row_at rows.0 n) before) ∙ has.meant j n there few
 
   -- and the new one
-  gained : rows_in later i ((task s i).part.ended + 1) ≡ rows_in (meaning_of p) i ((task s i).part.ended + 1)
+  gained : table_row later i ((task s i).part.ended + 1) ≡ table_row (meaning_of p) i ((task s i).part.ended + 1)
   gained =
       let pushed : IsRow later i ((task s i).part.ended + 1) row = row_pushed i (task s i).part.ended (length (declared p i).outs) old more row table later at own_rows wide ports words all in
       row_in later i ((task s i).part.ended + 1) row pushed ∙ is
@@ -103,7 +103,7 @@ module _ (p : Plan) (s new : State) (table later : Table) (i : ℕ) (old more : 
           elim (cases_lt (task s j).part.ended n) [
             | inl last ↦
                 let number : n ≡ (task s i).part.ended + 1 = omega arith in
-                ap (λ (k : ℕ). rows_in later k n) same ∙ ap (λ (m : ℕ). rows_in later i m) number ∙ gained ∙ ap (λ (m : ℕ). rows_in (meaning_of p) i m) (sym number) ∙ ap (λ (k : ℕ). rows_in (meaning_of p) k n) (sym same)
+                ap (λ (k : ℕ). table_row later k n) same ∙ ap (λ (m : ℕ). table_row later i m) number ∙ gained ∙ ap (λ (m : ℕ). table_row (meaning_of p) i m) (sym number) ∙ ap (λ (k : ℕ). table_row (meaning_of p) k n) (sym same)
             | inr before ↦ kept j n there before
           ]
       | inr other ↦ kept j n there (omega (arith, few, other_ended j other))
@@ -125,13 +125,13 @@ ended_rows_start p w table size first = record {
       (subst (λ (r : TaskRows). HasRowsOf (length (declared p i).outs) 0 r) one own);
   meant = λ i n named few.
       let none : n ≡ 0 = omega (arith, few, start_ended p w i (omega (arith, named, size))) in
-      ap (λ (m : ℕ). rows_in table i m) none ∙ row_zero i named ∙ ap (λ (m : ℕ). rows_in (meaning_of p) i m) (sym none);
+      ap (λ (m : ℕ). table_row table i m) none ∙ row_zero i named ∙ ap (λ (m : ℕ). table_row (meaning_of p) i m) (sym none);
 }
   where
     here : (i : ℕ) → i < length p.diagram.tasks → slice_get table.tasks i ≡ Some (first_rows (declared p i))
     here i named = ap (λ (ts : List TaskRows). slice_get ts i) first ∙ slice_get-map first_rows p.diagram.tasks i ∙ ap (option_map first_rows) (there_in p i named)
 
-    row_zero : (i : ℕ) → i < length p.diagram.tasks → rows_in table i 0 ≡ rows_in (meaning_of p) i 0
+    row_zero : (i : ℕ) → i < length p.diagram.tasks → table_row table i 0 ≡ table_row (meaning_of p) i 0
     row_zero i named =
         let words : List ℤ = map (λ o. o.first) (declared p i).outs in
         let stream : IsStream p.diagram p.samples p.batches (meaning_of p) i (declared p i) = (meaning_of-is p).each i (declared p i) (there_in p i named) in
@@ -140,7 +140,7 @@ ended_rows_start p w table size first = record {
         let size : length (map (λ o. o.first) (declared p i).outs) ≡ length (declared p i).outs = length-map (declared p i).outs (λ o. o.first) in
         let whole : row_at (first_rows (declared p i)) 0 ≡ map (λ o. o.first) (declared p i).outs =
         ap (λ (m : ℕ). take ((0 + 1) * k - 0 * k) (drop m words)) none ∙ take_all ((0 + 1) * k - 0 * k) words (omega (arith, size)) in
-        let found : rows_in table i 0 ≡ row_at (first_rows (declared p i)) 0 = let at = here i named in rw at refl in
+        let found : table_row table i 0 ≡ row_at (first_rows (declared p i)) 0 = let at = here i named in rw at refl in
         found ∙ whole ∙ sym (row_in (meaning_of p) i 0 (map (λ o. o.first) (declared p i).outs) stream.first_row)
 
 -- ---- the end

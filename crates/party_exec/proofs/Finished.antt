@@ -10,7 +10,7 @@ use Rattle.dbp_plan.specs.Occurrences.{times_of}
 use Rattle.dbp_plan.specs.Places.{at_place, read_place}
 use Rattle.dbp_plan.specs.Table.{HasAllRows, HasRowsOf}
 use Rattle.sync_meaning.specs.SomeMeaning.{meaning_of, meaning_of-is}
-use Rattle.sync_meaning.specs.SomeMeaningTables.{rows_in-at, same_table}
+use Rattle.sync_meaning.specs.SomeMeaningTables.{table_row-at, same_table}
 use Rattle.dbp_rules.specs.Places.{wired}
 use Rattle.word_rule.specs.Roles.{run_wiring}
 use Rattle.word_rule.specs.Seats.{TaskSits}
@@ -90,4 +90,4 @@ module _ (w : SlotWords) (tasks : List TaskRows) (size : length tasks ≡ length
   all_rows = same_table p.diagram.tasks p.batches made (meaning_of p) has (meaning_of-is p).rows (λ i n t at_task few.
       let inside : i < length tasks = omega (arith, size, slice_get_within p.diagram.tasks i t at_task) in
       let rows : (r : TaskRows) × (slice_get tasks i ≡ Some r) = at_place tasks i inside in
-      rows_in-at made i n rows.0 rows.1 ∙ (each i rows.0 rows.1).each n few)
+      table_row-at made i n rows.0 rows.1 ∙ (each i rows.0 rows.1).each n few)

@@ -13,6 +13,7 @@ use Rattle.dbp_plan.specs.Lookups.{declared, no_declared, no_read}
 use Rattle.dbp_plan.specs.Occurrences.{count_until, time_of, times_of}
 use Rattle.dbp_plan.specs.Samples.{input_value}
 use Rattle.dbp_plan.specs.Table.{row_at}
+use Rattle.dbp_plan.proofs.ListEdits.{take_past}
 use Rattle.sync_meaning.proofs.OneMeaning.{meaning_solves}
 use Rattle.sync_meaning.specs.SomeMeaning.{meaning_of, meaning_of-is}
 use Rattle.sync_meaning.specs.SomeMeaningRows.{Solves, row_of}
@@ -63,13 +64,6 @@ meant_is p i m r word is =
     ∙ here
     ∙ ap (λ (l : List ℤ). get_or l is.read.port (pos 0)) row
     ∙ get_or_from_slice_get is.is.row is.read.port word (pos 0) is.is.has_word
-
--- the first words stay if a later one is replaced
-take_past : {X : Type 0} (n i : ℕ) (xs : List X) (x : X) → n ≤ i → take n (set xs i x) ≡ take n xs
-take_past zero i xs x past = refl
-take_past (suc n) i [] x past = refl
-take_past (suc n) zero (y ∷ ys) x past = absurd (omega arith)
-take_past (suc n) (suc i) (y ∷ ys) x past = ap (λ zs. y ∷ zs) (take_past n i ys x (omega arith))
 
 module _ (p : Plan) (i : ℕ) (below : i < length (run_wiring p).tasks) (t : TaskPart) (work : WorkWords) (rows : TaskRows) (has : HasComputed p i t work rows) where
   abbrev w : TaskWiring

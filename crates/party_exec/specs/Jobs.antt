@@ -1,5 +1,6 @@
 -- What a crew makes of a party: a job of one round, and so many turns.
 use Rattle.std.specs.Prelude.{◌≡◌, ◌⊎◌, ℕ, ◌+◌, ◌-◌, ◌<◌, ◌^◌, List, length, min, slice_index_or}
+use Rattle.dbp_plan.specs.Calls.{one_more}
 use Rattle.word_rule.specs.declared.seats.SlotWords.{SlotWords}
 use Rattle.party_exec.specs.Parties.{HasFinished, IsTurn}
 use Rattle.party_exec.specs.declared.party.Party.{Party}
@@ -9,19 +10,15 @@ use Rattle.party_exec.specs.declared.turn.Turn.TheVariants.{Idle}
 
 -- ---- what a pace hears
 
--- the number of the turn after so many; it stays at the last number of 64 bits
-abbrev pub next_turn : ℕ → ℕ
-next_turn turns = min (turns + 1) (2 ^ 64 - 1)
-
 -- how many turns a crew has made of the party
 abbrev pub turns_made : Party → ℕ
 turns_made (Releaser s) = s.turns
 turns_made (Task s) = s.turns
 
--- the same party, with one turn more in its count
+-- the same party, with one turn more in its count, which stays at the last number of 64 bits
 abbrev pub IsCounted : Party → Party → Type 0
-IsCounted (Releaser old) (Releaser new) = (new.seat ≡ old.seat) × (new.book ≡ old.book) × (new.turns ≡ next_turn old.turns)
-IsCounted (Task old) (Task new) = (new.seat ≡ old.seat) × (new.work ≡ old.work) × (new.rows ≡ old.rows) × (new.turns ≡ next_turn old.turns)
+IsCounted (Releaser old) (Releaser new) = (new.seat ≡ old.seat) × (new.book ≡ old.book) × (new.turns ≡ one_more old.turns)
+IsCounted (Task old) (Task new) = (new.seat ≡ old.seat) × (new.work ≡ old.work) × (new.rows ≡ old.rows) × (new.turns ≡ one_more old.turns)
 IsCounted _ _ = ⊥
 
 -- the number of the task; of the releaser the number of tasks

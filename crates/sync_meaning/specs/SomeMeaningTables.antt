@@ -12,7 +12,7 @@ use Rattle.dbp_plan.specs.declared.schedule.Batch.{Batch}
 use Rattle.dbp_plan.specs.declared.table.Table.{Table}
 use Rattle.dbp_plan.specs.declared.table.TaskRows.{TaskRows}
 use Rattle.dbp_plan.specs.Occurrences.{times_of}
-use Rattle.dbp_plan.specs.Table.{HasAllRows, HasRowsOf, IsRow, row_at}
+use Rattle.dbp_plan.specs.Table.{HasAllRows, HasRowsOf, IsRow, row_at, table_row}
 use Rattle.dbp_plan.specs.Places.{at_place, same_list}
 use Rattle.dbp_plan.specs.Ranges.{range_behind, range_front}
 
@@ -73,26 +73,23 @@ same_rows outs n x y has_x has_y same =
     let words : x.words ≡ y.words = same_words outs n x.words y.words has_x.size has_y.size rows in
     λ i. record { ports = ports i; words = words i }
 
--- a table's row with this number, and none if there is no such task
-abbrev pub rows_in : Table → ℕ → ℕ → List ℤ
-rows_in table i n = option_map_or (λ rows. row_at rows n) (slice_get table.tasks i) []
-
-pub row_in : (table : Table) (i n : ℕ) (row : List ℤ) → IsRow table i n row → rows_in table i n ≡ row
+-- a table's row with this number
+pub row_in : (table : Table) (i n : ℕ) (row : List ℤ) → IsRow table i n row → table_row table i n ≡ row
 row_in table i n row r = rw r.has_rows (sym r.is)
 
-pub rows_in-at : (table : Table) (i n : ℕ) (rows : TaskRows) → slice_get table.tasks i ≡ Some rows → rows_in table i n ≡ row_at rows n
-rows_in-at table i n rows at = rw at refl
+pub table_row-at : (table : Table) (i n : ℕ) (rows : TaskRows) → slice_get table.tasks i ≡ Some rows → table_row table i n ≡ row_at rows n
+table_row-at table i n rows at = rw at refl
 
 -- two tables with the same rows are one
 pub same_table : (tasks : List Task) (batches : List Batch) (x y : Table) → HasAllRows tasks batches x → HasAllRows tasks batches y
-    → ((i n : ℕ) (task : Task) → slice_get tasks i ≡ Some task → n ≤ length (times_of batches i) → rows_in x i n ≡ rows_in y i n) → x ≡ y
+    → ((i n : ℕ) (task : Task) → slice_get tasks i ≡ Some task → n ≤ length (times_of batches i) → table_row x i n ≡ table_row y i n) → x ≡ y
 same_table tasks batches x y has_x has_y same =
     let all : x.tasks ≡ y.tasks = same_list x.tasks y.tasks (has_x.size ∙ sym has_y.size) (λ i below.
     let t : (t : Task) × (slice_get tasks i ≡ Some t) = at_place tasks i (omega (arith, has_x.size)) in
     let a : (r : TaskRows) × (slice_get x.tasks i ≡ Some r) = at_place x.tasks i below in
     let b : (r : TaskRows) × (slice_get y.tasks i ≡ Some r) = at_place y.tasks i (omega (arith, has_x.size, has_y.size)) in
     let rows : a.0 ≡ b.0 = same_rows (length t.0.outs) (length (times_of batches i)) a.0 b.0 (has_x.each i t.0 a.0 t.1 a.1) (has_y.each i t.0 b.0 t.1 b.1)
-    (λ n few. sym (rows_in-at x i n a.0 a.1) ∙ same i n t.0 t.1 few ∙ rows_in-at y i n b.0 b.1) in
+    (λ n few. sym (table_row-at x i n a.0 a.1) ∙ same i n t.0 t.1 few ∙ table_row-at y i n b.0 b.1) in
     a.1 ∙ ap (λ (r : TaskRows). Some r) rows ∙ sym b.1) in
     λ i. record { tasks = all i }
 

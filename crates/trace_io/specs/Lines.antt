@@ -8,7 +8,7 @@ use Rattle.dbp_plan.specs.declared.diagram.Task.{Task}
 use Rattle.dbp_plan.specs.declared.schedule.Batch.{Batch}
 use Rattle.dbp_plan.specs.declared.table.Table.{Table}
 use Rattle.dbp_plan.specs.Occurrences.{count_until, times_of}
-use Rattle.dbp_plan.specs.Table.{row_at}
+use Rattle.dbp_plan.specs.Table.{table_row}
 
 -- each word in decimal, after a comma (44)
 abbrev pub cells_of : List ℤ → List ℕ
@@ -22,13 +22,9 @@ line_text time name number words = decimal time ++ 44 ∷ name ++ 44 ∷ decimal
 abbrev pub name_of : List Task → ℕ → List ℕ
 name_of tasks i = option_map_or (λ t. t.name) (slice_get tasks i) []
 
--- row n of the task
-abbrev pub row_of : Table → ℕ → ℕ → List ℤ
-row_of table i n = option_map_or (λ rows. row_at rows n) (slice_get table.tasks i) []
-
 -- the line of the task's occurrence with this number
 abbrev pub numbered_line : List Task → Table → ℕ → ℕ → ℕ → List ℕ
-numbered_line tasks table time i n = line_text time (name_of tasks i) n (row_of table i n)
+numbered_line tasks table time i n = line_text time (name_of tasks i) n (table_row table i n)
 
 -- the number of the task's occurrence at this time, from 1: how many of its times have come
 abbrev pub number_of : List Batch → ℕ → ℕ → ℕ

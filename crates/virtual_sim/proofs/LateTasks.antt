@@ -4,7 +4,8 @@ use Rattle.std.specs.Prelude.{IfSome, IsSome}
 use Rattle.std.proofs.lemmas.Bool.{or_cases, or_left, or_right, eqb-true, eq-eqb}
 use Rattle.std.proofs.lemmas.List.Folds.{list_any_more}
 use Rattle.dbp_plan.specs.declared.plan.Plan.{Plan}
-use Rattle.virtual_sim.specs.Runs.{IsWorst, is_in}
+use Rattle.dbp_plan.specs.Numbers.{is_in}
+use Rattle.virtual_sim.specs.Runs.{IsWorst}
 
 module _ (P : Plan) (tasks rest : List ℕ) (j t : ℕ) (small : j < length tasks) (is : t ≡ get_or tasks j 0) (inside : t < length P.diagram.tasks) where
   more : (i : ℕ) → is_in (take (j + 1) tasks) i ≡ (is_in (take j tasks) i || eqb (get_or tasks j 0) i)

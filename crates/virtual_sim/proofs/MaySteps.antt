@@ -10,7 +10,7 @@ use Rattle.dbp_plan.specs.declared.plan.Plan.{Plan}
 use Rattle.dbp_plan.specs.Lookups.{declared, no_declared}
 use Rattle.dbp_plan.specs.Occurrences.{times_of}
 use Rattle.dbp_plan.specs.Ranks.{is_above, ranks_of}
-use Rattle.dbp_plan.proofs.RankLaws.{above-lesser, length-ranks_of}
+use Rattle.dbp_plan.proofs.RankLaws.{above-lesser, kept-rank}
 use Rattle.rank_order.specs.Instances.{Instance, release_of}
 use Rattle.rank_order.specs.Order.{goes_before, is_before, key_by}
 use Rattle.rank_order.specs.Queue.{IsServedFirst}
@@ -38,14 +38,10 @@ by_deadline : (a b d e m n : ℕ) → n < m → e ≤ d → is_before (record { 
 by_deadline a b d e m n less le before = grind (arith, nat_tests)
 
 module _ (p : Plan) (i q : ℕ) (il : i < length p.diagram.tasks) (ql : q < length p.diagram.tasks) (higher : get_or p.diagram.ranks q 0 < get_or p.diagram.ranks i 0) where
-  rank_at : (j : ℕ) → j < length p.diagram.tasks → slice_get (ranks_of p.diagram.policy p.diagram.tasks) j ≡ Some (get_or p.diagram.ranks j 0)
-  rank_at j jl = subst (λ (l : List ℕ). slice_get (ranks_of p.diagram.policy p.diagram.tasks) j ≡ Some (get_or l j 0)) (sym p.rules.ranked.ranks)
-      (slice_get-get_or (ranks_of p.diagram.policy p.diagram.tasks) j 0 (omega (arith, jl, length-ranks_of p.diagram.policy p.diagram.tasks)))
-
   above : is_above p.diagram.policy (i, declared p i) (q, declared p q) ≡ true → ⊥
   above is =
       let less = above-lesser p.diagram.policy p.diagram.tasks i q (declared p i) (declared p q) (get_or p.diagram.ranks i 0) (get_or p.diagram.ranks q 0)
-      (slice_get-get_or p.diagram.tasks i no_declared il) (slice_get-get_or p.diagram.tasks q no_declared ql) (rank_at i il) (rank_at q ql) is in
+      (slice_get-get_or p.diagram.tasks i no_declared il) (slice_get-get_or p.diagram.tasks q no_declared ql) (kept-rank p.diagram i p.rules.ranked il) (kept-rank p.diagram q p.rules.ranked ql) is in
       omega (arith, less, higher)
 
   -- under earliest deadlines the higher rank has no greater deadline

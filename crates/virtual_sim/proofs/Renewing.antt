@@ -7,7 +7,7 @@ use Rattle.rank_order.specs.declared.ready.Ready.{Ready}
 use Rattle.dbp_plan.specs.Lookups.{declared}
 use Rattle.virtual_sim.specs.State.{Sets}
 use Rattle.rank_order.specs.Queue.{Holds, MadeFor}
-use Rattle.virtual_sim.specs.Runs.{is_in}
+use Rattle.dbp_plan.specs.Numbers.{is_in}
 
 -- after the first j tasks
 pub record Renewing (P : Plan) (tasks : List ℕ) (j time : ℕ) (rest rest' : List ℕ) (ready ready' : Ready) : Type 0 where

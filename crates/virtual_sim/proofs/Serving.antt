@@ -41,7 +41,8 @@ use Rattle.virtual_sim.specs.Budgets.{early_reads, step_bound}
 use Rattle.virtual_sim.specs.Events.{IsNextEvent}
 use Rattle.virtual_sim.specs.Record.{begin_events_at, events_so_far, service_events_of}
 use Rattle.virtual_sim.specs.Recordings.{IsRecorded, place_of, places_with}
-use Rattle.virtual_sim.specs.Runs.{IsRun, is_in}
+use Rattle.dbp_plan.specs.Numbers.{is_in}
+use Rattle.virtual_sim.specs.Runs.{IsRun}
 use Rattle.virtual_sim.specs.Simulations.{IsSimulation}
 use Rattle.virtual_sim.specs.State.{NoBatchBefore, Renewed, instance, release_count}
 use Rattle.virtual_sim.specs.declared.simulation.Simulation.{Simulation}

@@ -13,7 +13,8 @@ use Rattle.rank_order.specs.Ends.{IsOverrun}
 use Rattle.virtual_sim.specs.State.{Renewed, instance}
 use Rattle.rank_order.specs.Queue.{Holds, MadeFor}
 use Rattle.instance_steps.specs.Releases.{batch_at, no_batch}
-use Rattle.virtual_sim.specs.Runs.{IsRun, IsWorst, is_in}
+use Rattle.dbp_plan.specs.Numbers.{is_in}
+use Rattle.virtual_sim.specs.Runs.{IsRun, IsWorst}
 use Rattle.virtual_sim.proofs.PlanRules as rules
 use Rattle.rank_order.proofs.SomeService.{service_is}
 use Rattle.dbp_plan.proofs.TaskTimes.{more-named, more-other}

@@ -1,7 +1,7 @@
 -- What a running simulation keeps.
-use Rattle.std.specs.Prelude.{◌≡◌, ℕ, ◌+◌, ◌*◌, ◌<◌, ◌≤◌, ◌↔◌, ◌==◌, Bool, true, List, length, sum, slice_index}
-use Rattle.std.specs.List.{list_any}
+use Rattle.std.specs.Prelude.{◌≡◌, ℕ, ◌+◌, ◌*◌, ◌<◌, ◌≤◌, ◌↔◌, true, List, length, sum, slice_index}
 use Rattle.dbp_plan.specs.declared.plan.Plan.{Plan}
+use Rattle.dbp_plan.specs.Numbers.{is_in}
 use Rattle.rank_order.specs.declared.ready.Ready.{Ready}
 use Rattle.virtual_sim.specs.declared.run.Run.{Run}
 use Rattle.rank_order.specs.Instances.{release_of}
@@ -26,9 +26,6 @@ pub record IsRun (P : Plan) (r : Run) : Type 0 where
   pub ahead : NoBatchBefore P r.released r.time
   pub bounded : r.time + sum r.rest.items ≤ latest r.released
   pub below : r.released ≤ length P.batches
-
-abbrev pub is_in : List ℕ → ℕ → Bool
-is_in tasks i = list_any (λ j. j == i) tasks
 
 -- the highest-ranked of these tasks that need something
 pub record IsWorst (P : Plan) (tasks : List ℕ) (rest : List ℕ) (i : ℕ) : Type 0 where

@@ -23,7 +23,8 @@ impl Run {
     ghost use Rattle.rank_order.specs.Queue.{Holds, IsServedFirst};
     ghost use Rattle.instance_steps.specs.Releases.{batch_at};
     ghost use Rattle.virtual_sim.specs.State.{NoBatchBefore, Renewed};
-    ghost use Rattle.virtual_sim.specs.Runs.{IsRun, IsWorst, is_in};
+    ghost use Rattle.dbp_plan.specs.Numbers.{is_in};
+    ghost use Rattle.virtual_sim.specs.Runs.{IsRun, IsWorst};
 
     // Nothing is released yet.
     pub(crate) fn new(alloc: Global, plan: &Plan) -> Result<Run, NoMemory>

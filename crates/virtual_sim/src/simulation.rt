@@ -31,7 +31,7 @@ impl Simulation {
     ghost use Rattle.instance_steps.specs.TaskPieces.{place_after};
     ghost use Rattle.virtual_sim.specs.Record.{begin_events_at, events_so_far};
     ghost use Rattle.virtual_sim.specs.Recordings.{IsRecorded, places_with};
-    ghost use Rattle.virtual_sim.specs.Runs.{is_in};
+    ghost use Rattle.dbp_plan.specs.Numbers.{is_in};
     ghost use Rattle.virtual_sim.specs.Simulations.{IsSimulation};
     ghost use Rattle.virtual_sim.specs.State.{NoBatchBefore};
     ghost use Rattle.virtual_sim.specs.declared.outcome.SimFail.TheVariants.{NoMemory as OutOfMemory};

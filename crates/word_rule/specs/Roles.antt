@@ -5,7 +5,7 @@ use Rattle.dbp_plan.specs.declared.plan.Plan.{Plan}
 use Rattle.dbp_plan.specs.Lookups.{declared, no_read}
 use Rattle.dbp_slots.specs.TableWords.{TableWord}
 use Rattle.sync_meaning.specs.SomeMeaning.{meaning_of}
-use Rattle.sync_meaning.specs.SomeMeaningTables.{rows_in}
+use Rattle.dbp_plan.specs.Table.{table_row}
 use Rattle.dbp_rules.specs.LoadedWords.{loaded_in, loaded_word, number_of_releaser, number_of_task}
 use Rattle.dbp_rules.specs.PartyRules.{Loaded, is_stamp_of, loaded_number, read_order_in, releaser_after, releaser_refusal, task_after, task_refusal, turn_at}
 use Rattle.dbp_rules.specs.PartyShapes.{ReleaserLoads, ReleaserShape, TaskLoads, TaskPartShape}
@@ -28,7 +28,7 @@ run_wiring p = wiring_of p All
 
 -- the row of the task's instance, by the meaning of the plan; row 0 has the first values of its outs
 abbrev pub meaning_row : Plan → ℕ → ℕ → List ℤ
-meaning_row p i n = rows_in (meaning_of p) i n
+meaning_row p i n = table_row (meaning_of p) i n
 
 -- the task whose seat it is; none of the releaser's
 abbrev pub task_of : Role → Option ℕ

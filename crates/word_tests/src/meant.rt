@@ -1,14 +1,14 @@
 // The words of the meaning, by its table.
 
 ghost use Rattle.std.specs.Prelude.{◌≡◌, pos, slice_index_or, IfOk};
-ghost use Rattle.sync_meaning.specs.SomeMeaningTables.{rows_in};
+ghost use Rattle.dbp_plan.specs.Table.{table_row};
 
 use dbp_plan::Table;
 use std::test::Fail;
 
 // The word of the port in the task's row with this number.
 pub(crate) fn word_of(table: &Table, task: u32, number: u32, port: u32) -> Result<i64, Fail>
-    ensures { IfOk result (λ word. word ≡ slice_index_or (rows_in table.now task number) port (pos 0)) }
+    ensures { IfOk result (λ word. word ≡ slice_index_or (table_row table.now task number) port (pos 0)) }
 {
     let Some(rows) = table.tasks.items().get(task as usize) else {
         return Err(Fail::from("no such task"));

@@ -5,7 +5,8 @@ use Rattle.dbp_plan.specs.declared.node.Node.{Node}
 use Rattle.dbp_plan.specs.declared.node.Node.TheVariants.{Num}
 use Rattle.dbp_plan.specs.Tree.{HasTree}
 use Rattle.dbp_plan.specs.LetOrder.{VariablesBelow}
-use Rattle.expr_eval.proofs.Values.{items_tree, settled_more, last_settled, operands_at, operands-below, variable_at, some_nodes}
+use Rattle.dbp_plan.proofs.TreeNodes.{operands_of, operands_weaker}
+use Rattle.expr_eval.proofs.Values.{items_tree, settled_more, last_settled, variable_at, some_nodes}
 use Rattle.expr_eval.proofs.eval_in.Goals as goal
 use mir.Val.{to_z, of_z}
 
@@ -18,7 +19,7 @@ node_value-requires-clause-operands c =
     let tree : HasTree nodes = items_tree c.args.expr.now nodes c.items-nodes.ensures.value in
     let here = slice_get-get_or nodes c.loop-i.i (Num (pos 0)) c.loop-i-test.true in
     let within : c.loop-i.i ≤ length c.loop-i.values = omega (arith, ap length c.items-nodes.ensures.value) in
-    operands-below c.loop-i.i _ _ (operands_at nodes tree _ _ here) within
+    operands_weaker c.loop-i.i _ _ within (operands_of nodes tree.0 tree.1 _ _ here)
 
 pub node_value-requires-clause-variable : goal.node_value-requires-clause-variable
 node_value-requires-clause-variable c =

@@ -4,7 +4,7 @@ use Rattle.std.proofs.Math.Logic.{∥∥₁_elim}
 use Rattle.std.proofs.Props.{props}
 use Rattle.dbp_plan.specs.Occurrences.{times_of}
 use Rattle.sync_meaning.specs.SomeMeaning.{meaning_of}
-use Rattle.sync_meaning.specs.SomeMeaningTables.{rows_in}
+use Rattle.dbp_plan.specs.Table.{table_row}
 use Rattle.dbp_rules.specs.Places.{no_task, task as state_of}
 use Rattle.dbp_rules.specs.SoundParts.{last_shut}
 use Rattle.dbp_rules.specs.declared.state.TaskState.{TaskState}
@@ -19,8 +19,8 @@ returns-clause-meaning c = λ table meaning.
     let own : IsOwn core.plan.value core.wiring = subst (λ (x : Wiring). IsOwn core.plan.value x) (sym core.wired) (own_wiring core.plan.value core.wiring.count) in
     let below : c.args.task < length core.wiring.tasks = omega (arith, c.requires, core.shape.wiring.tasks) in
     let few : last_shut (state_of core.state c.args.task) ≤ length (times_of core.plan.value.batches c.args.task) =
-    ∥∥₁_elim core.sound (hlevel props) (λ sound. shut_few core.plan.value core.wiring (rows_in (meaning_of core.plan.value)) core.state c.args.task own sound below) in
-    let is : (state_of core.state c.args.task).work.row ≡ rows_in (meaning_of core.plan.value) c.args.task (last_shut (state_of core.state c.args.task)) =
+    ∥∥₁_elim core.sound (hlevel props) (λ sound. shut_few core.plan.value core.wiring (table_row (meaning_of core.plan.value)) core.state c.args.task own sound below) in
+    let is : (state_of core.state c.args.task).work.row ≡ table_row (meaning_of core.plan.value) c.args.task (last_shut (state_of core.state c.args.task)) =
     ∥∥₁_elim core.sound (hlevel props) (λ sound. (sound.tasks c.args.task below).row) in
     let same : c.items.result.now ≡ core.state.tasks = c.items.ensures.value in
     let row_is : c.row.result.now ≡ (state_of core.state c.args.task).work.row =

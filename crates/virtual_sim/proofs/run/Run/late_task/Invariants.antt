@@ -1,5 +1,6 @@
 use Rattle.std.proofs.Common.{ℕ, ◌≡◌, true, take, slice_index, MatchOption}
-use Rattle.virtual_sim.specs.Runs.{IsWorst, is_in}
+use Rattle.dbp_plan.specs.Numbers.{is_in}
+use Rattle.virtual_sim.specs.Runs.{IsWorst}
 use Rattle.virtual_sim.proofs.run.Run.late_task.Given as goal
 
 abbrev pub invariant-loop-task : goal.invariant-loop-task
