@@ -7,7 +7,7 @@ use Rattle.std.proofs.lemmas.Nat.Bits.{bit_at-trailing_zeros, bit_at-zero}
 use Rattle.std.proofs.lemmas.Option.{same_Some, slice_get-get_or}
 use Rattle.dbp_plan.specs.declared.plan.Plan.{Plan}
 use Rattle.dbp_plan.proofs.RankLaws.{rank-below, length-ranks}
-use Rattle.dbp_rules.specs.Places.{no_task, no_task_entry, task, task_entry, wired}
+use Rattle.dbp_rules.specs.Places.{no_task, no_task_entry, task, task_entry, wired_task}
 use Rattle.dbp_rules.specs.Rules as rule
 use Rattle.dbp_rules.specs.Shapes.{IsShape, IsWired}
 use Rattle.dbp_rules.specs.Start.{start_of}
@@ -55,13 +55,13 @@ some_below n rank few below fits = elim (cases_eq n 0) [
 -- ---- tasks that block a step
 
 -- without a rank above there is no task that blocks
-pub none_blocks : (w : Wiring) (s : State) (m : RankMask) (i : ℕ) → HasUnfinished w s m → ((r : ℕ) → r < (wired w i).rank → has_rank m r ≡ false) → (n : ℕ) → n ≤ length w.tasks → rule.highest w (rule.blocks w s i) n ≡ None
+pub none_blocks : (w : Wiring) (s : State) (m : RankMask) (i : ℕ) → HasUnfinished w s m → ((r : ℕ) → r < (wired_task w i).rank → has_rank m r ≡ false) → (n : ℕ) → n ≤ length w.tasks → rule.highest w (rule.blocks w s i) n ≡ None
 none_blocks w s m i marked none zero few = refl
 none_blocks w s m i marked none (suc n) few =
     let rest : rule.highest w (rule.blocks w s i) n ≡ None = none_blocks w s m i marked none n (omega arith) in
-    let free : rule.blocks w s i n ≡ false = elim (cases_Bool (nat_lt (wired w n).rank (wired w i).rank)) [
+    let free : rule.blocks w s i n ≡ false = elim (cases_Bool (nat_lt (wired_task w n).rank (wired_task w i).rank)) [
       | inl above ↦
-          let ended : is_unfinished s n ≡ false = sym (marked n (omega arith)) ∙ none (wired w n).rank (ltb-true (wired w n).rank (wired w i).rank above) in
+          let ended : is_unfinished s n ≡ false = sym (marked n (omega arith)) ∙ none (wired_task w n).rank (ltb-true (wired_task w n).rank (wired_task w i).rank above) in
           rw (above, ended) refl
       | inr below ↦ rw below refl
     ] in
@@ -141,7 +141,7 @@ pub start_unfinished : (p : Plan) (w : Wiring) (m : RankMask) → IsWired p w �
 start_unfinished p w m whole empty i below =
     let shape : IsShape p w (start_of p w) = start_shape p w whole in
     let none : (task_entry (start_of p w) i).aimed ≡ 0 = shape.aimed i below in
-    empty (wired w i).rank ∙ sym (never (task (start_of p w) i).part.ended (task_entry (start_of p w) i).aimed none)
+    empty (wired_task w i).rank ∙ sym (never (task (start_of p w) i).part.ended (task_entry (start_of p w) i).aimed none)
   where
     never : (ended aimed : ℕ) → aimed ≡ 0 → nat_lt ended aimed ≡ false
     never ended aimed none = elim (cases_Bool (nat_lt ended aimed)) [

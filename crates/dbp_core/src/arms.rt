@@ -2,7 +2,7 @@
 
 ghost use Rattle.std.specs.Prelude.{◌≡◌, ◌+◌, ◌<◌, ◌^◌, length};
 ghost use Rattle.dbp_rules.specs.PartyRules.{task_refusal};
-ghost use Rattle.dbp_rules.specs.Places.{task, wired};
+ghost use Rattle.dbp_rules.specs.Places.{task, wired_task};
 ghost use Rattle.dbp_rules.specs.Rules as rule;
 ghost use Rattle.dbp_rules.specs.Rules.{IsNamed, IsStep};
 ghost use Rattle.dbp_rules.specs.Shapes.{IsShape, PlaceIn};
@@ -27,7 +27,7 @@ fn ranked_refusal(
     requires wired { i < length wiring.now.tasks }
     requires tasks { length state.now.tasks ≡ length wiring.now.tasks }
     requires entries { length state.now.releaser.tasks ≡ length wiring.now.tasks }
-    requires place { PlaceIn (wired wiring.now i) (task state.now i).part.place }
+    requires place { PlaceIn (wired_task wiring.now i) (task state.now i).part.place }
     requires ranks { HasUnfinished wiring.now state.now unfinished }
     ensures { result ≡ rule.ranked_refusal wiring.now state.now i step }
 {
@@ -41,8 +41,8 @@ fn ranked_refusal(
 fn not_next(wiring: &Wiring, state: &State, i: u32, step: Step) -> Option<Illegal>
     requires wired { i < length wiring.now.tasks }
     requires tasks { i < length state.now.tasks }
-    requires place { PlaceIn (wired wiring.now i) (task state.now i).part.place }
-    ensures { result ≡ task_refusal (wired wiring.now i) (task state.now i).part step }
+    requires place { PlaceIn (wired_task wiring.now i) (task state.now i).part.place }
+    ensures { result ≡ task_refusal (wired_task wiring.now i) (task state.now i).part step }
 {
     task_at(state, i).part.refusal(wired_at(wiring, i), step)
 }
@@ -52,7 +52,7 @@ fn start_refusal(wiring: &Wiring, state: &State, unfinished: RankMask, i: u32) -
     requires wired { i < length wiring.now.tasks }
     requires tasks { length state.now.tasks ≡ length wiring.now.tasks }
     requires entries { length state.now.releaser.tasks ≡ length wiring.now.tasks }
-    requires place { PlaceIn (wired wiring.now i) (task state.now i).part.place }
+    requires place { PlaceIn (wired_task wiring.now i) (task state.now i).part.place }
     requires ended { (task state.now i).part.ended + 1 < 2 ^ 32 }
     requires ranks { HasUnfinished wiring.now state.now unfinished }
     ensures { result ≡ rule.refusal wiring.now state.now (Step.Start i) }

@@ -15,7 +15,7 @@ pub(crate) struct RankMask {
 
 impl RankMask {
     ghost use Rattle.std.specs.Prelude.{◌≡◌, ◌≢◌, ◌<◌, ◌≤◌, ℕ, Some, true, false, length};
-    ghost use Rattle.dbp_rules.specs.Places.{wired};
+    ghost use Rattle.dbp_rules.specs.Places.{wired_task};
     ghost use Rattle.dbp_core.specs.Unfinished.{HasRanks, HasUnfinished, has_rank, is_unfinished, recounted_task};
 
     /// No rank.
@@ -55,7 +55,7 @@ impl RankMask {
         requires tasks { length state.now.tasks ≡ length wiring.now.tasks }
         requires entries { length state.now.releaser.tasks ≡ length wiring.now.tasks }
         requires named { (i : ℕ) → recounted_task step ≡ Some i → i < length wiring.now.tasks }
-        requires others { (j : ℕ) → j < length wiring.now.tasks → recounted_task step ≢ Some j → has_rank self.old (wired wiring.now j).rank ≡ is_unfinished state.now j }
+        requires others { (j : ℕ) → j < length wiring.now.tasks → recounted_task step ≢ Some j → has_rank self.old (wired_task wiring.now j).rank ≡ is_unfinished state.now j }
         ensures { HasUnfinished wiring.now state.now self.new }
     {
         if let Some(task) = recounted_task(step) {

@@ -3,9 +3,9 @@
 ghost use Rattle.std.specs.Prelude.{◌≡◌, ◌+◌, ◌-◌, ◌<◌, ◌≤◌, ◌^◌, ℕ, length, map, pos, slice_index, slice_index_or, if◌then◌else◌};
 ghost use Rattle.dbp_plan.specs.Closed.{IsClosedTask, place_count};
 ghost use Rattle.dbp_plan.specs.Samples.{input_value};
-ghost use Rattle.dbp_plan.specs.Lookups.{declared};
+ghost use Rattle.dbp_plan.specs.Lookups.{declared_task};
 ghost use Rattle.dbp_rules.specs.Moves as move;
-ghost use Rattle.dbp_rules.specs.Places.{link, order, read_at, slot_at, task, wired};
+ghost use Rattle.dbp_rules.specs.Places.{link, order, read_at, slot_at, task, wired_task};
 ghost use Rattle.dbp_rules.specs.Rules as rule;
 ghost use Rattle.dbp_rules.specs.Rules.{with_part, with_task};
 ghost use Rattle.dbp_rules.specs.Shapes.{HasSamples};
@@ -38,8 +38,8 @@ pub(crate) fn start(state: &mut State, i: u32)
 pub(crate) fn order_word(wiring: &Wiring, state: &State, i: u32, n: u32) -> Order
     requires wired { i < length wiring.now.tasks }
     requires task { i < length state.now.tasks }
-    requires links { n ≤ length (wired wiring.now i).links }
-    requires orders { (j : ℕ) → j < length (wired wiring.now i).links → slice_index (wired wiring.now i).links j < length state.now.orders }
+    requires links { n ≤ length (wired_task wiring.now i).links }
+    requires orders { (j : ℕ) → j < length (wired_task wiring.now i).links → slice_index (wired_task wiring.now i).links j < length state.now.orders }
     ensures { result ≡ rule.order_word wiring.now state.now i n }
 {
     if n == 0 {
@@ -54,13 +54,13 @@ pub(crate) fn hear(wiring: &Wiring, state: &mut State, i: u32, n: u32) -> Order
     requires wired { i < length wiring.now.tasks }
     requires task { i < length state.old.tasks }
     requires at { rule.hears_at (task state.old i).part.place ≡ n }
-    requires links { n ≤ length (wired wiring.now i).links }
-    requires orders { (j : ℕ) → j < length (wired wiring.now i).links → slice_index (wired wiring.now i).links j < length state.old.orders }
+    requires links { n ≤ length (wired_task wiring.now i).links }
+    requires orders { (j : ℕ) → j < length (wired_task wiring.now i).links → slice_index (wired_task wiring.now i).links j < length state.old.orders }
     requires room { length (task state.old i).part.heard.items < 17 }
-    requires few { 1 + length (wired wiring.now i).links < 2 ^ 32 }
+    requires few { 1 + length (wired_task wiring.now i).links < 2 ^ 32 }
     requires small { n + 1 < 2 ^ 32 }
     ensures order { result ≡ rule.order_word wiring.now state.old i n }
-    ensures next { state.new ≡ with_part state.old i (move.after_hear (wired wiring.now i) (task state.old i).part n (rule.order_word wiring.now state.old i n)) }
+    ensures next { state.new ≡ with_part state.old i (move.after_hear (wired_task wiring.now i) (task state.old i).part n (rule.order_word wiring.now state.old i n)) }
 {
     let order = order_word(wiring, state, i, n);
     let task = &mut state.tasks.items_mut()[i as usize];
@@ -73,10 +73,10 @@ pub(crate) fn read_slot<'a>(wiring: &Wiring, state: &'a State, i: u32, n: u32) -
     requires wired { i < length wiring.now.tasks }
     requires task { i < length state.now.tasks }
     requires at { rule.turn_at (task state.now i).part.place ≡ n }
-    requires read { n < length (wired wiring.now i).reads }
-    requires heard { (read_at (wired wiring.now i) n).order < length (task state.now i).part.heard.items }
-    requires writer { (read_at (wired wiring.now i) n).writer < length state.now.tasks }
-    requires slot { (rule.read_order wiring.now state.now i n).slot < length (task state.now (read_at (wired wiring.now i) n).writer).words.slots }
+    requires read { n < length (wired_task wiring.now i).reads }
+    requires heard { (read_at (wired_task wiring.now i) n).order < length (task state.now i).part.heard.items }
+    requires writer { (read_at (wired_task wiring.now i) n).writer < length state.now.tasks }
+    requires slot { (rule.read_order wiring.now state.now i n).slot < length (task state.now (read_at (wired_task wiring.now i) n).writer).words.slots }
     ensures { result.now ≡ rule.read_slot wiring.now state.now i n }
 {
     let read = wired_at(wiring, i).reads.items()[n as usize];
@@ -88,11 +88,11 @@ pub(crate) fn read_word(wiring: &Wiring, state: &State, i: u32, n: u32) -> i64
     requires wired { i < length wiring.now.tasks }
     requires task { i < length state.now.tasks }
     requires at { rule.turn_at (task state.now i).part.place ≡ n }
-    requires read { n < length (wired wiring.now i).reads }
-    requires heard { (read_at (wired wiring.now i) n).order < length (task state.now i).part.heard.items }
-    requires writer { (read_at (wired wiring.now i) n).writer < length state.now.tasks }
-    requires slot { (rule.read_order wiring.now state.now i n).slot < length (task state.now (read_at (wired wiring.now i) n).writer).words.slots }
-    requires port { (read_at (wired wiring.now i) n).port < length (rule.read_slot wiring.now state.now i n).words }
+    requires read { n < length (wired_task wiring.now i).reads }
+    requires heard { (read_at (wired_task wiring.now i) n).order < length (task state.now i).part.heard.items }
+    requires writer { (read_at (wired_task wiring.now i) n).writer < length state.now.tasks }
+    requires slot { (rule.read_order wiring.now state.now i n).slot < length (task state.now (read_at (wired_task wiring.now i) n).writer).words.slots }
+    requires port { (read_at (wired_task wiring.now i) n).port < length (rule.read_slot wiring.now state.now i n).words }
     ensures { result ≡ rule.read_word wiring.now state.now i n }
 {
     let port = wired_at(wiring, i).reads.items()[n as usize].port;
@@ -104,10 +104,10 @@ pub(crate) fn look(wiring: &Wiring, state: &mut State, i: u32, n: u32) -> bool
     requires wired { i < length wiring.now.tasks }
     requires task { i < length state.old.tasks }
     requires at { rule.turn_at (task state.old i).part.place ≡ n }
-    requires read { n < length (wired wiring.now i).reads }
-    requires heard { (read_at (wired wiring.now i) n).order < length (task state.old i).part.heard.items }
-    requires writer { (read_at (wired wiring.now i) n).writer < length state.old.tasks }
-    requires slot { (rule.read_order wiring.now state.old i n).slot < length (task state.old (read_at (wired wiring.now i) n).writer).words.slots }
+    requires read { n < length (wired_task wiring.now i).reads }
+    requires heard { (read_at (wired_task wiring.now i) n).order < length (task state.old i).part.heard.items }
+    requires writer { (read_at (wired_task wiring.now i) n).writer < length state.old.tasks }
+    requires slot { (rule.read_order wiring.now state.old i n).slot < length (task state.old (read_at (wired_task wiring.now i) n).writer).words.slots }
     requires number { (rule.read_order wiring.now state.old i n).number + 1 < 2 ^ 32 }
     ensures ready { result ≡ rule.is_ready wiring.now state.old i n }
     ensures next { state.new ≡ with_part state.old i (move.after_look (task state.old i).part n (rule.is_ready wiring.now state.old i n)) }
@@ -124,7 +124,7 @@ pub(crate) fn take(wiring: &Wiring, state: &mut State, i: u32, n: u32, kept: usi
     requires at { rule.turn_at (task state.old i).part.place ≡ n }
     requires kept { kept < length (task state.old i).work.now }
     requires small { n + 1 < 2 ^ 32 }
-    ensures { state.new ≡ with_task state.old i (record { words = (task state.old i).words; part = move.after_take (wired wiring.now i) (task state.old i).part n; work = move.with_now (task state.old i).work kept word }) }
+    ensures { state.new ≡ with_task state.old i (record { words = (task state.old i).words; part = move.after_take (wired_task wiring.now i) (task state.old i).part n; work = move.with_now (task state.old i).work kept word }) }
 {
     let task = &mut state.tasks.items_mut()[i as usize];
     task.work.set(kept, word);
@@ -141,7 +141,7 @@ pub(crate) fn put(wiring: &Wiring, state: &mut State, i: u32, port: u32)
     requires small { port + 1 < 2 ^ 32 }
     ensures { state.new ≡ with_task state.old i (record {
       words = move.with_word (task state.old i).words (move.own_slot (task state.old i).part) port (slice_index_or (task state.old i).work.row port (pos 0));
-      part = move.at_place (task state.old i).part (move.put_place (wired wiring.now i).ports (port + 1));
+      part = move.at_place (task state.old i).part (move.put_place (wired_task wiring.now i).ports (port + 1));
       work = (task state.old i).work;
     }) }
 {
@@ -192,16 +192,16 @@ pub(crate) fn shut(plan: &Plan, wiring: &Wiring, state: &mut State, i: u32)
     requires task { i < length state.old.tasks }
     requires wired { i < length wiring.now.tasks }
     requires declared { i < length plan.now.diagram.tasks }
-    requires closed { IsClosedTask (length plan.now.diagram.inputs) (length plan.now.diagram.events) (length plan.now.diagram.links) (declared plan.now i) }
+    requires closed { IsClosedTask (length plan.now.diagram.inputs) (length plan.now.diagram.events) (length plan.now.diagram.links) (declared_task plan.now i) }
     requires samples { HasSamples plan.now wiring.now.samples }
     requires heard { 0 < length (task state.old i).part.heard.items }
     requires slot { move.own_slot (task state.old i).part < length (task state.old i).words.slots }
-    requires now { length (task state.old i).work.now ≡ place_count (declared plan.now i) }
-    requires later { length (task state.old i).work.later ≡ length (declared plan.now i).states }
+    requires now { length (task state.old i).work.now ≡ place_count (declared_task plan.now i) }
+    requires later { length (task state.old i).work.later ≡ length (declared_task plan.now i).states }
     ensures { state.new ≡ with_task state.old i (record {
       words = move.with_stamp (task state.old i).words (move.own_slot (task state.old i).part) 0;
       part = move.at_place (task state.old i).part (place.Put 0);
-      work = move.after_compute (declared plan.now i) (rule.sense_values plan.now wiring.now state.old i) (task state.old i).work;
+      work = move.after_compute (declared_task plan.now i) (rule.sense_values plan.now wiring.now state.old i) (task state.old i).work;
     }) }
 {
     let time = own_time(wiring, state, i);

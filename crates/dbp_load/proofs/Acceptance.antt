@@ -20,7 +20,7 @@ use Rattle.dia_check.specs.Checks.{IsCheckedOf}
 use Rattle.dia_check.specs.Diagrams.{task_of, IsDiagramOf}
 use Rattle.dia_lines.specs.declared.item.RawClock.TheVariants as raw_clock
 use Rattle.dia_check.specs.Faults.{decl_fault, line_faults, task_faults, HasNoShapeFault, IsWhole}
-use Rattle.dbp_plan.specs.FirstFault.{faults_behind}
+use Rattle.dbp_plan.specs.FirstFault.{faults_after}
 use Rattle.dia_check.specs.RankFaults.{ranked_diagram, HasNoRankFault}
 use Rattle.dia_check.specs.Shapes.{read_lines_of, IsShapeOf}
 use Rattle.dia_check.specs.declared.shaped.Shaped.{Shaped}
@@ -39,9 +39,9 @@ use Rattle.trace_io.specs.Traces.{clocks_of, events_of, columns_of, rows_of, IsT
 use Rattle.trace_io.proofs.Plans.{clocks_fit, plan_from}
 use Rattle.trace_io.proofs.Timetables.{events-count, named-samples, rising-samples, timetable}
 use Rattle.trace_io.proofs.TraceFaults.{columns-are, no-fault, rows-are, whole-section}
-use Rattle.dbp_load.specs.Bodies.{early_count, few_early, generated, has_late, trace_row, trace_text, words_before}
+use Rattle.dbp_load.specs.Bodies.{early_count, few_early, generated_body, has_late, trace_row, trace_text, words_before}
 use Rattle.dbp_load.specs.Draws.{after_draw, after_draws, drawn}
-use Rattle.dbp_load.specs.Listed.{listed}
+use Rattle.dbp_load.specs.Listed.{first_items}
 use Rattle.dbp_load.proofs.FaultlessLines.{fine-faults, tasks-fine, IsFineTask}
 use Rattle.dbp_load.proofs.GeneratedBodies.{printable}
 use Rattle.dbp_load.proofs.GeneratedDiagrams.{diagram_of, is-diagram, no-rank-faults, whole}
@@ -54,7 +54,7 @@ use Rattle.dbp_load.proofs.Schedules.{some-batches}
 
 module _ (seed size : ℕ) (some : 1 ≤ size) (few : size ≤ 32) where
   abbrev body : Body
-  body = generated seed size
+  body = generated_body seed size
 
   abbrev draws : ℕ → ℕ
   draws i = after_draws (words_before i) seed
@@ -67,7 +67,7 @@ module _ (seed size : ℕ) (some : 1 ≤ size) (few : size ≤ 32) where
   task-fine : (i : ℕ) (t : RawTask) → slice_get body.tasks i ≡ Some t → IsFineTask body ([] ++ take i body.tasks) t
   task-fine i t at =
       let is = listed-item task size i t at in
-      let front : [] ++ take i body.tasks ≡ listed task i = take-listed task size i (omega (arith, is.0)) in
+      let front : [] ++ take i body.tasks ≡ first_items task i = take-listed task size i (omega (arith, is.0)) in
       let new = new-name draws size few i is.0 in
       subst (λ u. IsFineTask body ([] ++ take i body.tasks) u) (sym is.1)
       (subst (λ before. IsFineTask body before (task i)) (sym front) (
@@ -81,7 +81,7 @@ module _ (seed size : ℕ) (some : 1 ≤ size) (few : size ≤ 32) where
 
     faultless : first_fault (line_faults doc) ≡ None
     faultless =
-        first-append (faults_behind decl_fault [] body.decls lines.decls) (task_faults body [] body.tasks lines.tasks lines.parts) (fine-faults decl_fault [] body.decls lines.decls (refl, tt))
+        first-append (faults_after decl_fault [] body.decls lines.decls) (task_faults body [] body.tasks lines.tasks lines.parts) (fine-faults decl_fault [] body.decls lines.decls (refl, tt))
         ∙ tasks-fine body [] body.tasks lines.tasks lines.parts task-fine
 
     none : HasNoShapeFault doc
@@ -116,12 +116,12 @@ module _ (seed size : ℕ) (some : 1 ≤ size) (few : size ≤ 32) where
 
     -- ---- the trace
 
-    abbrev can : CanWrite (500 * size) the_inputs [] the_columns (listed (trace_row size) 10)
+    abbrev can : CanWrite (500 * size) the_inputs [] the_columns (first_items (trace_row size) 10)
     can = can-write size 10 some few (omega arith)
 
     trace : IsTraceOf doc diagram (events_of doc diagram) (samples_of (columns_of doc) (rows_of doc) diagram.inputs)
     trace =
-        let rows = listed (trace_row size) 10 in
+        let rows = first_items (trace_row size) 10 in
         let records = section-records (map (kind_of_column the_inputs) the_columns) the_columns rows can.names (each-row (500 * size) the_inputs [] the_columns rows can) in
         let good = header-is (500 * size) the_inputs [] the_columns rows can in
         let columns = columns-are doc diagram (trace_text size) (codes "time" ∷ the_columns) (map written_cells rows) refl records in
@@ -135,9 +135,9 @@ module _ (seed size : ℕ) (some : 1 ≤ size) (few : size ≤ 32) where
     few-occurrences : total_of diagram.until (events_of doc diagram) (clocks_of diagram) ≤ MAX_OCCURRENCES
     few-occurrences =
         let one : ℕ → Task = λ i. task_of body i (task i) [] in
-        let clocks : clocks_of diagram ≡ listed (λ i. (one i).clock) size = map-listed (λ (t : Task). t.clock) one size in
+        let clocks : clocks_of diagram ≡ first_items (λ i. (one i).clock) size = map-listed (λ (t : Task). t.clock) one size in
         let each = sum-listed (λ i. (one i).clock) (count_of diagram.until (events_of doc diagram)) 500 size (λ i inside. few-times size (size + drawn size (draws i)) (events_of doc diagram) some (omega arith)) in
-        let same : total_of diagram.until (events_of doc diagram) (clocks_of diagram) ≡ sum_by (count_of diagram.until (events_of doc diagram)) (listed (λ i. (one i).clock) size) =
+        let same : total_of diagram.until (events_of doc diagram) (clocks_of diagram) ≡ sum_by (count_of diagram.until (events_of doc diagram)) (first_items (λ i. (one i).clock) size) =
         ap (λ cs. sum_by (count_of diagram.until (events_of doc diagram)) cs) clocks in
         omega (arith, same, each)
 

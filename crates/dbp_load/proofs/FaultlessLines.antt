@@ -2,7 +2,7 @@
 use Rattle.std.proofs.Common.{◌≡◌, ℕ, suc, List, [], ◌∷◌, ◌++◌, length, map, take, drop, slice_get, Option, Some, None, refl, sym, ◌∙◌, subst}
 use Rattle.std.specs.Option.{option_and_then}
 use Rattle.std.proofs.lemmas.List.{append-nil, append_assoc}
-use Rattle.dbp_plan.specs.FirstFault.{faults_behind, first_fault}
+use Rattle.dbp_plan.specs.FirstFault.{faults_after, first_fault}
 use Rattle.dbp_plan.proofs.FirstFaults.{first-append}
 use Rattle.dia_read.specs.declared.document.Body.{Body}
 use Rattle.dia_read.specs.declared.document.RawTask.{RawTask}
@@ -17,19 +17,19 @@ cons-fine : {F : Type 0} (n : ℕ) (o : Option F) (rest : List (ℕ × Option F)
 cons-fine n None rest none fine = fine
 cons-fine n (Some fault) rest none fine = absurd cc
 
-pub fine-faults : {A F : Type 0} (fault : List A → A → Option F) (before xs : List A) (ns : List ℕ) → AreFine fault before xs → first_fault (faults_behind fault before xs ns) ≡ None
+pub fine-faults : {A F : Type 0} (fault : List A → A → Option F) (before xs : List A) (ns : List ℕ) → AreFine fault before xs → first_fault (faults_after fault before xs ns) ≡ None
 fine-faults fault before [] ns fine = refl
 fine-faults fault before (x ∷ xs) [] fine = refl
 fine-faults fault before (x ∷ xs) (n ∷ ns) fine =
-    cons-fine n (fault before x) (faults_behind fault (before ++ x ∷ []) xs ns) fine.0 (fine-faults fault (before ++ x ∷ []) xs ns fine.1)
+    cons-fine n (fault before x) (faults_after fault (before ++ x ∷ []) xs ns) fine.0 (fine-faults fault (before ++ x ∷ []) xs ns fine.1)
 
 -- items whose faults don't depend on those before them
 pub each-fine : {A F : Type 0} (fault : A → Option F) (before xs : List A) (ns : List ℕ) → ((i : ℕ) (x : A) → slice_get xs i ≡ Some x → fault x ≡ None)
-    → first_fault (faults_behind (λ others x. fault x) before xs ns) ≡ None
+    → first_fault (faults_after (λ others x. fault x) before xs ns) ≡ None
 each-fine fault before [] ns each = refl
 each-fine fault before (x ∷ xs) [] each = refl
 each-fine fault before (x ∷ xs) (n ∷ ns) each =
-    cons-fine n (fault x) (faults_behind (λ others y. fault y) (before ++ x ∷ []) xs ns) (each 0 x refl)
+    cons-fine n (fault x) (faults_after (λ others y. fault y) (before ++ x ∷ []) xs ns) (each 0 x refl)
     (each-fine fault (before ++ x ∷ []) xs ns (λ i y at. each (suc i) y at))
 
 pub map-fine : {A F : Type 0} (line : A → ℕ) (fault : A → Option F) (xs : List A) → ((x : A) → fault x ≡ None) → first_fault (map (λ x. (line x, fault x)) xs) ≡ None
@@ -50,7 +50,7 @@ tasks-fine body before [] ns parts each = refl
 tasks-fine body before (t ∷ ts) [] parts each = refl
 tasks-fine body before (t ∷ ts) (n ∷ ns) parts each =
     let this : IsFineTask body before t = subst (λ front. IsFineTask body front t) (append-nil before) (each 0 t refl) in
-    let body_lines = faults_behind (part_fault body t) [] t.parts parts in
+    let body_lines = faults_after (part_fault body t) [] t.parts parts in
     let others = task_faults body (before ++ t ∷ []) ts ns (drop (length t.parts) parts) in
     let rest : first_fault others ≡ None =
     tasks-fine body (before ++ t ∷ []) ts ns (drop (length t.parts) parts)

@@ -9,9 +9,9 @@ use Rattle.dia_read.specs.Printable.{is_read_part, IsPrintable, IsPrintableDecl,
 use Rattle.trace_rows.specs.Headers.{kind_of_column}
 use Rattle.trace_rows.proofs.WrittenRows.{each-row}
 use Rattle.trace_rows.proofs.WrittenText.{section-kept}
-use Rattle.dbp_load.specs.Bodies.{early_count, few_early, generated, generated_task, has_late, trace_row, trace_text, words_before}
+use Rattle.dbp_load.specs.Bodies.{early_count, few_early, generated_body, generated_task, has_late, trace_row, trace_text, words_before}
 use Rattle.dbp_load.specs.Draws.{after_draw, after_draws}
-use Rattle.dbp_load.specs.Listed.{listed}
+use Rattle.dbp_load.specs.Listed.{first_items}
 use Rattle.dbp_load.proofs.DrawLaws.{drawn-below}
 use Rattle.dbp_load.proofs.GeneratedParts.{few-lines, parts-print}
 use Rattle.dbp_load.proofs.GeneratedTraces.{can-write, the_columns, the_inputs}
@@ -39,11 +39,11 @@ task-printable size draws i few inside =
 
 trace-kept : (size : ℕ) → 1 ≤ size → size ≤ 32 → KeepsItself SaysInTrace row (trace_text size)
 trace-kept size some few =
-    let rows = listed (trace_row size) 10 in
+    let rows = first_items (trace_row size) 10 in
     let can = can-write size 10 some few (omega arith) in
     section-kept (map (kind_of_column the_inputs) the_columns) the_columns rows can.names (each-row (500 * size) the_inputs [] the_columns rows can)
 
-pub printable : (seed size : ℕ) → 1 ≤ size → size ≤ 32 → IsPrintable (generated seed size)
+pub printable : (seed size : ℕ) → 1 ≤ size → size ≤ 32 → IsPrintable (generated_body seed size)
 printable seed size some few =
     let draws : ℕ → ℕ = λ i. after_draws (words_before i) seed in
     let task : ℕ → RawTask = λ i. generated_task size (draws i) i in

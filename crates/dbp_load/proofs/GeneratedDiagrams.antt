@@ -30,7 +30,7 @@ use Rattle.dia_check.proofs.NoOuts.{no-cycle}
 use Rattle.dia_check.proofs.RankLaws.{no-rank-fault}
 use Rattle.dbp_load.specs.Bodies.{parts_of, task_name, early_count, generated_task, has_late, few_early}
 use Rattle.dbp_load.specs.Draws.{after_draw, drawn, after_draws}
-use Rattle.dbp_load.specs.Listed.{listed}
+use Rattle.dbp_load.specs.Listed.{first_items}
 use Rattle.dbp_load.proofs.DrawLaws.{drawn-below}
 use Rattle.dbp_load.proofs.FaultlessLines.{each-fine, map-fine, then-fine}
 use Rattle.dbp_load.proofs.GeneratedParts.{by-reads}
@@ -47,7 +47,7 @@ no-order base = record {
     size = refl;
     named = λ k d below. absurd (omega arith);
     once = λ i j d less below. absurd (omega arith);
-    behind = λ p i k v l at. absurd (none-some i at);
+    after = λ p i k v l at. absurd (none-some i at);
   };
   earliest = λ p next i at. absurd (none-some next at);
 }
@@ -73,7 +73,7 @@ diagram_of body tasks size = record {
   until = body.until;
   inputs = flat_map input_of body.decls;
   events = flat_map event_name body.decls;
-  tasks = listed (λ i. task_of body i (tasks i) []) size;
+  tasks = first_items (λ i. task_of body i (tasks i) []) size;
   links = links_of body.tasks;
   ranks = [];
 }
@@ -87,7 +87,7 @@ one-task-of body i u raw t none is_raw is_t =
       order = subst (λ ls. IsFrontOrder (let_base t) ls t.order) (sym lets) (subst (λ o. IsFrontOrder (let_base t) [] o) (sym order) (no-order (let_base t)));
     }
 
-pub is-diagram : (body : Body) (tasks : ℕ → RawTask) (size : ℕ) → body.tasks ≡ listed tasks size → ((i : ℕ) → lets_of (tasks i) ≡ []) → IsDiagramOf body (diagram_of body tasks size)
+pub is-diagram : (body : Body) (tasks : ℕ → RawTask) (size : ℕ) → body.tasks ≡ first_items tasks size → ((i : ℕ) → lets_of (tasks i) ≡ []) → IsDiagramOf body (diagram_of body tasks size)
 is-diagram body tasks size are none = record {
   policy = refl;
   until = refl;
@@ -138,7 +138,7 @@ module _ (P : Link → Type 0) (tasks : List RawTask) (size draws i : ℕ) (insi
       (λ few fits. All-from_recursion P (flat_map (link_of tasks i) (parts_of size draws i 3 true few)) (early 0 (omega arith), (early 1 (omega arith), (early 2 (omega arith), (late 3, tt)))))
       (λ few fits. All-from_recursion P (flat_map (link_of tasks i) (parts_of size draws i 3 false few)) (early 0 (omega arith), (early 1 (omega arith), (early 2 (omega arith), tt))))
 
-module _ (body : Body) (draws : ℕ → ℕ) (size : ℕ) (few_tasks : size ≤ 32) (are : body.tasks ≡ listed (task_at draws size few_tasks) size) (policy : body.policy ≡ Fp) where
+module _ (body : Body) (draws : ℕ → ℕ) (size : ℕ) (few_tasks : size ≤ 32) (are : body.tasks ≡ first_items (task_at draws size few_tasks) size) (policy : body.policy ≡ Fp) where
   abbrev at : ℕ → RawTask
   at = task_at draws size few_tasks
 
@@ -146,23 +146,23 @@ module _ (body : Body) (draws : ℕ → ℕ) (size : ℕ) (few_tasks : size ≤ 
   diagram = diagram_of body at size
 
   abbrev ranks : List ℕ
-  ranks = ranks_of Fp (listed (λ i. task_of body i (at i) []) size)
+  ranks = ranks_of Fp (first_items (λ i. task_of body i (at i) []) size)
 
   -- the number of a task by its name
   index : (x : ℕ) → x < size → index_of (task_names body.tasks) (task_name x) ≡ x
   index x inside =
-      let names : task_names body.tasks ≡ listed task_name size = ap (map (λ (t : RawTask). t.name)) are ∙ map-listed (λ (t : RawTask). t.name) at size in
-      let among : is_among (listed task_name size) (task_name x) ≡ true = some-listed (λ m. bytes_eq m (task_name x)) task_name size x inside (same-task x) in
-      let k : ℕ = index_of (listed task_name size) (task_name x) in
-      let below : k < size = omega (arith, index-below (listed task_name size) (task_name x) among, length-listed task_name size) in
+      let names : task_names body.tasks ≡ first_items task_name size = ap (map (λ (t : RawTask). t.name)) are ∙ map-listed (λ (t : RawTask). t.name) at size in
+      let among : is_among (first_items task_name size) (task_name x) ≡ true = some-listed (λ m. bytes_eq m (task_name x)) task_name size x inside (same-task x) in
+      let k : ℕ = index_of (first_items task_name size) (task_name x) in
+      let below : k < size = omega (arith, index-below (first_items task_name size) (task_name x) among, length-listed task_name size) in
       let named : task_name k ≡ task_name x =
-      sym (get_or_from_slice_get (listed task_name size) k (task_name k) [] (listed-at task_name size k below)) ∙ name-at-index (listed task_name size) (task_name x) among in
+      sym (get_or_from_slice_get (first_items task_name size) k (task_name k) [] (listed-at task_name size k below)) ∙ name-at-index (first_items task_name size) (task_name x) among in
       ap (λ ns. index_of ns (task_name x)) names ∙ one-task k x (omega arith) (omega arith) named
 
   -- a task before another is above it
   above : (x i : ℕ) → x < i → i < size → slice_index ranks x < slice_index ranks i
   above x i less inside =
-      let tasks : List Task = listed (λ k. task_of body k (at k) []) size in
+      let tasks : List Task = first_items (λ k. task_of body k (at k) []) size in
       let upper : slice_get tasks x ≡ Some (task_of body x (at x) []) = listed-at (λ k. task_of body k (at k) []) size x (omega arith) in
       let lower : slice_get tasks i ≡ Some (task_of body i (at i) []) = listed-at (λ k. task_of body k (at k) []) size i inside in
       let urgent : nat_lt (size - i) (size - x) ≡ true = lt-ltb (size - i) (size - x) (omega arith) in
@@ -193,9 +193,9 @@ module _ (body : Body) (draws : ℕ → ℕ) (size : ℕ) (few_tasks : size ≤ 
   pub no-rank-faults : (task_lines : List ℕ) (read_lines : List ReadLine) → HasNoRankFault (record { diagram = diagram; task_lines = task_lines; read_lines = read_lines })
   no-rank-faults task_lines read_lines =
       no-rank-fault (record { diagram = diagram; task_lines = task_lines; read_lines = read_lines })
-      (sym (each-fine (task_rank_fault body.policy) [] (listed (λ i. task_of body i (at i) []) size) task_lines (λ i t at_t.
+      (sym (each-fine (task_rank_fault body.policy) [] (first_items (λ i. task_of body i (at i) []) size) task_lines (λ i t at_t.
       let is = listed-item (λ k. task_of body k (at k) []) size i t at_t in
       subst (λ p. task_rank_fault p t ≡ None) (sym policy) (subst (λ u. task_rank_fault Fp u ≡ None) (sym is.1) refl))))
-      (sym (map-fine (λ (r : ReadLine). r.line) (read_rank_fault (ranks_of body.policy (listed (λ i. task_of body i (at i) []) size)) (links_of body.tasks)) read_lines (λ r.
+      (sym (map-fine (λ (r : ReadLine). r.line) (read_rank_fault (ranks_of body.policy (first_items (λ i. task_of body i (at i) []) size)) (links_of body.tasks)) read_lines (λ r.
       rw policy (then-fine (link_rank_fault ranks) (slice_get (links_of body.tasks) r.link) (λ l at_l.
       all_place (λ m. link_rank_fault ranks m ≡ None) (links_of body.tasks) r.link l all-links at_l)))))

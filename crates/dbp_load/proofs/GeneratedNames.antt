@@ -14,7 +14,7 @@ use Rattle.dia_check.specs.Faults.{part_fault}
 use Rattle.dia_check.specs.Names.{declared_name, input_name, out_name, port_names, task_names}
 use Rattle.dbp_load.specs.Bodies.{parts_of, read_of, read_name, task_name, early_count, early_read, few_early, has_late, late_read, generated_task}
 use Rattle.dbp_load.specs.Draws.{after_draw, drawn, after_draws}
-use Rattle.dbp_load.specs.Listed.{listed}
+use Rattle.dbp_load.specs.Listed.{first_items}
 use Rattle.dbp_load.proofs.DrawLaws.{drawn-below}
 use Rattle.dbp_load.proofs.FaultlessLines.{AreFine}
 use Rattle.dbp_load.proofs.GeneratedParts.{by-reads}
@@ -40,7 +40,7 @@ module _ (draws : ℕ → ℕ) (size : ℕ) (few_tasks : size ≤ 32) where
   task_at i = generated_task size (draws i) i
 
   abbrev pub all_tasks : List RawTask
-  all_tasks = listed task_at size
+  all_tasks = first_items task_at size
 
   -- the task with the name is found
   pub found : (i : ℕ) → i < size → find (λ (t : RawTask). bytes_eq t.name (task_name i)) all_tasks ≡ Some (task_at i)
@@ -54,7 +54,7 @@ module _ (draws : ℕ → ℕ) (size : ℕ) (few_tasks : size ≤ 32) where
   ports i inside = outs-of (find (λ (t : RawTask). bytes_eq t.name (task_name i)) all_tasks) (task_at i) (found i inside) (outs-are size (after_draw (draws i)) i (early_count i) (has_late size i) (few_early i))
 
   -- no task before it has the name
-  pub new-name : (i : ℕ) → i < size → is_among (task_names (listed task_at i)) (task_name i) ≡ false
+  pub new-name : (i : ℕ) → i < size → is_among (task_names (first_items task_at i)) (task_name i) ≡ false
   new-name i inside =
       ap (λ names. is_among names (task_name i)) (map-listed (λ (t : RawTask). t.name) task_at i)
       ∙ none-listed (λ m. bytes_eq m (task_name i)) task_name i (λ j below. other-task j i (omega arith) (omega arith) (λ e. absurd (omega arith)))
@@ -90,7 +90,7 @@ module _ (body : Body) (size : ℕ) (inputs : flat_map input_name body.decls ≡
 
   -- the lines before a read
   abbrev front : ℕ → List Part
-  front n = State (codes "s") (pos 0) ∷ Sense (codes "g0") (codes "g") ∷ listed (early_read draws i) n
+  front n = State (codes "s") (pos 0) ∷ Sense (codes "g0") (codes "g") ∷ first_items (early_read draws i) n
 
   abbrev Fine : (early : ℕ) → Bool → early ≤ 3 → Type 0
   Fine early late few = early ≤ i → (late ≡ true → i + 1 < size) → AreFine (part_fault body (task early late few)) [] (parts_of size draws i early late few)

@@ -14,7 +14,7 @@ use Rattle.dia_check.proofs.PlaceLaws.{only-one}
 use Rattle.dbp_load.specs.Bodies.{parts_of, early_read, late_read, late_names, names_of_reads, few_reads, read_name, read_of}
 use Rattle.dbp_load.specs.Draws.{drawn, after_draws}
 use Rattle.dbp_load.specs.Expressions.{with_read, first_sum, out_tree, out_expr, next_tree, next_expr}
-use Rattle.dbp_load.specs.Listed.{listed}
+use Rattle.dbp_load.specs.Listed.{first_items}
 use Rattle.dbp_load.proofs.DrawLaws.{drawn-below}
 use Rattle.dbp_load.proofs.ListedItems.{all-listed}
 use Rattle.dbp_load.proofs.NameTexts.{s-prints, g-prints, g0-prints, q-prints, y-prints, read-prints, task-prints}
@@ -76,7 +76,7 @@ late-prints false = λ k d below. absurd (omega arith)
 
 names-print : (early : ℕ) (late : Bool) → early ≤ 3 → All IsPrintableName (names_of_reads early late)
 names-print early late few =
-    All-append IsPrintableName (listed read_name early) (late_names late)
+    All-append IsPrintableName (first_items read_name early) (late_names late)
     (all-listed read_name IsPrintableName early (λ j below. read-prints j (omega arith))) (late-prints late)
 
 read-of-prints : (name : List ℕ) (delay writer : ℕ) → IsPrintableName name → delay ≤ max_delay → writer < 32 → IsPrintablePart (read_of name delay writer)

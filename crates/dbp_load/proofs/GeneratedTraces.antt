@@ -8,7 +8,7 @@ use Rattle.dbp_plan.specs.declared.diagram.Input.{Input}
 use Rattle.trace_rows.specs.Headers.{kind_of_column}
 use Rattle.trace_rows.specs.Written.{CanWrite, AreCellsOf, WrittenRow}
 use Rattle.dbp_load.specs.Bodies.{trace_row}
-use Rattle.dbp_load.specs.Listed.{listed}
+use Rattle.dbp_load.specs.Listed.{first_items}
 use Rattle.dia_check.proofs.PlaceLaws.{only-one}
 use Rattle.dbp_load.proofs.ListedItems.{all-listed, length-listed, map-listed, rising-listed}
 use Rattle.dbp_load.proofs.NameTexts.{g-name}
@@ -22,7 +22,7 @@ the_columns = codes "g" ∷ []
 before-end : (size r : ℕ) → 1 ≤ size → r < 10 → 50 * size * r < 500 * size
 before-end size r some below = let most : size * r ≤ size * 9 = mul-le-mul_left size (omega arith) in omega (arith, most)
 
-pub can-write : (size n : ℕ) → 1 ≤ size → size ≤ 32 → n ≤ 10 → CanWrite (500 * size) the_inputs [] the_columns (listed (trace_row size) n)
+pub can-write : (size n : ℕ) → 1 ≤ size → size ≤ 32 → n ≤ 10 → CanWrite (500 * size) the_inputs [] the_columns (first_items (trace_row size) n)
 can-write size n some few rows = record {
   last = omega arith;
   names = only-one IsName (codes "g") g-name;

@@ -11,8 +11,8 @@ use Rattle.dia_read.specs.Canonical.{canonical_text}
 use Rattle.dia_read.specs.Printable.{ended_lines}
 use Rattle.dia_read.proofs.TextLengths.{text-length}
 use Rattle.trace_rows.specs.Written.{written_header, written_row}
-use Rattle.dbp_load.specs.Bodies.{generated, trace_row, trace_text}
-use Rattle.dbp_load.specs.Listed.{listed}
+use Rattle.dbp_load.specs.Bodies.{generated_body, trace_row, trace_text}
+use Rattle.dbp_load.specs.Listed.{first_items}
 use Rattle.dbp_load.proofs.GeneratedBodies.{printable}
 use Rattle.dbp_load.proofs.GeneratedTraces.{the_columns}
 use Rattle.dbp_load.proofs.ListedItems.{all-listed, length-listed, map-listed}
@@ -36,12 +36,12 @@ row-short size r few below =
 
 trace-short : (size : ℕ) → size ≤ 32 → length (trace_text size) ≤ 700
 trace-short size few =
-    let rows = map written_row (listed (trace_row size) 10) in
+    let rows = map written_row (first_items (trace_row size) 10) in
     let count : length rows ≡ 10 = ap length (map-listed written_row (trace_row size) 10) ∙ length-listed (λ r. written_row (trace_row size r)) 10 in
     let each = all-listed (λ r. written_row (trace_row size r)) (λ line. length line ≤ 60) 10 (λ r below. row-short size r few below) in
     let short = recursion_from_All (λ line. length line ≤ 60) rows (subst (All (λ line. length line ≤ 60)) (sym (map-listed written_row (trace_row size) 10)) each) in
     omega (arith, length-append (written_header the_columns) (10 ∷ ended_lines rows), ended-short 60 rows short, count)
 
 -- it can be read again
-pub text-fits : (seed size : ℕ) → 1 ≤ size → size ≤ 32 → length (canonical_text (generated seed size)) ≤ MAX_TEXT
-text-fits seed size some few = omega (arith, text-length (generated seed size) (printable seed size some few), trace-short size few)
+pub text-fits : (seed size : ℕ) → 1 ≤ size → size ≤ 32 → length (canonical_text (generated_body seed size)) ≤ MAX_TEXT
+text-fits seed size some few = omega (arith, text-length (generated_body seed size) (printable seed size some few), trace-short size few)

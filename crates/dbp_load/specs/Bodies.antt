@@ -12,7 +12,7 @@ use Rattle.dia_read.specs.declared.document.RawTask.{RawTask}
 use Rattle.trace_rows.specs.Written.{WrittenRow, value, written_section}
 use Rattle.dbp_load.specs.Draws.{drawn, after_draw, after_draws}
 use Rattle.dbp_load.specs.Expressions.{next_expr, out_expr}
-use Rattle.dbp_load.specs.Listed.{listed}
+use Rattle.dbp_load.specs.Listed.{first_items}
 
 -- ---- names
 
@@ -50,18 +50,18 @@ late_names true = codes "q" ∷ []
 late_names false = []
 
 abbrev pub names_of_reads : ℕ → Bool → List (List ℕ)
-names_of_reads early late = listed read_name early ++ late_names late
+names_of_reads early late = first_items read_name early ++ late_names late
 
-length-listed : {A : Type 0} (item : ℕ → A) (n : ℕ) → length (listed item n) ≡ n
+length-listed : {A : Type 0} (item : ℕ → A) (n : ℕ) → length (first_items item n) ≡ n
 length-listed item zero = omega arith
-length-listed item (suc n) = omega (arith, length-listed item n, length-append (listed item n) (item n ∷ []))
+length-listed item (suc n) = omega (arith, length-listed item n, length-append (first_items item n) (item n ∷ []))
 
 few-late : (late : Bool) → length (late_names late) ≤ 1
 few-late true = omega arith
 few-late false = omega arith
 
 pub few_reads : (early : ℕ) (late : Bool) → early ≤ 3 → length (names_of_reads early late) ≤ 4
-few_reads early late few = omega (arith, few-late late, length-listed read_name early, length-append (listed read_name early) (late_names late))
+few_reads early late few = omega (arith, few-late late, length-listed read_name early, length-append (first_items read_name early) (late_names late))
 
 -- ---- tasks
 
@@ -70,7 +70,7 @@ abbrev pub parts_of : ℕ → ℕ → ℕ → (early : ℕ) → Bool → early �
 parts_of size draws i early late few =
     State (codes "s") (pos 0)
     ∷ Sense (codes "g0") (codes "g")
-    ∷ (listed (early_read draws i) early
+    ∷ (first_items (early_read draws i) early
     ++ (late_reads late (late_read size draws i early)
     ++ Next (codes "s") next_expr
     ∷ Out (codes "y") (pos i) (out_expr (names_of_reads early late) (few_reads early late few))
@@ -109,13 +109,13 @@ abbrev pub trace_row : ℕ → ℕ → WrittenRow
 trace_row size r = record { time = 50 * size * r; cells = value (pos (37 * r)) ∷ [] }
 
 abbrev pub trace_text : ℕ → List ℕ
-trace_text size = written_section (codes "g" ∷ []) (listed (trace_row size) 10)
+trace_text size = written_section (codes "g" ∷ []) (first_items (trace_row size) 10)
 
 abbrev pub generated_tasks : ℕ → ℕ → List RawTask
-generated_tasks seed size = listed (λ i. generated_task size (after_draws (words_before i) seed) i) size
+generated_tasks seed size = first_items (λ i. generated_task size (after_draws (words_before i) seed) i) size
 
-abbrev pub generated : ℕ → ℕ → Body
-generated seed size = record {
+abbrev pub generated_body : ℕ → ℕ → Body
+generated_body seed size = record {
   policy = Fp;
   until = 500 * size;
   decls = Input (codes "g") (pos 1) ∷ [];

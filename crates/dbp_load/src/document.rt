@@ -5,7 +5,7 @@ ghost use Rattle.dia_lines.specs.declared.item.Decl.TheVariants.{Input};
 ghost use Rattle.dbp_plan.specs.declared.limits.TheConstants.{MAX_TEXT};
 ghost use Rattle.dbp_plan.specs.declared.plan.Plan.{Plan as AnyPlan};
 ghost use Rattle.trace_io.specs.Texts.{Accepts};
-ghost use Rattle.dbp_load.specs.Bodies.{generated};
+ghost use Rattle.dbp_load.specs.Bodies.{generated_body};
 ghost use Rattle.dbp_load.specs.Texts.{generated_text};
 
 use crate::laws::generated_documents_are_accepted;
@@ -28,7 +28,7 @@ fn generated_decls(alloc: Global) -> Result<List<Decl>, NoMemory>
 /// What the document says.
 fn generated_body(alloc: Global, seed: u64, size: u32) -> Result<Body, NoMemory>
     requires { size ≤ 32 }
-    ensures { IfOk result (λ body. body ≡ generated seed size) }
+    ensures { IfOk result (λ body. body ≡ generated_body seed size) }
 {
     Ok(Body {
         policy: Policy::Fp,

@@ -3,7 +3,7 @@
 ghost use Rattle.std.specs.Prelude.{◌≡◌, ◌+◌, ◌-◌, ◌<◌, ◌≤◌, ◌++◌, length, IfOk, OnOk};
 ghost use Rattle.dbp_load.specs.Bodies.{early_count, early_read, has_late, late_read, late_reads, names_of_reads, read_of};
 ghost use Rattle.dbp_load.specs.Draws.{after_draws};
-ghost use Rattle.dbp_load.specs.Listed.{listed};
+ghost use Rattle.dbp_load.specs.Listed.{first_items};
 
 use crate::draws::draw;
 use crate::names::{name, read_name, task_name};
@@ -58,7 +58,7 @@ pub(crate) fn push_early_reads(
 ) -> Result<(), NoMemory>
     requires number { number < 32 }
     requires room { length parts.old ≤ 8 }
-    ensures parts { OnOk result (parts.new ≡ parts.old ++ listed (early_read draws.old number) (early_count number)) }
+    ensures parts { OnOk result (parts.new ≡ parts.old ++ first_items (early_read draws.old number) (early_count number)) }
     ensures draws { OnOk result (draws.new ≡ after_draws (early_count number) draws.old) }
 {
     for read in 0..early_count(number) {

@@ -1,5 +1,5 @@
 -- A list is what its chunks of equal length are.
-use Rattle.std.proofs.Common.{◌≡◌, ℕ, zero, suc, ◌-◌, ◌*◌, List, [], ◌∷◌, ◌++◌, length, take, drop, refl, sym, ◌∙◌, ap, arith, length-drop, take-append-drop}
+use Rattle.std.proofs.Common.{◌≡◌, ℕ, zero, suc, ◌*◌, List, [], ◌∷◌, ◌++◌, length, take, drop, refl, sym, ◌∙◌, ap, arith, length-drop, take-append-drop}
 use Rattle.std.specs.Simd.{first_chunks}
 
 pub same_chunks : {X : Type 0} (n k : ℕ) (xs ys : List X) → length xs ≡ k * n → length ys ≡ k * n → first_chunks n k xs ≡ first_chunks n k ys → xs ≡ ys

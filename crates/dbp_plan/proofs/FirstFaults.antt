@@ -1,15 +1,15 @@
 -- Going over items in order, to the first that has a fault.
 use Rattle.std.proofs.Common.{◌≡◌, ℕ, ◌+◌, ◌<◌, ◌≤◌, List, [], ◌∷◌, ◌++◌, length, take, drop, get_or, Bool, true, false, cond, Option, Some, None, refl, sym, ap, ◌∙◌, arith}
-use Rattle.dbp_plan.specs.FirstFault.{faults_behind, first_fault}
-use Rattle.dbp_plan.proofs.ListParts.{at-any, nothing-behind, split-at, take-next}
+use Rattle.dbp_plan.specs.FirstFault.{faults_after, first_fault}
+use Rattle.dbp_plan.proofs.ListParts.{at-any, nothing-after, split-at, take-next}
 
 module _ {A F : Type 0} (fault : List A → A → Option F) (xs : List A) (ns : List ℕ) where
   -- what stands from an index on decides
   abbrev pub FirstFrom : ℕ → Type 0
-  FirstFrom k = first_fault (faults_behind fault [] xs ns) ≡ first_fault (faults_behind fault (take k xs) (drop k xs) (drop k ns))
+  FirstFrom k = first_fault (faults_after fault [] xs ns) ≡ first_fault (faults_after fault (take k xs) (drop k xs) (drop k ns))
 
   from-here : (k : ℕ) (x : A) (n : ℕ) → k < length xs → k < length ns → x ≡ get_or xs k x → n ≡ get_or ns k n
-      → faults_behind fault (take k xs) (drop k xs) (drop k ns) ≡ (n, fault (take k xs) x) ∷ faults_behind fault (take (k + 1) xs) (drop (k + 1) xs) (drop (k + 1) ns)
+      → faults_after fault (take k xs) (drop k xs) (drop k ns) ≡ (n, fault (take k xs) x) ∷ faults_after fault (take (k + 1) xs) (drop (k + 1) xs) (drop (k + 1) ns)
   from-here k x n in_xs in_ns is_x is_n = rw (split-at xs k x in_xs is_x, split-at ns k n in_ns is_n, take-next xs k x in_xs is_x) refl
 
   pub first-start : FirstFrom 0
@@ -17,17 +17,17 @@ module _ {A F : Type 0} (fault : List A → A → Option F) (xs : List A) (ns : 
 
   -- the item at the index has a fault
   pub first-here : (k : ℕ) (x : A) (n : ℕ) (code : F) → FirstFrom k → k < length xs → k < length ns → x ≡ get_or xs k x → n ≡ get_or ns k n → Some code ≡ fault (take k xs) x
-      → Some (n, code) ≡ first_fault (faults_behind fault [] xs ns)
-  first-here k x n code so_far in_xs in_ns is_x is_n is = sym (so_far ∙ ap first_fault (from-here k x n in_xs in_ns is_x is_n ∙ ap (λ f. (n, f) ∷ faults_behind fault (take (k + 1) xs) (drop (k + 1) xs) (drop (k + 1) ns)) (sym is)))
+      → Some (n, code) ≡ first_fault (faults_after fault [] xs ns)
+  first-here k x n code so_far in_xs in_ns is_x is_n is = sym (so_far ∙ ap first_fault (from-here k x n in_xs in_ns is_x is_n ∙ ap (λ f. (n, f) ∷ faults_after fault (take (k + 1) xs) (drop (k + 1) xs) (drop (k + 1) ns)) (sym is)))
 
   pub first-later : (k : ℕ) (x : A) → FirstFrom k → k < length xs → length xs ≤ length ns → x ≡ get_or xs k x → None ≡ fault (take k xs) x → FirstFrom (k + 1)
   first-later k x so_far in_xs few is_x is =
       let n : ℕ = get_or ns k 0 in
       let in_ns : k < length ns = omega (arith, in_xs, few) in
-      so_far ∙ ap first_fault (from-here k x n in_xs in_ns is_x (at-any ns k 0 in_ns) ∙ ap (λ f. (n, f) ∷ faults_behind fault (take (k + 1) xs) (drop (k + 1) xs) (drop (k + 1) ns)) (sym is))
+      so_far ∙ ap first_fault (from-here k x n in_xs in_ns is_x (at-any ns k 0 in_ns) ∙ ap (λ f. (n, f) ∷ faults_after fault (take (k + 1) xs) (drop (k + 1) xs) (drop (k + 1) ns)) (sym is))
 
-  pub first-none : (k : ℕ) → FirstFrom k → length xs ≤ k → None ≡ first_fault (faults_behind fault [] xs ns)
-  first-none k so_far end = sym (so_far ∙ ap (λ rest. first_fault (faults_behind fault (take k xs) rest (drop k ns))) (nothing-behind xs k end))
+  pub first-none : (k : ℕ) → FirstFrom k → length xs ≤ k → None ≡ first_fault (faults_after fault [] xs ns)
+  first-none k so_far end = sym (so_far ∙ ap (λ rest. first_fault (faults_after fault (take k xs) rest (drop k ns))) (nothing-after xs k end))
 
 -- ---- one after another
 

@@ -49,10 +49,10 @@ abbrev EachNode : {V : Type 0} → (ℕ → Node V → Type 0) → ℕ → List 
 EachNode {V} P at nodes = (k : ℕ) (node : Node V) → slice_get nodes k ≡ Some node → P (at + k) node
 
 each-append : {V : Type 0} (P : ℕ → Node V → Type 0) (at : ℕ) (xs ys : List (Node V)) → EachNode P at xs → EachNode P (at + length xs) ys → EachNode P at (xs ++ ys)
-each-append P at [] ys front behind k node here = subst (λ (j : ℕ). P j node) (omega arith) (behind k node here)
-each-append P at (x ∷ xs) ys front behind zero node here = front zero node here
-each-append P at (x ∷ xs) ys front behind (suc k) node here =
-    subst (λ (j : ℕ). P j node) (omega arith) (each-append P (at + 1) xs ys (λ j n there. subst (λ (i : ℕ). P i n) (omega arith) (front (suc j) n there)) (λ j n there. subst (λ (i : ℕ). P i n) (omega arith) (behind j n there)) k node here)
+each-append P at [] ys front after k node here = subst (λ (j : ℕ). P j node) (omega arith) (after k node here)
+each-append P at (x ∷ xs) ys front after zero node here = front zero node here
+each-append P at (x ∷ xs) ys front after (suc k) node here =
+    subst (λ (j : ℕ). P j node) (omega arith) (each-append P (at + 1) xs ys (λ j n there. subst (λ (i : ℕ). P i n) (omega arith) (front (suc j) n there)) (λ j n there. subst (λ (i : ℕ). P i n) (omega arith) (after j n there)) k node here)
 
 each-one : {V : Type 0} (P : ℕ → Node V → Type 0) (at : ℕ) (x : Node V) → P at x → EachNode P at (x ∷ [])
 each-one P at x is zero node here = subst (λ n. P (at + 0) n) (cc (here)) (subst (λ (j : ℕ). P j x) (omega arith) is)

@@ -2,9 +2,9 @@
 use Rattle.std.specs.Prelude.{ℕ, List, [], ◌∷◌, ◌++◌, Option, Some, None}
 
 -- each item with the number of its line and its first fault, after the items before it
-abbrev pub faults_behind : {A F : Type 0} → (List A → A → Option F) → List A → List A → List ℕ → List (ℕ × Option F)
-faults_behind fault before (x ∷ xs) (n ∷ ns) = (n, fault before x) ∷ faults_behind fault (before ++ x ∷ []) xs ns
-faults_behind fault before _ _ = []
+abbrev pub faults_after : {A F : Type 0} → (List A → A → Option F) → List A → List A → List ℕ → List (ℕ × Option F)
+faults_after fault before (x ∷ xs) (n ∷ ns) = (n, fault before x) ∷ faults_after fault (before ++ x ∷ []) xs ns
+faults_after fault before _ _ = []
 
 -- the first line that has a fault, with its first fault
 abbrev pub first_fault : {F : Type 0} → List (ℕ × Option F) → Option (ℕ × F)

@@ -14,4 +14,4 @@ pub record IsLetOrder (base : ℕ) (lets : List Let) (order : List ℕ) : Type 0
   pub size : length order ≡ length lets
   pub named : All (λ i. i < length lets) order
   pub once : AllPairs (λ i j. i ≢ j) order
-  pub behind : (p i k v : ℕ) (l : Let) → slice_get order p ≡ Some i → slice_get lets i ≡ Some l → slice_get l.expr.nodes k ≡ Some (Var v) → base ≤ v → IsTrue (list_any (λ j. (base + j) == v) (take p order))
+  pub after : (p i k v : ℕ) (l : Let) → slice_get order p ≡ Some i → slice_get lets i ≡ Some l → slice_get l.expr.nodes k ≡ Some (Var v) → base ≤ v → IsTrue (list_any (λ j. (base + j) == v) (take p order))

@@ -10,8 +10,8 @@ abbrev pub no_declared : Task
 no_declared = record { name = []; clock = On 0; prio = None; deadline = None; cost = 0; states = []; senses = []; reads = []; lets = []; order = []; nexts = []; outs = [] }
 
 -- the task of the plan's diagram
-abbrev pub declared : Plan → ℕ → Task
-declared p i = slice_index_or p.diagram.tasks i no_declared
+abbrev pub declared_task : Plan → ℕ → Task
+declared_task p i = slice_index_or p.diagram.tasks i no_declared
 
 abbrev pub no_link : Link
 no_link = record { writer = 0; reader = 0; delay = 0 }

@@ -40,6 +40,6 @@ pub record CountsRead (old new : MemSource) : Type 0 where
   pub failing : failing_calls new ≡ failing_calls old
 
 -- the buffer after what a read gives stays
-abbrev pub KeepsBehind : List ℕ → List ℕ → Got → Type 0
-KeepsBehind old new (Bytes n) = drop n new ≡ drop n old
-KeepsBehind old new _ = new ≡ old
+abbrev pub KeepsRest : List ℕ → List ℕ → Got → Type 0
+KeepsRest old new (Bytes n) = drop n new ≡ drop n old
+KeepsRest old new _ = new ≡ old

@@ -57,11 +57,11 @@ same_list (x ∷ xs) (y ∷ ys) size same =
     let head : Some x ≡ Some y = same 0 (omega arith) in
     cc
 
-pub behind_place : {X : Type 0} (xs ys : List X) (k : ℕ) → slice_get (xs ++ ys) (length xs + k) ≡ slice_get ys k
-behind_place [] ys k = ap (λ j. slice_get ys j) (omega arith)
-behind_place (x ∷ xs) ys k =
+pub after_place : {X : Type 0} (xs ys : List X) (k : ℕ) → slice_get (xs ++ ys) (length xs + k) ≡ slice_get ys k
+after_place [] ys k = ap (λ j. slice_get ys j) (omega arith)
+after_place (x ∷ xs) ys k =
     let one : length (x ∷ xs) + k ≡ suc (length xs + k) = omega arith in
-    ap (λ j. slice_get (x ∷ xs ++ ys) j) one ∙ behind_place xs ys k
+    ap (λ j. slice_get (x ∷ xs ++ ys) j) one ∙ after_place xs ys k
 
 pub set_here : {X : Type 0} (xs : List X) (i : ℕ) (y : X) → i < length xs → slice_get (set xs i y) i ≡ Some y
 set_here [] i y below = absurd (omega arith)

@@ -11,6 +11,6 @@ range_front xs ys a b less inside =
     ap (take (b - a)) (drop-append-le a xs ys (omega arith)) ∙ take-append-le (b - a) (drop a xs) ys few
 
 -- the second list
-pub range_behind : {X : Type 0} (xs ys : List X) (a b : ℕ) → a ≡ length xs → b ≡ length xs + length ys → slice_range (xs ++ ys) a b ≡ ys
-range_behind xs ys a b first last =
+pub range_after : {X : Type 0} (xs ys : List X) (a b : ℕ) → a ≡ length xs → b ≡ length xs + length ys → slice_range (xs ++ ys) a b ≡ ys
+range_after xs ys a b first last =
     ap (λ (k : ℕ). take (b - a) (drop k (xs ++ ys))) first ∙ ap (take (b - a)) (drop-append_seam xs ys) ∙ take_all (b - a) ys (omega arith)

@@ -43,8 +43,8 @@ module _ {X : Type 0} where
   same_front : (a b c d : List X) → length a ≡ length c → a ++ b ≡ c ++ d → a ≡ c
   same_front a b c d size same = sym (take-append_seam a b) ∙ ap (λ (l : List X). take (length a) l) same ∙ ap (λ (n : ℕ). take n (c ++ d)) size ∙ take-append_seam c d
 
-  same_behind : (a b c d : List X) → length a ≡ length c → a ++ b ≡ c ++ d → b ≡ d
-  same_behind a b c d size same = sym (drop-append_seam a b) ∙ ap (λ (l : List X). drop (length a) l) same ∙ ap (λ (n : ℕ). drop n (c ++ d)) size ∙ drop-append_seam c d
+  same_after : (a b c d : List X) → length a ≡ length c → a ++ b ≡ c ++ d → b ≡ d
+  same_after a b c d size same = sym (drop-append_seam a b) ∙ ap (λ (l : List X). drop (length a) l) same ∙ ap (λ (n : ℕ). drop n (c ++ d)) size ∙ drop-append_seam c d
 
 -- what stands before the root
 abbrev before_root : {V : Type 0} → ℕ → Tree V → List (Node V)
@@ -80,8 +80,8 @@ one_tree at (binary op l r) (binary o m s) same =
     let sizes : size_of l ≡ size_of m = omega (arith, firsts, one_node l, one_node m) in
     let lengths : length (nodes_of at l) ≡ length (nodes_of at m) = omega (arith, length-nodes_of at l, length-nodes_of at m, sizes) in
     let lefts : l ≡ m = one_tree at l m (same_front (nodes_of at l) (nodes_of (at + size_of l) r) (nodes_of at m) (nodes_of (at + size_of m) s) lengths fronts) in
-    let behind = same_behind (nodes_of at l) (nodes_of (at + size_of l) r) (nodes_of at m) (nodes_of (at + size_of m) s) lengths fronts in
-    let moved : nodes_of (at + size_of l) r ≡ nodes_of (at + size_of l) s = behind ∙ ap (λ (n : ℕ). nodes_of (at + n) s) (sym sizes) in
+    let after = same_after (nodes_of at l) (nodes_of (at + size_of l) r) (nodes_of at m) (nodes_of (at + size_of m) s) lengths fronts in
+    let moved : nodes_of (at + size_of l) r ≡ nodes_of (at + size_of l) s = after ∙ ap (λ (n : ℕ). nodes_of (at + n) s) (sym sizes) in
     let rights : r ≡ s = one_tree (at + size_of l) r s moved in
     cc (ops, lefts, rights)
 one_tree at (choice c y n) (choice d z m) same =
@@ -100,9 +100,9 @@ one_tree at (choice c y n) (choice d z m) same =
     let length_y : length ys ≡ length zs = omega (arith, length-nodes_of (at + size_of c) y, length-nodes_of (at + size_of d) z, next_sizes) in
     let length_both : length (cs ++ ys) ≡ length (ds ++ zs) = omega (arith, length-append cs ys, length-append ds zs, length_c, length_y) in
     let front = same_front (cs ++ ys) ns (ds ++ zs) ms length_both fronts in
-    let last = same_behind (cs ++ ys) ns (ds ++ zs) ms length_both fronts in
+    let last = same_after (cs ++ ys) ns (ds ++ zs) ms length_both fronts in
     let conditions : c ≡ d = one_tree at c d (same_front cs ys ds zs length_c front) in
-    let ys_moved : ys ≡ nodes_of (at + size_of c) z = same_behind cs ys ds zs length_c front ∙ ap (λ (k : ℕ). nodes_of (at + k) z) (sym sizes) in
+    let ys_moved : ys ≡ nodes_of (at + size_of c) z = same_after cs ys ds zs length_c front ∙ ap (λ (k : ℕ). nodes_of (at + k) z) (sym sizes) in
     let yeses : y ≡ z = one_tree (at + size_of c) y z ys_moved in
     let places : at + size_of d + size_of z ≡ at + size_of c + size_of y = omega (arith, sizes, next_sizes) in
     let nos : n ≡ m = one_tree (at + size_of c + size_of y) n m (last ∙ ap (λ (k : ℕ). nodes_of k m) places) in

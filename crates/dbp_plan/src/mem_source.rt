@@ -44,7 +44,7 @@ impl MemSource {
 }
 
 impl Source for MemSource {
-    ghost use Rattle.dbp_plan.specs.MemSource.{bytes_left, failures, next_got, CountsRead, KeepsBehind};
+    ghost use Rattle.dbp_plan.specs.MemSource.{bytes_left, failures, next_got, CountsRead, KeepsRest};
 
     ghost left = { λ s. Some (bytes_left s) };
 
@@ -56,7 +56,7 @@ impl Source for MemSource {
         ensures cause { GivesCause (failures self.old) (failures self.new) result }
         ensures exact { result ≡ next_got self.old (length buf.old) }
         ensures counts { CountsRead self.old self.new }
-        ensures behind { KeepsBehind buf.old buf.new result }
+        ensures after { KeepsRest buf.old buf.new result }
     {
         self.calls = self.calls.saturating_add(1);
         if fails_at(&self.fail, self.calls) {

@@ -6,7 +6,7 @@ use Rattle.std.proofs.lemmas.List.Sums.{sum_by-append}
 use Rattle.std.proofs.lemmas.List.Elements.{All-append, All-head, All-nil, All-cons, All-tail}
 use Rattle.dbp_rules.specs.declared.step.Step.{Step}
 use Rattle.dbp_plan.specs.declared.diagram.Diagram.{Diagram}
-use Rattle.dbp_plan.specs.Places.{all_place, behind_place}
+use Rattle.dbp_plan.specs.Places.{all_place, after_place}
 use Rattle.dia_tokens.specs.declared.token.Token.{Token}
 use Rattle.dia_tokens.specs.Line.{Spells}
 use Rattle.dia_tokens.proofs.SpellingLaws.{no-feed}
@@ -86,12 +86,12 @@ says-there : (d : Diagram) (line : List ℕ) (e : Step) → Says d line (Ok e) �
 says-there d line e says = step-there d says.tokens e says.says
 
 module _ (d : Diagram) (text : List ℕ) (steps : List Step) (rest line after : List ℕ) (n : NamedTo d text steps rest) (first : lines_of rest ≡ line ∷ lines_of after) where
-  behind : lines_of text ≡ n.seen ++ line ∷ lines_of after
-  behind = n.split ∙ ap (λ (ls : List (List ℕ)). n.seen ++ ls) first
+  later : lines_of text ≡ n.seen ++ line ∷ lines_of after
+  later = n.split ∙ ap (λ (ls : List (List ℕ)). n.seen ++ ls) first
 
   stands : slice_get (lines_of text) (length n.seen) ≡ Some line
-  stands = ap (λ (ls : List (List ℕ)). slice_get ls (length n.seen)) behind
-      ∙ ap (λ (k : ℕ). slice_get (n.seen ++ line ∷ lines_of after) k) (omega arith) ∙ behind_place n.seen (line ∷ lines_of after) 0
+  stands = ap (λ (ls : List (List ℕ)). slice_get ls (length n.seen)) later
+      ∙ ap (λ (k : ℕ). slice_get (n.seen ++ line ∷ lines_of after) k) (omega arith) ∙ after_place n.seen (line ∷ lines_of after) 0
 
   pub line-kept : KeepsItself SaysInScript step text → IsKept line
   line-kept kept = all_place IsKept (lines_of text) (length n.seen) line (all-kept text kept) stands
@@ -100,13 +100,13 @@ module _ (d : Diagram) (text : List ℕ) (steps : List Step) (rest line after : 
   pub has-number : (doc : Doc) → HasItemLines doc → doc.body.script ≡ Some text → KeepsItself SaysInScript step text → length steps < length doc.lines.script
   has-number doc items is kept =
       let count : length doc.lines.script ≡ feeds text = items.script ∙ ap line_count is in
-      let whole : length (lines_of text) ≡ length (n.seen ++ line ∷ lines_of after) = ap (λ (ls : List (List ℕ)). length ls) behind in
+      let whole : length (lines_of text) ≡ length (n.seen ++ line ∷ lines_of after) = ap (λ (ls : List (List ℕ)). length ls) later in
       omega (arith, count, whole, section-count text kept, length-append n.seen (line ∷ lines_of after), n.size)
 
   pub named-more : (e : Step) → Says d line (Ok e) → NamedTo d text (steps ++ e ∷ []) after
   named-more e says = record {
     seen = n.seen ++ line ∷ [];
-    split = behind ∙ sym (append_assoc n.seen (line ∷ []) (lines_of after));
+    split = later ∙ sym (append_assoc n.seen (line ∷ []) (lines_of after));
     named = fit-more (λ l e. Says d l (Ok e)) n.seen steps line e n.named says;
     there = All-append (IsThere d) steps (e ∷ []) n.there (All-cons (IsThere d) e [] (says-there d line e says) (All-nil (IsThere d)));
     size = omega (arith, length-append n.seen (line ∷ []), length-append steps (e ∷ []), n.size);
@@ -115,7 +115,7 @@ module _ (d : Diagram) (text : List ℕ) (steps : List Step) (rest line after : 
   pub line-fault : (numbers : List ℕ) (at : ℕ) (code : ScriptCode) → slice_get numbers (length steps) ≡ Some at → Says d line (Err code) → IsFirstFault d (lines_of text) numbers at code
   line-fault numbers at code number says =
       let front : take (length n.seen) (lines_of text) ≡ n.seen =
-      ap (take (length n.seen)) behind ∙ take-append-le (length n.seen) n.seen (line ∷ lines_of after) (omega arith) ∙ take_all (length n.seen) n.seen (omega arith) in
+      ap (take (length n.seen)) later ∙ take-append-le (length n.seen) n.seen (line ∷ lines_of after) (omega arith) ∙ take_all (length n.seen) n.seen (omega arith) in
       record {
         index = length n.seen;
         before = steps;

@@ -19,7 +19,7 @@ use Rattle.dia_tokens.specs.declared.token.Word.TheVariants.{Pre}
 use Rattle.dia_tokens.specs.KeepsSigns.{KeepsSigns}
 use Rattle.dia_tokens.specs.Line.{Spells}
 use Rattle.dia_tokens.specs.Printable.{IsPrintableName, IsPrintableToken}
-use Rattle.dia_tokens.specs.TokenText.{line_text, text_behind}
+use Rattle.dia_tokens.specs.TokenText.{line_text, text_after}
 use Rattle.dia_tokens.proofs.LineSpells.{line-spells}
 use Rattle.dbp_replay.specs.declared.form.Operand.{Operand}
 use Rattle.dbp_replay.specs.declared.form.Operand.TheVariants as operand
@@ -39,7 +39,7 @@ use Rattle.dbp_replay.proofs.StepWords.{first-printable, first-text, first-unsig
 -- these words are the operand that their kind takes
 record IsOperand (takes : Takes) (words : List (List ℕ)) (o : Operand) : Type 0 where
   tokens : List Token
-  text : spaced_words words ≡ text_behind Loose tokens
+  text : spaced_words words ≡ text_after Loose tokens
   printable : All IsPrintableToken tokens
   unsigned : KeepsSigns false tokens
   read : operand_of takes tokens ≡ Some o
@@ -72,7 +72,7 @@ longer-words d =
     rw (some, more) refl
 
 -- the tokens of a delay before a name
-delay-text : (d : ℕ) (n : List ℕ) → spaced_words (delay_words d ++ n ∷ []) ≡ text_behind Loose (delay_tokens d ++ token.Name n ∷ [])
+delay-text : (d : ℕ) (n : List ℕ) → spaced_words (delay_words d ++ n ∷ []) ≡ text_after Loose (delay_tokens d ++ token.Name n ∷ [])
 delay-text zero n = refl
 delay-text (suc zero) n = refl
 delay-text (suc (suc d)) n = rw (longer-words d, longer-tokens d) refl
@@ -170,8 +170,8 @@ says-step d e names there small =
     let o = operand-words d e names there small in
     let rest = token.Name n ∷ o.words.tokens in
     let tokens = first_token kind ∷ rest in
-    let behind : step_text d e ≡ (form_of kind).0 ++ text_behind Loose rest = ap (λ ws. (form_of kind).0 ++ (32 ∷ n ++ ws)) o.words.text in
-    let text : step_text d e ≡ line_text tokens = behind ∙ first-text kind rest in
+    let after : step_text d e ≡ (form_of kind).0 ++ text_after Loose rest = ap (λ ws. (form_of kind).0 ++ (32 ∷ n ++ ws)) o.words.text in
+    let text : step_text d e ≡ line_text tokens = after ∙ first-text kind rest in
     let printable : All IsPrintableToken tokens =
     All-cons IsPrintableToken (first_token kind) rest (first-printable kind) (All-cons IsPrintableToken (token.Name n) o.words.tokens (task-printable d names i there.task) o.words.printable) in
     record {

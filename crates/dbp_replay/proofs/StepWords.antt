@@ -11,7 +11,7 @@ use Rattle.dia_tokens.specs.declared.token.Word.TheVariants as word
 use Rattle.dia_tokens.specs.KeepsSigns.{IsUnsigned}
 use Rattle.dia_tokens.specs.Pieces.{name}
 use Rattle.dia_tokens.specs.Printable.{IsPrintableName, IsPrintableToken}
-use Rattle.dia_tokens.specs.TokenText.{line_text, text_behind}
+use Rattle.dia_tokens.specs.TokenText.{line_text, text_after}
 use Rattle.dia_tokens.specs.Words.{word_of}
 use Rattle.dbp_rules.specs.declared.kind.StepKind.{StepKind}
 use Rattle.dbp_rules.specs.declared.kind.StepKind.TheVariants.{Done}
@@ -22,7 +22,7 @@ abbrev pub first_token : StepKind → Token
 first_token Done = token.Word word.Done
 first_token k = token.Name (form_of k).0
 
-pub first-text : (k : StepKind) (ts : List Token) → (form_of k).0 ++ text_behind Loose ts ≡ line_text (first_token k ∷ ts)
+pub first-text : (k : StepKind) (ts : List Token) → (form_of k).0 ++ text_after Loose ts ≡ line_text (first_token k ∷ ts)
 first-text Done ts = refl
 first-text k ts = refl
 

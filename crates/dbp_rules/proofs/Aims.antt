@@ -5,7 +5,7 @@ use Rattle.std.specs.Option.{option_or}
 use Rattle.std.proofs.lemmas.Bool.{cases_Bool, cases_lt, eq-eqb, eqb-true, lt-ltb, ltb-true}
 use Rattle.release_list.specs.declared.release.Release.TheVariants as release
 use Rattle.dbp_rules.specs.PartyRules as rule
-use Rattle.dbp_rules.specs.Places.{entry_in, wired}
+use Rattle.dbp_rules.specs.Places.{entry_in, wired_task}
 use Rattle.dbp_rules.specs.declared.parts.ReleaserPart.{ReleaserPart}
 use Rattle.dbp_rules.specs.declared.step.Broken.TheVariants as broken
 use Rattle.dbp_rules.specs.declared.step.Step.TheVariants.{Aim}
@@ -47,7 +47,7 @@ not_true false is = refl
 pub record IsAllowedAim (w : Wiring) (r : ReleaserPart) (i slot : ℕ) : Type 0 where
   pub here : slice_get w.releases r.place ≡ Some (release.Aim i)
   pub known : (entry_in r i).aimed ≡ (entry_in r i).known
-  pub below : slot < (wired w i).slots
+  pub below : slot < (wired_task w i).slots
   pub fresh : rule.stays_kept (entry_in r i) slot ≡ false
   pub unclaimed : (k : ℕ) → k < length w.links → rule.claims_slot_in w r i slot k ≡ false
 
@@ -55,13 +55,13 @@ pub aim_allowed : (w : Wiring) (r : ReleaserPart) (i slot : ℕ) → rule.releas
 aim_allowed w r i slot free =
     let first = or_else_none (rule.releaser_next w r 2 i) _ free in
     let second = or_else_none (rule.unless ((entry_in r i).aimed == (entry_in r i).known) broken.LastNotEnded (entry_in r i).aimed (entry_in r i).known) _ first.1 in
-    let third = or_else_none (rule.unless (nat_lt slot (wired w i).slots) broken.SlotRange (wired w i).slots slot) _ second.1 in
+    let third = or_else_none (rule.unless (nat_lt slot (wired_task w i).slots) broken.SlotRange (wired_task w i).slots slot) _ second.1 in
     let fourth = or_else_none (rule.unless (not (rule.stays_kept (entry_in r i) slot)) broken.SlotKept slot slot) _ third.1 in
     let next = next_none broken.Place (rule.release_kind (slice_get w.releases r.place)) 2 i first.0 in
     record {
       here = at_aim (slice_get w.releases r.place) i next.0 next.1;
       known = eqb-true (entry_in r i).aimed (entry_in r i).known (unless_none ((entry_in r i).aimed == (entry_in r i).known) broken.LastNotEnded (entry_in r i).aimed (entry_in r i).known second.0);
-      below = ltb-true slot (wired w i).slots (unless_none (nat_lt slot (wired w i).slots) broken.SlotRange (wired w i).slots slot third.0);
+      below = ltb-true slot (wired_task w i).slots (unless_none (nat_lt slot (wired_task w i).slots) broken.SlotRange (wired_task w i).slots slot third.0);
       fresh = not_true (rule.stays_kept (entry_in r i) slot) (unless_none (not (rule.stays_kept (entry_in r i) slot)) broken.SlotKept slot slot fourth.0);
       unclaimed = λ k fits. least_none (rule.claims_slot_in w r i slot) (length w.links) k (none_found (rule.least (rule.claims_slot_in w r i slot) (length w.links)) broken.SlotClaimed slot fourth.1) fits;
     }
@@ -69,6 +69,6 @@ aim_allowed w r i slot free =
 pub allowed_aim : (w : Wiring) (r : ReleaserPart) (i slot : ℕ) → IsAllowedAim w r i slot → rule.releaser_refusal w r (Aim i slot) ≡ None
 allowed_aim w r i slot a =
     let known : ((entry_in r i).aimed == (entry_in r i).known) ≡ true = eq-eqb (entry_in r i).aimed (entry_in r i).known a.known in
-    let below : nat_lt slot (wired w i).slots ≡ true = lt-ltb slot (wired w i).slots a.below in
+    let below : nat_lt slot (wired_task w i).slots ≡ true = lt-ltb slot (wired_task w i).slots a.below in
     let none : rule.least (rule.claims_slot_in w r i slot) (length w.links) ≡ None = none_least (rule.claims_slot_in w r i slot) (length w.links) a.unclaimed in
     rw (a.here, eq-eqb i i refl, known, below, a.fresh, none) refl

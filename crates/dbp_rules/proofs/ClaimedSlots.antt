@@ -10,7 +10,7 @@ use Rattle.dbp_slots.specs.FreeSlot.{IsLeastFree}
 use Rattle.dbp_plan.specs.Lookups.{link_at}
 use Rattle.dbp_rules.specs.PartyRules.{claimed_in, has_claim_in, kept_after_aim}
 use Rattle.dbp_rules.specs.PartyShapes.{LinksFit}
-use Rattle.dbp_rules.specs.Places.{claim_in, link, wired}
+use Rattle.dbp_rules.specs.Places.{claim_in, link, wired_task}
 use Rattle.dbp_rules.specs.Wired.{links_at}
 use Rattle.dbp_rules.specs.declared.parts.ReleaserPart.{ReleaserPart}
 use Rattle.dbp_rules.specs.declared.parts.TaskEntry.{TaskEntry}
@@ -82,7 +82,7 @@ claimed_few w r i (k ∷ ks) = elim (cases_Bool (has_claim_in w r i k)) [
 -- ---- the links that leave a task
 
 -- as its wiring lists them
-pub leaving_is : (w : Wiring) (i : ℕ) (t : TaskWiring) (ks : List ℕ) → LinksFit w → i < length w.tasks → ks ≡ t.leaving → t ≡ wired w i → ks ≡ links_at Writer w.links i
+pub leaving_is : (w : Wiring) (i : ℕ) (t : TaskWiring) (ks : List ℕ) → LinksFit w → i < length w.tasks → ks ≡ t.leaving → t ≡ wired_task w i → ks ≡ links_at Writer w.links i
 leaving_is w i t ks fit below own is = own ∙ ap (λ x. x.leaving) is ∙ fit.leaving i below
 
 pub leaving_few : (w : Wiring) (i : ℕ) (ks : List ℕ) → ks ≡ links_at Writer w.links i → length ks ≤ length w.links

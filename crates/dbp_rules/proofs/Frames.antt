@@ -3,10 +3,10 @@ use Rattle.std.proofs.Common.{◌≡◌, ◌≢◌, ℕ, ◌+◌, ◌<◌, List,
 use Rattle.std.proofs.lemmas.List.{length-set}
 use Rattle.std.proofs.lemmas.Bool.{cases_eq}
 use Rattle.dbp_plan.specs.declared.plan.Plan.{Plan}
-use Rattle.dbp_plan.specs.Lookups.{declared}
+use Rattle.dbp_plan.specs.Lookups.{declared_task}
 use Rattle.release_list.specs.Schedule.{aims}
 use Rattle.dbp_rules.specs.Moves.{claim_order}
-use Rattle.dbp_rules.specs.Places.{no_link_entry, no_order, no_task, no_task_entry, task, task_entry, wired}
+use Rattle.dbp_rules.specs.Places.{no_link_entry, no_order, no_task, no_task_entry, task, task_entry, wired_task}
 use Rattle.dbp_rules.specs.Rules.{further, with_claim, with_entry, with_task}
 use Rattle.dbp_rules.specs.Shapes.{EntryShape, IsShape, LinkShape, TaskShape}
 use Rattle.dbp_rules.specs.declared.parts.LinkEntry.{LinkEntry}
@@ -22,7 +22,7 @@ after_set Q xs i x d below here there j = elim (cases_eq j i) [
   | inr other ↦ rw get_or-set_other (there j other)
 ]
 
-pub task_changes : (p : Plan) (w : Wiring) (s : State) (i : ℕ) (t : TaskState) → IsShape p w s → i < length w.tasks → TaskShape w (declared p i) i (task_entry s i).aimed t → IsShape p w (with_task s i t)
+pub task_changes : (p : Plan) (w : Wiring) (s : State) (i : ℕ) (t : TaskState) → IsShape p w s → i < length w.tasks → TaskShape w (declared_task p i) i (task_entry s i).aimed t → IsShape p w (with_task s i t)
 task_changes p w s i t shape below ok = record {
   wiring = shape.wiring;
   entries = shape.entries;
@@ -31,12 +31,12 @@ task_changes p w s i t shape below ok = record {
   orders = shape.orders;
   aimed = shape.aimed;
   each_entry = shape.each_entry;
-  each_task = after_set (λ j u. j < length w.tasks → TaskShape w (declared p j) j (task_entry s j).aimed u) s.tasks i t no_task (rw shape.tasks below) (λ _. ok) (λ j other fits. shape.each_task j fits);
+  each_task = after_set (λ j u. j < length w.tasks → TaskShape w (declared_task p j) j (task_entry s j).aimed u) s.tasks i t no_task (rw shape.tasks below) (λ _. ok) (λ j other fits. shape.each_task j fits);
   each_link = shape.each_link;
 }
 
 -- an entry that was aimed no further
-pub entry_changes : (p : Plan) (w : Wiring) (s : State) (i : ℕ) (e : TaskEntry) → IsShape p w s → i < length w.tasks → e.aimed ≡ (task_entry s i).aimed → EntryShape (wired w i) e → IsShape p w (with_entry s i e)
+pub entry_changes : (p : Plan) (w : Wiring) (s : State) (i : ℕ) (e : TaskEntry) → IsShape p w s → i < length w.tasks → e.aimed ≡ (task_entry s i).aimed → EntryShape (wired_task w i) e → IsShape p w (with_entry s i e)
 entry_changes p w s i e shape below same ok =
     let inside : i < length s.releaser.tasks = rw shape.entries below in
     record {
@@ -46,15 +46,15 @@ entry_changes p w s i e shape below same ok =
       tasks = shape.tasks;
       orders = shape.orders;
       aimed = after_set (λ j u. j < length w.tasks → u.aimed ≡ aims w.releases s.releaser.place j) s.releaser.tasks i e no_task_entry inside (λ fits. same ∙ shape.aimed i fits) (λ j other fits. shape.aimed j fits);
-      each_entry = after_set (λ j u. j < length w.tasks → EntryShape (wired w j) u) s.releaser.tasks i e no_task_entry inside (λ _. ok) (λ j other fits. shape.each_entry j fits);
-      each_task = after_set (λ j u. j < length w.tasks → TaskShape w (declared p j) j u.aimed (task s j)) s.releaser.tasks i e no_task_entry inside (λ fits. rw same (shape.each_task i fits)) (λ j other fits. shape.each_task j fits);
+      each_entry = after_set (λ j u. j < length w.tasks → EntryShape (wired_task w j) u) s.releaser.tasks i e no_task_entry inside (λ _. ok) (λ j other fits. shape.each_entry j fits);
+      each_task = after_set (λ j u. j < length w.tasks → TaskShape w (declared_task p j) j u.aimed (task s j)) s.releaser.tasks i e no_task_entry inside (λ fits. rw same (shape.each_task i fits)) (λ j other fits. shape.each_task j fits);
       each_link = shape.each_link;
     }
 
 -- an entry that was aimed once more, with its task
 pub aim_changes : (p : Plan) (w : Wiring) (s : State) (i : ℕ) (e : TaskEntry) (t : TaskState) → IsShape p w s → i < length w.tasks
     → e.aimed ≡ aims w.releases (s.releaser.place + 1) i → ((j : ℕ) → j ≢ i → aims w.releases (s.releaser.place + 1) j ≡ aims w.releases s.releaser.place j)
-    → EntryShape (wired w i) e → TaskShape w (declared p i) i e.aimed t → IsShape p w (further (with_task (with_entry s i e) i t))
+    → EntryShape (wired_task w i) e → TaskShape w (declared_task p i) i e.aimed t → IsShape p w (further (with_task (with_entry s i e) i t))
 aim_changes p w s i e t shape below counted others entry ok =
     let inside : i < length s.releaser.tasks = rw shape.entries below in
     let within : i < length s.tasks = rw shape.tasks below in
@@ -65,7 +65,7 @@ aim_changes p w s i e t shape below counted others entry ok =
       tasks = length-set s.tasks i t ∙ shape.tasks;
       orders = shape.orders;
       aimed = after_set (λ j u. j < length w.tasks → u.aimed ≡ aims w.releases (s.releaser.place + 1) j) s.releaser.tasks i e no_task_entry inside (λ _. counted) (λ j other fits. shape.aimed j fits ∙ sym (others j other));
-      each_entry = after_set (λ j u. j < length w.tasks → EntryShape (wired w j) u) s.releaser.tasks i e no_task_entry inside (λ _. entry) (λ j other fits. shape.each_entry j fits);
+      each_entry = after_set (λ j u. j < length w.tasks → EntryShape (wired_task w j) u) s.releaser.tasks i e no_task_entry inside (λ _. entry) (λ j other fits. shape.each_entry j fits);
       each_task = λ j. elim (cases_eq j i) [
         | inl same ↦ λ _. rw (same, get_or-set_same, get_or-set_same) ok
         | inr other ↦ λ fits. rw (get_or-set_other s.tasks i j t no_task other, get_or-set_other s.releaser.tasks i j e no_task_entry other) (shape.each_task j fits)

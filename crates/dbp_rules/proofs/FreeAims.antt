@@ -16,7 +16,7 @@ use Rattle.dbp_plan.proofs.Counts.{count-cons}
 use Rattle.release_list.specs.declared.release.Release.TheVariants as release
 use Rattle.dbp_rules.specs.PartyRules as rule
 use Rattle.dbp_rules.specs.PartyRules.{claimed_in, has_claim_in}
-use Rattle.dbp_rules.specs.Places.{claim_in, entry_in, is_counted, link, wired}
+use Rattle.dbp_rules.specs.Places.{claim_in, entry_in, is_counted, link, wired_task}
 use Rattle.dbp_rules.specs.Promises.{HasFreeSlotIn, IsLeastAimIn}
 use Rattle.dbp_rules.specs.Shapes.{IsWired}
 use Rattle.dbp_rules.specs.Wired.{slot_count, wiring_of}
@@ -70,19 +70,19 @@ module _ (p : Plan) (count : Count) (r : ReleaserPart) (i : ℕ) where
       (ends_.0, ends_.1)
 
   -- the rank of a link's writer and of its reader, in the diagram's words
-  writer_rank : (k : ℕ) → k < length p.diagram.links → (link w k).writer ≡ i → (wired w (link w k).writer).rank ≡ get_or p.diagram.ranks i 0
+  writer_rank : (k : ℕ) → k < length p.diagram.links → (link w k).writer ≡ i → (wired_task w (link w k).writer).rank ≡ get_or p.diagram.ranks i 0
   writer_rank k below out = rank_is p count (link w k).writer (ends k below).0 ∙ ap (λ (n : ℕ). get_or p.diagram.ranks n 0) out
 
-  reader_rank : (k : ℕ) → k < length p.diagram.links → (wired w (link w k).reader).rank ≡ get_or p.diagram.ranks (link w k).reader 0
+  reader_rank : (k : ℕ) → k < length p.diagram.links → (wired_task w (link w k).reader).rank ≡ get_or p.diagram.ranks (link w k).reader 0
   reader_rank k below = rank_is p count (link w k).reader (ends k below).1
 
   -- it goes to a lower task or to a higher one
   lower_or_higher : (k : ℕ) → k < length p.diagram.links → (link w k).writer ≡ i → (is_to_lower p.diagram.ranks i (link_at p.diagram.links k) || is_to_higher p.diagram.ranks i (link_at p.diagram.links k)) ≡ true
   lower_or_higher k below out =
       let inside : k < length w.links = below in
-      let from : (wired w (link w k).writer).rank ≡ get_or p.diagram.ranks i 0 = writer_rank k below out in
-      let to : (wired w (link w k).reader).rank ≡ get_or p.diagram.ranks (link w k).reader 0 = reader_rank k below in
-      let apart : (wired w (link w k).writer).rank ≢ (wired w (link w k).reader).rank = own.ranks (link w k).writer (link w k).reader (own.whole.writer k inside) (own.whole.reader k inside) (own.apart k inside) in
+      let from : (wired_task w (link w k).writer).rank ≡ get_or p.diagram.ranks i 0 = writer_rank k below out in
+      let to : (wired_task w (link w k).reader).rank ≡ get_or p.diagram.ranks (link w k).reader 0 = reader_rank k below in
+      let apart : (wired_task w (link w k).writer).rank ≢ (wired_task w (link w k).reader).rank = own.ranks (link w k).writer (link w k).reader (own.whole.writer k inside) (own.whole.reader k inside) (own.apart k inside) in
       elim (cases_lt (get_or p.diagram.ranks i 0) (get_or p.diagram.ranks (link w k).reader 0)) [
         | inl less ↦ rw (eq-eqb (link w k).writer i out, lt-ltb (get_or p.diagram.ranks i 0) (get_or p.diagram.ranks (link w k).reader 0) less) refl
         | inr more ↦
@@ -99,7 +99,7 @@ to_lower : (p : Plan) (r : ReleaserPart) (i k : ℕ) → k < length p.diagram.li
 to_lower p r i k below is =
     let w : Wiring = wiring_of p Ranked in
     let both = keeps p Ranked r i k is in
-    let less : (wired (wiring_of p Ranked) (link (wiring_of p Ranked) k).writer).rank < (wired (wiring_of p Ranked) (link (wiring_of p Ranked) k).reader).rank = ltb-true _ _ both.1 in
+    let less : (wired_task (wiring_of p Ranked) (link (wiring_of p Ranked) k).writer).rank < (wired_task (wiring_of p Ranked) (link (wiring_of p Ranked) k).reader).rank = ltb-true _ _ both.1 in
     let lower : get_or p.diagram.ranks i 0 < get_or p.diagram.ranks (link_at p.diagram.links k).reader 0 = omega (arith, less, writer_rank p Ranked r i k below both.0, reader_rank p Ranked r i k below) in
     rw (eq-eqb (link_at p.diagram.links k).writer i both.0, lt-ltb (get_or p.diagram.ranks i 0) (get_or p.diagram.ranks (link_at p.diagram.links k).reader 0) lower) refl
 
@@ -115,13 +115,13 @@ claims_few p All r i =
     (λ k below is. let here : 0 + k ≡ k = omega arith in lower_or_higher p All r i k below (keeps p All r i k (ap (has_claim_in (wiring_of p All) r i) (sym here) ∙ is)).0) in
     omega (arith, few, count_or (is_to_lower p.diagram.ranks i) (is_to_higher p.diagram.ranks i) p.diagram.links)
 
-pub has_free_slot : (p : Plan) (count : Count) (r : ReleaserPart) (i : ℕ) → i < length p.diagram.tasks → length (entry_in r i).kept ≡ (wired (wiring_of p count) i).kept → HasFreeSlotIn (wiring_of p count) r i
+pub has_free_slot : (p : Plan) (count : Count) (r : ReleaserPart) (i : ℕ) → i < length p.diagram.tasks → length (entry_in r i).kept ≡ (wired_task (wiring_of p count) i).kept → HasFreeSlotIn (wiring_of p count) r i
 has_free_slot p count r i named size =
     let kept : length (rule.kept_after_aim (entry_in r i)) ≡ length (entry_in r i).kept = length-take-le (length (entry_in r i).kept) ((entry_in r i).current ∷ (entry_in r i).kept) (omega arith) in
     let claimed : length (claimed_in (wiring_of p count) r i) ≡ count_by (has_claim_in (wiring_of p count) r i) (range_with_len 0 (length p.diagram.links)) =
     length-map (filter (has_claim_in (wiring_of p count) r i) (range_with_len 0 (length p.diagram.links))) (λ k. (claim_in r k).slot) ∙ length-filter (has_claim_in (wiring_of p count) r i) (range_with_len 0 (length p.diagram.links)) in
-    let slots : (wired (wiring_of p count) i).slots ≡ slot_count count p i = ap (λ (t : TaskWiring). t.slots) (wired_is p count i named) in
-    let delayed : (wired (wiring_of p count) i).kept ≡ (counts_of p.diagram i).delayed = ap (λ (t : TaskWiring). t.kept) (wired_is p count i named) in
+    let slots : (wired_task (wiring_of p count) i).slots ≡ slot_count count p i = ap (λ (t : TaskWiring). t.slots) (wired_is p count i named) in
+    let delayed : (wired_task (wiring_of p count) i).kept ≡ (counts_of p.diagram i).delayed = ap (λ (t : TaskWiring). t.kept) (wired_is p count i named) in
     omega (arith, claims_few p count r i, claimed, kept, size, slots, delayed)
 
 -- ---- members of lists
@@ -234,7 +234,7 @@ claiming w r i slot claimed =
     (v.number, omega (arith, v.below), keeps_claims w r i slot v.number v.passes v.value)
 
 pub exact_aim : (w : Wiring) (r : ReleaserPart) (i slot : ℕ) → slice_get w.releases r.place ≡ Some (release.Aim i) → (entry_in r i).aimed ≡ (entry_in r i).known
-    → IsLeastFree (claimed_in w r i) (rule.kept_after_aim (entry_in r i)) (wired w i).slots slot → IsLeastAimIn w r i slot
+    → IsLeastFree (claimed_in w r i) (rule.kept_after_aim (entry_in r i)) (wired_task w i).slots slot → IsLeastAimIn w r i slot
 exact_aim w r i slot here known free = record {
   free = free;
   allowed = allowed_aim w r i slot (record {
@@ -271,11 +271,11 @@ aim_named p count place i here =
     let whole : IsWired p (wiring_of p count) = wiring-whole p count in
     (whole.releases.at_aim place i here).named
 
-pub some_aim : (p : Plan) (count : Count) (r : ReleaserPart) (i : ℕ) → length (entry_in r i).kept ≡ (wired (wiring_of p count) i).kept
+pub some_aim : (p : Plan) (count : Count) (r : ReleaserPart) (i : ℕ) → length (entry_in r i).kept ≡ (wired_task (wiring_of p count) i).kept
     → slice_get (wiring_of p count).releases r.place ≡ Some (release.Aim i) → (entry_in r i).aimed ≡ (entry_in r i).known → (slot : ℕ) × IsLeastAimIn (wiring_of p count) r i slot
 some_aim p count r i size here known =
     let few : HasFreeSlotIn (wiring_of p count) r i = has_free_slot p count r i (aim_named p count r.place i here) size in
-    elim (free_from (claimed_in (wiring_of p count) r i) (rule.kept_after_aim (entry_in r i)) (wired (wiring_of p count) i).slots 0 (wired (wiring_of p count) i).slots (omega arith) (λ m below. absurd (omega arith))) [
+    elim (free_from (claimed_in (wiring_of p count) r i) (rule.kept_after_aim (entry_in r i)) (wired_task (wiring_of p count) i).slots 0 (wired_task (wiring_of p count) i).slots (omega arith) (λ m below. absurd (omega arith))) [
       | inl found ↦ (found.0, exact_aim (wiring_of p count) r i found.0 here known found.1)
-      | inr taken ↦ absurd (one_free (claimed_in (wiring_of p count) r i) (rule.kept_after_aim (entry_in r i)) (wired (wiring_of p count) i).slots few taken)
+      | inr taken ↦ absurd (one_free (claimed_in (wiring_of p count) r i) (rule.kept_after_aim (entry_in r i)) (wired_task (wiring_of p count) i).slots few taken)
     ]

@@ -8,7 +8,7 @@ use Rattle.dbp_plan.specs.Occurrences.{times_of, time_of}
 use Rattle.dbp_plan.specs.Lookups.{link_at}
 use Rattle.release_list.specs.Schedule.{aims, seen_by}
 use Rattle.dbp_rules.specs.Moves.{heard_order}
-use Rattle.dbp_rules.specs.Places.{link, link_entry, order, task, task_entry, wired, is_counted}
+use Rattle.dbp_rules.specs.Places.{link, link_entry, order, task, task_entry, wired_task, is_counted}
 use Rattle.dbp_rules.specs.Rules.{order_word}
 use Rattle.dbp_rules.specs.Shapes.{IsShape, OrderFits, PlaceIn, TaskShape, heard_by, link_in, running_count, slot_owner}
 use Rattle.dbp_rules.specs.Sound.{Sound}
@@ -88,13 +88,13 @@ module _ (p : Plan) (w : Wiring) (rows : ℕ → ℕ → List ℤ) (s : State) (
     heard_is i zero below inside = (sound.tasks i below).heard inside
     heard_is i (suc j) below inside =
         let shape : TaskShape w _ i (task_entry s i).aimed (task s i) = sound.shape.each_task i below in
-        let few : j < length (wired w i).links = omega (arith, inside, shape.heard, heard_most (wired w i) (task s i).part.place shape.place) in
-        let k : ℕ = link_in (wired w i) j in
-        let fits : link_in (wired w i) j < length w.links = (own.whole.each_task i below).into j few in
+        let few : j < length (wired_task w i).links = omega (arith, inside, shape.heard, heard_most (wired_task w i) (task s i).part.place shape.place) in
+        let k : ℕ = link_in (wired_task w i) j in
+        let fits : link_in (wired_task w i) j < length w.links = (own.whole.each_task i below).into j few in
         let one : suc j ≡ j + 1 = omega arith in
         ap (λ (n : ℕ). heard_order (task s i).part n) one
-        ∙ old_orders p w rows s own sound i (link_in (wired w i) j) fits (own.into i j below few) j (omega arith) refl
-        ∙ sym (sound.claims (link_in (wired w i) j) fits).order
+        ∙ old_orders p w rows s own sound i (link_in (wired_task w i) j) fits (own.into i j below few) j (omega arith) refl
+        ∙ sym (sound.claims (link_in (wired_task w i) j) fits).order
 
     chain : (i : ℕ) → i < length w.tasks → TaskChain w s i (task_entry s i) (task s i)
     chain i below =
@@ -123,7 +123,7 @@ module _ (p : Plan) (w : Wiring) (rows : ℕ → ℕ → List ℤ) (s : State) (
 
     ready : (i : ℕ) → i < length w.tasks → (n : ℕ) → (task s i).part.place ≡ place.Take n → (slot_of_claim w s (read_of p w i n).link).stamp ≡ (link_entry s (read_of p w i n).link).number + 1
     ready i below n at =
-        let few : n < length (wired w i).reads = subst (λ (x : Place). PlaceIn (wired w i) x) at (sound.shape.each_task i below).place in
+        let few : n < length (wired_task w i).reads = subst (λ (x : Place). PlaceIn (wired_task w i) x) at (sound.shape.each_task i below).place in
         let read : IsOwnRead p w i n = own.reads i n below few in
         let k : ℕ = (read_of p w i n).link in
         subst (λ (x : ℕ). (task s x).part.place ≡ place.Take n → (read_of p w x n).link ≡ k → (slot_of_claim w s k).stamp ≡ (link_entry s k).number + 1) read.reader ((sound.links k read.below).ready n) at refl
@@ -176,23 +176,23 @@ module _ (p : Plan) (w : Wiring) (rows : ℕ → ℕ → List ℤ) (s : State) (
         let seen : seen_by w.links p.batches k (link_entry s k).instance ≤ aims w.releases s.releaser.place v = rw (parts.numbers.claimed k fits) (seen_aims p w own.whole s.releaser.place k fits) in
         omega (arith, parts.numbers.number k fits, seen, own.whole.releases.aims_times s.releaser.place v, times_few v writer)
 
-    order_fits : (k : ℕ) → k < length w.links → OrderFits (wired w (link w k).writer) (order s k)
-    order_fits k fits = subst (λ (o : Order). OrderFits (wired w (link w k).writer) o) (sym (parts.numbers.order k fits)) (parts.slots.claimed k fits, number_few k fits)
+    order_fits : (k : ℕ) → k < length w.links → OrderFits (wired_task w (link w k).writer) (order s k)
+    order_fits k fits = subst (λ (o : Order). OrderFits (wired_task w (link w k).writer) o) (sym (parts.numbers.order k fits)) (parts.slots.claimed k fits, number_few k fits)
 
-    aim_fits : (i : ℕ) → i < length w.tasks → OrderFits (wired w i) (task s i).words.aim
+    aim_fits : (i : ℕ) → i < length w.tasks → OrderFits (wired_task w i) (task s i).words.aim
     aim_fits i below =
         let few : (task_entry s i).aimed ≤ MAX_OCCURRENCES = omega (arith, aimed_few i below (parts.numbers.aimed i below), times_few i below) in
-        subst (λ (o : Order). OrderFits (wired w i) o) (sym (parts.numbers.aim i below)) (parts.slots.current i below, few)
+        subst (λ (o : Order). OrderFits (wired_task w i) o) (sym (parts.numbers.aim i below)) (parts.slots.current i below, few)
 
-    word_fits : (i n : ℕ) → i < length w.tasks → n < 1 + length (wired w i).links → OrderFits (wired w (slot_owner w i n)) (order_word w s i n)
+    word_fits : (i n : ℕ) → i < length w.tasks → n < 1 + length (wired_task w i).links → OrderFits (wired_task w (slot_owner w i n)) (order_word w s i n)
     word_fits i zero below inside = aim_fits i below
-    word_fits i (suc n) below inside = order_fits (link_in (wired w i) n) ((own.whole.each_task i below).into n (omega arith))
+    word_fits i (suc n) below inside = order_fits (link_in (wired_task w i) n) ((own.whole.each_task i below).into n (omega arith))
 
-    heard_fits : (i n : ℕ) → i < length w.tasks → n < length (task s i).part.heard.items → OrderFits (wired w (slot_owner w i n)) (heard_order (task s i).part n)
+    heard_fits : (i n : ℕ) → i < length w.tasks → n < length (task s i).part.heard.items → OrderFits (wired_task w (slot_owner w i n)) (heard_order (task s i).part n)
     heard_fits i n below inside =
         let t = parts.there.each_task i below in
-        let few : n < 1 + length (wired w i).links = omega (arith, inside, t.heard, heard_most (wired w i) (task s i).part.place t.place) in
-        subst (λ (o : Order). OrderFits (wired w (slot_owner w i n)) o) (sym ((parts.chain i below).heard n inside)) (word_fits i n below few)
+        let few : n < 1 + length (wired_task w i).links = omega (arith, inside, t.heard, heard_most (wired_task w i) (task s i).part.place t.place) in
+        subst (λ (o : Order). OrderFits (wired_task w (slot_owner w i n)) o) (sym ((parts.chain i below).heard n inside)) (word_fits i n below few)
 
     gate : (i : ℕ) → i < length w.tasks → (task s i).part.ended + running_count (task s i).part.place ≤ (task s i).words.gate
     gate i below =

@@ -74,9 +74,9 @@ pub input_until : (inputs : List Input) (samples : List Sample) (input time : �
 input_until inputs samples input time i at = rw (at, given_until input time samples) refl
 
 -- a word is set after two lists
-set_behind : (front middle rest : List ℤ) (n : ℕ) (word : ℤ) → n ≡ length front + length middle → 0 < length rest → slice_set (front ++ (middle ++ rest)) n word ≡ front ++ ((middle ++ word ∷ []) ++ drop 1 rest)
-set_behind front middle [] n word place some = absurd (omega arith)
-set_behind front middle (x ∷ rest) n word place some =
+set_after : (front middle rest : List ℤ) (n : ℕ) (word : ℤ) → n ≡ length front + length middle → 0 < length rest → slice_set (front ++ (middle ++ rest)) n word ≡ front ++ ((middle ++ word ∷ []) ++ drop 1 rest)
+set_after front middle [] n word place some = absurd (omega arith)
+set_after front middle (x ∷ rest) n word place some =
     let first : n - length front ≡ length middle = omega arith in
     let second : length middle - length middle ≡ 0 = omega arith in
     set-append_right front (middle ++ x ∷ rest) (length front) n word refl (omega arith)
@@ -95,7 +95,7 @@ sense_more task w values k word at room =
     let more : length (take (k + 1) values) ≡ k + 1 = length-take-le (k + 1) values (omega arith) in
     let left : 0 < length (drop (length task.states + length (take k values)) w.now) = omega (arith, size, length-drop (length task.states + length (take k values)) w.now) in
     let set : slice_set (with_senses task (take k values) w).now (length task.states + k) word ≡ take (length task.states) w.now ++ ((take k values ++ word ∷ []) ++ drop 1 (drop (length task.states + length (take k values)) w.now)) =
-    set_behind (take (length task.states) w.now) (take k values) (drop (length task.states + length (take k values)) w.now) (length task.states + k) word (omega (arith, states, size)) left in
+    set_after (take (length task.states) w.now) (take k values) (drop (length task.states + length (take k values)) w.now) (length task.states + k) word (omega (arith, states, size)) left in
     let rest : drop 1 (drop (length task.states + length (take k values)) w.now) ≡ drop (length task.states + length (take (k + 1) values)) w.now =
     drop-drop 1 (length task.states + length (take k values)) w.now ∙ ap (λ n. drop n w.now) (omega (arith, size, more)) in
     let front : take k values ++ word ∷ [] ≡ take (k + 1) values = sym (take_push values k word at) in

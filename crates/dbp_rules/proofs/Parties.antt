@@ -3,12 +3,12 @@ use Rattle.std.proofs.Common.{◌≡◌, ℕ, ℤ, ◌<◌, ◌≤◌, List, len
 use Rattle.std.proofs.lemmas.Bool.{cases_Bool}
 use Rattle.std.proofs.lemmas.Option.{same_Some}
 use Rattle.dbp_plan.specs.declared.plan.Plan.{Plan}
-use Rattle.dbp_plan.specs.Lookups.{declared}
+use Rattle.dbp_plan.specs.Lookups.{declared_task}
 use Rattle.sync_meaning.specs.SomeMeaning.{meaning_of}
 use Rattle.dbp_plan.specs.Table.{table_row}
 use Rattle.dbp_rules.specs.PartyRules as party
 use Rattle.dbp_rules.specs.PartyShapes.{LinksFit, ReleaserLoads, ReleaserShape, TaskLoads, TaskPartShape}
-use Rattle.dbp_rules.specs.Places.{no_task, task, task_entry, wired}
+use Rattle.dbp_rules.specs.Places.{no_task, task, task_entry, wired_task}
 use Rattle.dbp_rules.specs.Rules as rule
 use Rattle.dbp_rules.specs.SharedWords.{made_by}
 use Rattle.dbp_rules.specs.Shapes.{IsTaskWired, IsWired, OrderFits, PlaceIn, TaskShape, place_number, slot_owner}
@@ -40,15 +40,15 @@ or_else_nothing (Some x) = refl
 not_blocked : (w : Wiring) (s : State) (i : ℕ) → w.count ≡ All → rule.blocker_refusal w.count w s i ≡ None
 not_blocked w s i all = ap (λ (c : Count). rule.blocker_refusal c w s i) all
 
-forbidden_by : (w : Wiring) (s : State) (e : Step) (i j : ℕ) → w.count ≡ All → Some j ≡ Some i → rule.ranked_refusal w s j e ≡ party.task_refusal (wired w i) (task s i).part e
+forbidden_by : (w : Wiring) (s : State) (e : Step) (i j : ℕ) → w.count ≡ All → Some j ≡ Some i → rule.ranked_refusal w s j e ≡ party.task_refusal (wired_task w i) (task s i).part e
 forbidden_by w s e i j all is =
-    subst (λ (n : ℕ). rule.ranked_refusal w s j e ≡ party.task_refusal (wired w n) (task s n).part e) (same_Some j i is)
-    (ap (rule.or_else (party.task_refusal (wired w j) (task s j).part e)) (not_blocked w s j all) ∙ or_else_nothing (party.task_refusal (wired w j) (task s j).part e))
+    subst (λ (n : ℕ). rule.ranked_refusal w s j e ≡ party.task_refusal (wired_task w n) (task s n).part e) (same_Some j i is)
+    (ap (rule.or_else (party.task_refusal (wired_task w j) (task s j).part e)) (not_blocked w s j all) ∙ or_else_nothing (party.task_refusal (wired_task w j) (task s j).part e))
 
-start_by : (w : Wiring) (s : State) (i : ℕ) → w.count ≡ All → rule.refusal w s (Start i) ≡ party.task_refusal (wired w i) (task s i).part (Start i)
+start_by : (w : Wiring) (s : State) (i : ℕ) → w.count ≡ All → rule.refusal w s (Start i) ≡ party.task_refusal (wired_task w i) (task s i).part (Start i)
 start_by w s i all = elim (cases_Bool (rule.is_open s i)) [
-  | inl is ↦ rw (is, not_blocked w s i all) (or_else_nothing (party.task_refusal (wired w i) (task s i).part (Start i)))
-  | inr isnt ↦ rw isnt (or_else_nothing (party.task_refusal (wired w i) (task s i).part (Start i)))
+  | inl is ↦ rw (is, not_blocked w s i all) (or_else_nothing (party.task_refusal (wired_task w i) (task s i).part (Start i)))
+  | inr isnt ↦ rw isnt (or_else_nothing (party.task_refusal (wired_task w i) (task s i).part (Start i)))
 ]
 
 pub releaser_refused : (w : Wiring) (s : State) (e : Step) → made_by e ≡ None → rule.refusal w s e ≡ party.releaser_refusal w s.releaser e
@@ -65,12 +65,12 @@ releaser_refused w s (Put i port) is = absurd (cc (is))
 releaser_refused w s (Done i) is = absurd (cc (is))
 releaser_refused w s (End i) is = absurd (cc (is))
 
-pub task_refused : (w : Wiring) (s : State) (e : Step) (i : ℕ) → w.count ≡ All → made_by e ≡ Some i → rule.refusal w s e ≡ party.task_refusal (wired w i) (task s i).part e
+pub task_refused : (w : Wiring) (s : State) (e : Step) (i : ℕ) → w.count ≡ All → made_by e ≡ Some i → rule.refusal w s e ≡ party.task_refusal (wired_task w i) (task s i).part e
 task_refused w s (Seen j) i all is = absurd (cc (is))
 task_refused w s (Aim j slot) i all is = absurd (cc (is))
 task_refused w s (Claim k) i all is = absurd (cc (is))
 task_refused w s (OpenGate j) i all is = absurd (cc (is))
-task_refused w s (Start j) i all is = subst (λ (n : ℕ). rule.refusal w s (Start j) ≡ party.task_refusal (wired w n) (task s n).part (Start j)) (same_Some j i is) (start_by w s j all)
+task_refused w s (Start j) i all is = subst (λ (n : ℕ). rule.refusal w s (Start j) ≡ party.task_refusal (wired_task w n) (task s n).part (Start j)) (same_Some j i is) (start_by w s j all)
 task_refused w s (Hear j) i all is = forbidden_by w s (Hear j) i j all is
 task_refused w s (Look j r) i all is = forbidden_by w s (Look j r) i j all is
 task_refused w s (Take j r) i all is = forbidden_by w s (Take j r) i j all is
@@ -79,11 +79,11 @@ task_refused w s (Put j port) i all is = forbidden_by w s (Put j port) i j all i
 task_refused w s (Done j) i all is = forbidden_by w s (Done j) i j all is
 task_refused w s (End j) i all is = forbidden_by w s (End j) i j all is
 
-allowed_by : (w : Wiring) (s : State) (e : Step) (i j : ℕ) (rest : Option Illegal) → Some j ≡ Some i → rule.or_else (party.task_refusal (wired w j) (task s j).part e) rest ≡ None → party.task_refusal (wired w i) (task s i).part e ≡ None
+allowed_by : (w : Wiring) (s : State) (e : Step) (i j : ℕ) (rest : Option Illegal) → Some j ≡ Some i → rule.or_else (party.task_refusal (wired_task w j) (task s j).part e) rest ≡ None → party.task_refusal (wired_task w i) (task s i).part e ≡ None
 allowed_by w s e i j rest is free =
-    subst (λ (n : ℕ). party.task_refusal (wired w n) (task s n).part e ≡ None) (same_Some j i is) (or_else_none (party.task_refusal (wired w j) (task s j).part e) rest free).0
+    subst (λ (n : ℕ). party.task_refusal (wired_task w n) (task s n).part e ≡ None) (same_Some j i is) (or_else_none (party.task_refusal (wired_task w j) (task s j).part e) rest free).0
 
-pub task_allowed : (w : Wiring) (s : State) (e : Step) (i : ℕ) → made_by e ≡ Some i → rule.refusal w s e ≡ None → party.task_refusal (wired w i) (task s i).part e ≡ None
+pub task_allowed : (w : Wiring) (s : State) (e : Step) (i : ℕ) → made_by e ≡ Some i → rule.refusal w s e ≡ None → party.task_refusal (wired_task w i) (task s i).part e ≡ None
 task_allowed w s (Seen j) i is free = absurd (cc (is))
 task_allowed w s (Aim j slot) i is free = absurd (cc (is))
 task_allowed w s (Claim k) i is free = absurd (cc (is))
@@ -119,7 +119,7 @@ moved_to w s e i j t inside is same =
     subst (λ (n : ℕ). (task (rule.with_task s j t) n).part ≡ rule.next_part w s n e) at
     (ap (λ (x : TaskState). x.part) (get_or-set_same s.tasks j t no_task (rw at inside)) ∙ same)
 
-pub task_moved : (p : Plan) (w : Wiring) (s : State) (e : Step) (i : ℕ) → i < length s.tasks → made_by e ≡ Some i → (task (rule.next p w s e) i).part ≡ party.task_after (wired w i) (task s i).part e (rule.loaded_value w s e)
+pub task_moved : (p : Plan) (w : Wiring) (s : State) (e : Step) (i : ℕ) → i < length s.tasks → made_by e ≡ Some i → (task (rule.next p w s e) i).part ≡ party.task_after (wired_task w i) (task s i).part e (rule.loaded_value w s e)
 task_moved p w s (Seen j) i inside is = absurd (cc (is))
 task_moved p w s (Aim j slot) i inside is = absurd (cc (is))
 task_moved p w s (Claim k) i inside is = absurd (cc (is))
@@ -143,14 +143,14 @@ module _ (p : Plan) (w : Wiring) (rows : ℕ → ℕ → List ℤ) (s : State) (
   there i named = omega (arith, named, sound.shape.wiring.tasks)
 
   -- no task is aimed more often than it occurs
-  aimed_times : (i : ℕ) → i < length w.tasks → (task_entry s i).aimed ≤ length (wired w i).times
+  aimed_times : (i : ℕ) → i < length w.tasks → (task_entry s i).aimed ≤ length (wired_task w i).times
   aimed_times i below =
-      let t : IsTaskWired p w i (wired w i) = sound.shape.wiring.each_task i below in
+      let t : IsTaskWired p w i (wired_task w i) = sound.shape.wiring.each_task i below in
       omega (arith, sound.shape.aimed i below, sound.shape.wiring.releases.aims_times s.releaser.place i, ap length t.times)
 
   known_aimed : (i : ℕ) → i < length w.tasks → (task s i).words.ended ≤ (task_entry s i).aimed
   known_aimed i below =
-      let ok : TaskShape w (declared p i) i (task_entry s i).aimed (task s i) = sound.shape.each_task i below in
+      let ok : TaskShape w (declared_task p i) i (task_entry s i).aimed (task s i) = sound.shape.each_task i below in
       omega (arith, ok.gate, ok.aimed, (sound.tasks i below).ended)
 
   pub releaser_in_shape : ReleaserShape p w s.releaser
@@ -168,13 +168,13 @@ module _ (p : Plan) (w : Wiring) (rows : ℕ → ℕ → List ℤ) (s : State) (
   }
 
   -- as many slots are kept as the wiring says
-  pub kept_size : (i : ℕ) → i < length p.diagram.tasks → length (task_entry s i).kept ≡ (wired w i).kept
+  pub kept_size : (i : ℕ) → i < length p.diagram.tasks → length (task_entry s i).kept ≡ (wired_task w i).kept
   kept_size i named = (sound.shape.each_entry i (there i named)).kept
 
   pub task_in_shape : (i : ℕ) → i < length p.diagram.tasks → TaskPartShape w i (task s i).part
   task_in_shape i named =
       let below : i < length w.tasks = there i named in
-      let ok : TaskShape w (declared p i) i (task_entry s i).aimed (task s i) = sound.shape.each_task i below in
+      let ok : TaskShape w (declared_task p i) i (task_entry s i).aimed (task s i) = sound.shape.each_task i below in
       record {
         place = ok.place;
         occurs = omega (arith, ok.gate, ok.aimed, aimed_times i below);
@@ -196,17 +196,17 @@ module _ (p : Plan) (w : Wiring) (rows : ℕ → ℕ → List ℤ) (s : State) (
   releaser_loads (Done i) named = tt
   releaser_loads (End i) named = tt
 
-  gate_times : (i : ℕ) → i < length w.tasks → (task s i).words.gate ≤ length (wired w i).times
+  gate_times : (i : ℕ) → i < length w.tasks → (task s i).words.gate ≤ length (wired_task w i).times
   gate_times i below =
-      let ok : TaskShape w (declared p i) i (task_entry s i).aimed (task s i) = sound.shape.each_task i below in
+      let ok : TaskShape w (declared_task p i) i (task_entry s i).aimed (task s i) = sound.shape.each_task i below in
       omega (arith, ok.aimed, aimed_times i below)
 
-  hear_fits : (i : ℕ) → i < length w.tasks → rule.refusal w s (Hear i) ≡ None → OrderFits (wired w (slot_owner w i (rule.hears_at (task s i).part.place))) (rule.order_word w s i (rule.hears_at (task s i).part.place))
+  hear_fits : (i : ℕ) → i < length w.tasks → rule.refusal w s (Hear i) ≡ None → OrderFits (wired_task w (slot_owner w i (rule.hears_at (task s i).part.place))) (rule.order_word w s i (rule.hears_at (task s i).part.place))
   hear_fits i below free =
       let n : ℕ = place_number (task s i).part.place in
-      let at : (task s i).part.place ≡ place.Hear (place_number (task s i).part.place) = at_next broken.TaskPlace (wired w i) (task s i).part.place 6 0 (or_else_none _ _ free).0 in
-      let inside : PlaceIn (wired w i) (place.Hear (place_number (task s i).part.place)) = subst (λ (q : Place). PlaceIn (wired w i) q) at (sound.shape.each_task i below).place in
-      let few : rule.hears_at (task s i).part.place ≤ length (wired w i).links = omega (arith, ap rule.hears_at at, inside) in
+      let at : (task s i).part.place ≡ place.Hear (place_number (task s i).part.place) = at_next broken.TaskPlace (wired_task w i) (task s i).part.place 6 0 (or_else_none _ _ free).0 in
+      let inside : PlaceIn (wired_task w i) (place.Hear (place_number (task s i).part.place)) = subst (λ (q : Place). PlaceIn (wired_task w i) q) at (sound.shape.each_task i below).place in
+      let few : rule.hears_at (task s i).part.place ≤ length (wired_task w i).links = omega (arith, ap rule.hears_at at, inside) in
       word_ordered p w s sound.shape i (rule.hears_at (task s i).part.place) below few
 
   pub task_loads : (e : Step) (i : ℕ) → i < length p.diagram.tasks → made_by e ≡ Some i → rule.refusal w s e ≡ None → TaskLoads w i (task s i).part e (rule.loaded_value w s e)
@@ -214,10 +214,10 @@ module _ (p : Plan) (w : Wiring) (rows : ℕ → ℕ → List ℤ) (s : State) (
   task_loads (Aim j slot) i named is free = tt
   task_loads (Claim k) i named is free = tt
   task_loads (OpenGate j) i named is free = tt
-  task_loads (Start j) i named is free = subst (λ (n : ℕ). (task s n).words.gate ≤ length (wired w i).times) (sym (same_Some j i is)) (gate_times i (there i named))
+  task_loads (Start j) i named is free = subst (λ (n : ℕ). (task s n).words.gate ≤ length (wired_task w i).times) (sym (same_Some j i is)) (gate_times i (there i named))
   task_loads (Hear j) i named is free =
       let same : i ≡ j = sym (same_Some j i is) in
-      subst (λ (n : ℕ). OrderFits (wired w (slot_owner w i (rule.hears_at (task s i).part.place))) (rule.order_word w s n (rule.hears_at (task s n).part.place))) same
+      subst (λ (n : ℕ). OrderFits (wired_task w (slot_owner w i (rule.hears_at (task s i).part.place))) (rule.order_word w s n (rule.hears_at (task s n).part.place))) same
       (hear_fits i (there i named) (subst (λ (n : ℕ). rule.refusal w s (Hear n) ≡ None) (sym same) free))
   task_loads (Look j r) i named is free = tt
   task_loads (Take j r) i named is free = tt

@@ -7,13 +7,13 @@ use Rattle.dbp_plan.specs.declared.plan.Plan.{Plan}
 use Rattle.dbp_plan.specs.Closed.{let_base, place_count}
 use Rattle.dbp_plan.specs.Occurrences.{times_of}
 use Rattle.dbp_plan.specs.Samples.{input_value}
-use Rattle.dbp_plan.specs.Lookups.{declared, no_declared, no_read}
+use Rattle.dbp_plan.specs.Lookups.{declared_task, no_declared, no_read}
 use Rattle.sync_meaning.specs.Meaning.{outs_in}
 use Rattle.sync_meaning.specs.SomeMeaningEnvs.{IsEnvFrom, env_from-is, states_after}
 use Rattle.sync_meaning.specs.SomeMeaningRows.{Solves, env_at, given_at, states_at, states_at-more, word_at}
 use Rattle.dbp_plan.specs.Places.{same_item}
 use Rattle.dbp_rules.specs.Moves as move
-use Rattle.dbp_rules.specs.Places.{read_at, time, wired}
+use Rattle.dbp_rules.specs.Places.{read_at, time, wired_task}
 use Rattle.dbp_rules.specs.SoundParts.{meant_word, place_of_read, read_of}
 use Rattle.dbp_rules.specs.Work.{WorkWords}
 use Rattle.dbp_rules.specs.declared.wiring.Wiring.{Wiring}
@@ -28,19 +28,19 @@ take_rest (x ∷ xs) ys (suc n) r size =
 
 -- what a task has to compute with in its instance m + 1: its states after m instances, and the words that the meaning gives its reads
 pub record HasItsWords (p : Plan) (w : Wiring) (rows : ℕ → ℕ → List ℤ) (i m : ℕ) (work : WorkWords) : Type 0 where
-  pub size : length work.now ≡ place_count (declared p i)
-  pub states : take (length (declared p i).states) work.now ≡ states_at p.diagram p.samples p.batches rows i (declared p i) m
-  pub taken : (n : ℕ) → n < length (wired w i).reads → get_or work.now (place_of_read p w i n) (pos 0) ≡ meant_word p rows i (m + 1) (read_of p w i n)
+  pub size : length work.now ≡ place_count (declared_task p i)
+  pub states : take (length (declared_task p i).states) work.now ≡ states_at p.diagram p.samples p.batches rows i (declared_task p i) m
+  pub taken : (n : ℕ) → n < length (wired_task w i).reads → get_or work.now (place_of_read p w i n) (pos 0) ≡ meant_word p rows i (m + 1) (read_of p w i n)
 
 -- what it has computed in that instance: the row, and its next states; what it has computed with stays
 pub record HasComputed (p : Plan) (w : Wiring) (rows : ℕ → ℕ → List ℤ) (i m : ℕ) (work : WorkWords) : Type 0 where
   pub given : HasItsWords p w rows i m work
   pub row : work.row ≡ rows i (m + 1)
-  pub later : work.later ≡ states_at p.diagram p.samples p.batches rows i (declared p i) (m + 1)
+  pub later : work.later ≡ states_at p.diagram p.samples p.batches rows i (declared_task p i) (m + 1)
 
 module _ (p : Plan) (w : Wiring) (rows : ℕ → ℕ → List ℤ) (own : IsOwn p w) (solves : Solves p.diagram p.samples p.batches rows) (i m : ℕ) (work : WorkWords) (below : i < length w.tasks) (room : m < length (times_of p.batches i)) (has : HasItsWords p w rows i m work) where
   abbrev d : Task
-  d = declared p i
+  d = declared_task p i
 
   -- the time of the instance
   abbrev now : ℕ
@@ -73,7 +73,7 @@ module _ (p : Plan) (w : Wiring) (rows : ℕ → ℕ → List ℤ) (own : IsOwn 
   -- the word of a read, if the task has put it
   read_word : (j : ℕ) → j < length d.reads → get_or work.now (length d.states + length d.senses + j) (pos 0) ≡ get_or words j (pos 0)
   read_word j inside =
-      let n : (n : ℕ) × (n < length (wired w i).reads) × ((read_at (wired w i) n).read ≡ j) = own.turned i j below inside in
+      let n : (n : ℕ) × (n < length (wired_task w i).reads) × ((read_at (wired_task w i) n).read ≡ j) = own.turned i j below inside in
       let taken : get_or work.now (place_of_read p w i n.0) (pos 0) ≡ meant_word p rows i (m + 1) (read_of p w i n.0) = has.taken n.0 n.1 in
       let time : m + 1 - 1 ≡ m = omega arith in
       ap (λ (x : ℕ). get_or work.now (length d.states + length d.senses + x) (pos 0)) (sym n.2)
@@ -122,9 +122,9 @@ module _ (p : Plan) (w : Wiring) (rows : ℕ → ℕ → List ℤ) (own : IsOwn 
       ∙ get_or_append_left (states ++ sense_values) words (pos 0) j (omega (arith, length-append states sense_values, states_size))
       ∙ get_or_append_left states sense_values (pos 0) j (omega (arith, states_size)))
 
-  env_reads : (n : ℕ) → n < length (wired w i).reads → get_or env (place_of_read p w i n) (pos 0) ≡ meant_word p rows i (m + 1) (read_of p w i n)
+  env_reads : (n : ℕ) → n < length (wired_task w i).reads → get_or env (place_of_read p w i n) (pos 0) ≡ meant_word p rows i (m + 1) (read_of p w i n)
   env_reads n few =
-      let r : ℕ = (read_at (wired w i) n).read in
+      let r : ℕ = (read_at (wired_task w i) n).read in
       let inside : r < length d.reads = ((own.whole.each_task i below).each_read n few).read in
       let joined : length (states ++ sense_values) ≡ length d.states + length d.senses = length-append states sense_values ∙ omega (arith, states_size, sensed_size) in
       same_item env given (place_of_read p w i n) (pos 0) (env_is.given_words (place_of_read p w i n) (omega arith))
@@ -146,7 +146,7 @@ module _ (p : Plan) (w : Wiring) (rows : ℕ → ℕ → List ℤ) (own : IsOwn 
       ∙ ap (λ (n : ℕ). states_at p.diagram p.samples p.batches rows i d n) (sym one)
 
   -- the senses at the time of the instance
-  senses_are : map (λ x. input_value p.diagram.inputs p.samples x.input (time (wired w i) (m + 1))) d.senses ≡ sense_values
+  senses_are : map (λ x. input_value p.diagram.inputs p.samples x.input (time (wired_task w i) (m + 1))) d.senses ≡ sense_values
   senses_are =
       let one : m + 1 - 1 ≡ m = omega arith in
       ap (λ (t : ℕ). map (λ x. input_value p.diagram.inputs p.samples x.input t) d.senses)
@@ -160,7 +160,7 @@ module _ (p : Plan) (w : Wiring) (rows : ℕ → ℕ → List ℤ) (own : IsOwn 
   }
 
   -- what it computes with the values of its senses at that time is what the meaning computes
-  pub worked_is : HasComputed p w rows i m (move.after_compute d (map (λ x. input_value p.diagram.inputs p.samples x.input (time (wired w i) (m + 1))) d.senses) work)
+  pub worked_is : HasComputed p w rows i m (move.after_compute d (map (λ x. input_value p.diagram.inputs p.samples x.input (time (wired_task w i) (m + 1))) d.senses) work)
   worked_is =
-      let senses : List ℤ = map (λ x. input_value p.diagram.inputs p.samples x.input (time (wired w i) (m + 1))) d.senses in
+      let senses : List ℤ = map (λ x. input_value p.diagram.inputs p.samples x.input (time (wired_task w i) (m + 1))) d.senses in
       subst (λ (g : List ℤ). HasComputed p w rows i m (move.work_words_of d g)) (sym (given_is senses senses_are)) computed_is

@@ -2,10 +2,10 @@
 use Rattle.std.proofs.Common.{◌≡◌, ℕ, ℤ, pos, ◌+◌, ◌<◌, ◌≤◌, Bool, true, false, List, length, get_or, take, refl, sym, ◌∙◌, ap, arith, ltb}
 use Rattle.std.proofs.lemmas.Bool.{cond_both, ltb-false}
 use Rattle.dbp_plan.specs.declared.plan.Plan.{Plan}
-use Rattle.dbp_plan.specs.Lookups.{declared}
+use Rattle.dbp_plan.specs.Lookups.{declared_task}
 use Rattle.sync_meaning.specs.SomeMeaningRows.{states_at}
 use Rattle.dbp_rules.specs.Moves as move
-use Rattle.dbp_rules.specs.Places.{is_counted, link, slot_at, wired}
+use Rattle.dbp_rules.specs.Places.{is_counted, link, slot_at, wired_task}
 use Rattle.dbp_rules.specs.Shapes.{link_in, running_count}
 use Rattle.dbp_rules.specs.SoundParts.{LinkSound, TaskSound, filled_by, last_filled, last_shut, meant_word, last_passed, place_of_read, put_by, read_of, shut_by, taken_by}
 use Rattle.dbp_rules.specs.Work.{WorkWords}
@@ -114,7 +114,7 @@ passed_more false known ended more further first second = second
 
 -- a link is sound if its reader has gone on
 pub reader_on : (p : Plan) (w : Wiring) (k : ℕ) (c : LinkEntry) (v : TaskEntry) (writer : TaskState) (e f : TaskEntry) (reader other : TaskState) → e.known ≤ f.known → reader.words.ended ≤ other.words.ended
-    → ((j : ℕ) → j + 1 < length other.part.heard.items → link_in (wired w (link w k).reader) j ≡ k → move.heard_order other.part (j + 1) ≡ move.claim_order c)
+    → ((j : ℕ) → j + 1 < length other.part.heard.items → link_in (wired_task w (link w k).reader) j ≡ k → move.heard_order other.part (j + 1) ≡ move.claim_order c)
     → ((n : ℕ) → other.part.place ≡ Take n → (read_of p w (link w k).reader n).link ≡ k → (slot_at writer.words.slots c.slot).stamp ≡ c.number + 1)
     → LinkSound p w k c v writer e reader → LinkSound p w k c v writer f other
 reader_on p w k c v writer e f reader other known ended heard ready old =
@@ -131,8 +131,8 @@ reader_on p w k c v writer e f reader other known ended heard ready old =
 pub task_goes : (p : Plan) (w : Wiring) (rows : ℕ → ℕ → List ℤ) (i : ℕ) (e : TaskEntry) (t : TaskState) (part : TaskPart) (work : WorkWords) → TaskSound p w rows i e t
     → IsEarly t.part.place → IsEarly part.place → part.ended ≡ t.part.ended
     → (0 < length part.heard.items → move.heard_order part 0 ≡ t.words.aim)
-    → take (length (declared p i).states) work.now ≡ take (length (declared p i).states) t.work.now
-    → ((n : ℕ) → n < taken_by (length (wired w i).reads) part.place → get_or work.now (place_of_read p w i n) (pos 0) ≡ meant_word p rows i (t.part.ended + 1) (read_of p w i n))
+    → take (length (declared_task p i).states) work.now ≡ take (length (declared_task p i).states) t.work.now
+    → ((n : ℕ) → n < taken_by (length (wired_task w i).reads) part.place → get_or work.now (place_of_read p w i n) (pos 0) ≡ meant_word p rows i (t.part.ended + 1) (read_of p w i n))
     → work.row ≡ t.work.row
     → TaskSound p w rows i e (record { words = t.words; part = part; work = work })
 task_goes p w rows i e t part work ok from to same heard states taken row = record {
@@ -144,10 +144,10 @@ task_goes p w rows i e t part work ok from to same heard states taken row = reco
   whole = λ n l below stamp. ((omega (arith, (ok.whole n l below stamp).0, from.filled, to.filled)), (ok.whole n l below stamp).1);
   filled = λ all. ok.filled (omega (arith, from.filled, to.filled));
   filling = λ some. absurd (omega (arith, to.filled, to.shut));
-  put = λ port below. absurd (omega (arith, to.put (wired w i).ports));
+  put = λ port below. absurd (omega (arith, to.put (wired_task w i).ports));
   kept = ok.kept;
   kept_apart = ok.kept_apart;
-  states = states ∙ ok.states ∙ ap (λ n. states_at p.diagram p.samples p.batches rows i (declared p i) n) (sym same);
+  states = states ∙ ok.states ∙ ap (λ n. states_at p.diagram p.samples p.batches rows i (declared_task p i) n) (sym same);
   taken = λ n below. taken n below ∙ ap (λ m. meant_word p rows i (m + 1) (read_of p w i n)) (sym same);
   row = row ∙ ok.row ∙ ap (rows i) (omega (arith, from.shut, to.shut, same));
   later = λ some. absurd (omega (arith, to.shut));

@@ -2,14 +2,14 @@
 use Rattle.std.proofs.Common.{◌≡◌, ℕ, ℤ, ◌+◌, ◌<◌, ◌≤◌, List, length, Option, Some, None, refl, sym, ap, subst, arith, inl}
 use Rattle.dbp_plan.specs.declared.plan.Plan.{Plan}
 use Rattle.dbp_plan.specs.Occurrences.{times_of}
-use Rattle.dbp_plan.specs.Lookups.{declared}
+use Rattle.dbp_plan.specs.Lookups.{declared_task}
 use Rattle.std.specs.Prelude.{Result}
 use Rattle.sync_meaning.proofs.OneMeaning.{meaning_solves}
 use Rattle.sync_meaning.specs.SomeMeaning.{meaning_of, meaning_of-is}
 use Rattle.sync_meaning.specs.SomeMeaningRows.{Solves}
 use Rattle.dbp_plan.specs.Table.{table_row}
 use Rattle.dbp_rules.specs.Moves as move
-use Rattle.dbp_rules.specs.Places.{slot_at, task, task_entry, wired}
+use Rattle.dbp_rules.specs.Places.{slot_at, task, task_entry, wired_task}
 use Rattle.dbp_rules.specs.Rules as rule
 use Rattle.dbp_rules.specs.Shapes.{TaskShape, heard_by, running_count}
 use Rattle.dbp_rules.specs.Sound.{Sound}
@@ -37,18 +37,18 @@ module _ (p : Plan) (w : Wiring) (rows : ℕ → ℕ → List ℤ) (s : State) (
   shut_sound i named free =
       let below : i < length w.tasks = omega (arith, named, own.whole.tasks) in
       let ok : TaskSound p w rows i (task_entry s i) (task s i) = sound.tasks i below in
-      let fits : TaskShape w (declared p i) i (task_entry s i).aimed (task s i) = sound.shape.each_task i below in
+      let fits : TaskShape w (declared_task p i) i (task_entry s i).aimed (task s i) = sound.shape.each_task i below in
       let both = or_else_none (rule.steps_next w s i 9 0) (rule.blocker_refusal w.count w s i) free in
-      let at : (task s i).part.place ≡ place.Shut = at_next broken.TaskPlace (wired w i) (task s i).part.place 9 0 both.0 in
-      let all : heard_by (1 + length (wired w i).links) (task s i).part.place ≡ 1 + length (wired w i).links = ap (heard_by (1 + length (wired w i).links)) at in
+      let at : (task s i).part.place ≡ place.Shut = at_next broken.TaskPlace (wired_task w i) (task s i).part.place 9 0 both.0 in
+      let all : heard_by (1 + length (wired_task w i).links) (task s i).part.place ≡ 1 + length (wired_task w i).links = ap (heard_by (1 + length (wired_task w i).links)) at in
       let from : filled_by (task s i).part.place ≡ 0 = ap filled_by at in
       let busy : running_count (task s i).part.place ≡ 1 = ap running_count at in
-      let taken : taken_by (length (wired w i).reads) (task s i).part.place ≡ length (wired w i).reads = ap (taken_by (length (wired w i).reads)) at in
+      let taken : taken_by (length (wired_task w i).reads) (task s i).part.place ≡ length (wired_task w i).reads = ap (taken_by (length (wired_task w i).reads)) at in
       let few : (task_entry s i).aimed ≤ length (times_of p.batches i) = omega (arith, sound.shape.aimed i below, own.whole.releases.aims_times s.releaser.place i) in
       let room : (task s i).part.ended < length (times_of p.batches i) = omega (arith, fits.gate, fits.aimed) in
       let has : HasItsWords p w rows i (task s i).part.ended (task s i).work = record { size = fits.now; states = ok.states; taken = λ n less. ok.taken n (omega (arith, taken, less)) } in
-      let done : HasComputed p w rows i (task s i).part.ended (move.after_compute (declared p i) (rule.sense_values p w s i) (task s i).work) = worked_is p w rows own solves i (task s i).part.ended (task s i).work below room has in
-      write_sound p w rows s own sound i (place.Put 0) (record (slot_at (task s i).words.slots (move.own_slot (task s i).part)) { stamp = 0 }) (move.after_compute (declared p i) (rule.sense_values p w s i) (task s i).work) below
+      let done : HasComputed p w rows i (task s i).part.ended (move.after_compute (declared_task p i) (rule.sense_values p w s i) (task s i).work) = worked_is p w rows own solves i (task s i).part.ended (task s i).work below room has in
+      write_sound p w rows s own sound i (place.Put 0) (record (slot_at (task s i).words.slots (move.own_slot (task s i).part)) { stamp = 0 }) (move.after_compute (declared_task p i) (rule.sense_values p w s i) (task s i).work) below
       (step_kept p w s sound.shape (Shut i) named free) both.1 busy from all (inl (omega (arith, fits.gate, fits.aimed)))
       (record {
         whole = λ l stamp. absurd (omega arith);
@@ -84,9 +84,9 @@ sound_kept p count rows s e solves sound named free = step_sound p (wiring_of p 
 -- and by each result of a step, under a plan's own wiring, if the rows are those of the meaning
 pub asked_sound : (p : Plan) (w : Wiring) (s new : State) (e : Step) (result : Result Heard Illegal) → w ≡ wiring_of p w.count → Sound p w (table_row (meaning_of p)) s → rule.IsNamed p.diagram e → rule.IsStep p w s e result new
     → Sound p w (table_row (meaning_of p)) new
-asked_sound p w s new e result wired sound named is =
+asked_sound p w s new e result wired_task sound named is =
     let solves : Solves p.diagram p.samples p.batches (table_row (meaning_of p)) = meaning_solves p.diagram p.samples p.batches (meaning_of p) p.rules (meaning_of-is p) in
-    let own : IsOwn p w = subst (λ (x : Wiring). IsOwn p x) (sym wired) (own_wiring p w.count) in
+    let own : IsOwn p w = subst (λ (x : Wiring). IsOwn p x) (sym wired_task) (own_wiring p w.count) in
     answered (rule.refusal w s e) (λ free. step_sound p w (table_row (meaning_of p)) s own solves sound e named free) is
   where
     answered : (o : Option Illegal) → (o ≡ None → Sound p w (table_row (meaning_of p)) (rule.next p w s e)) → rule.IsAnswer o p w s e result new → Sound p w (table_row (meaning_of p)) new

@@ -9,9 +9,9 @@ use Rattle.dbp_plan.specs.declared.diagram.Link.{Link}
 use Rattle.dbp_plan.specs.declared.plan.Plan.{Plan}
 use Rattle.dbp_plan.specs.Occurrences.{count_until, times_of, time_of}
 use Rattle.dbp_plan.specs.Times.{Rises, has_come, times-rise}
-use Rattle.dbp_plan.specs.Lookups.{link_at, declared}
+use Rattle.dbp_plan.specs.Lookups.{link_at, declared_task}
 use Rattle.release_list.specs.Schedule.{aims, seen_by}
-use Rattle.dbp_rules.specs.Places.{counts_link, is_counted, link, link_entry, slot_at, task, task_entry, time, wired}
+use Rattle.dbp_rules.specs.Places.{counts_link, is_counted, link, link_entry, slot_at, task, task_entry, time, wired_task}
 use Rattle.dbp_rules.specs.Promises.{IsClaimFilled}
 use Rattle.dbp_rules.specs.Rules as rule
 use Rattle.dbp_rules.specs.Shapes.{IsWired, PlaceIn, TaskShape, heard_by, running_count}
@@ -53,13 +53,13 @@ none_blocks Ranked w s i r free is below = highest_none w (rule.blocks w s i) (l
 
 -- under `Ranked` an unfinished instance of a higher task is later than the task's own
 pub higher_later : (w : Wiring) (s : State) (i r : ℕ) → rule.blocker_refusal w.count w s i ≡ None → w.count ≡ Ranked → r < length w.tasks
-    → (wired w r).rank < (wired w i).rank → (task s r).part.ended < (task_entry s r).aimed → rule.own_time w s i < rule.own_time w s r
+    → (wired_task w r).rank < (wired_task w i).rank → (task s r).part.ended < (task_entry s r).aimed → rule.own_time w s i < rule.own_time w s r
 higher_later w s i r free ranked below above left = elim (cases_lt (rule.own_time w s i) (rule.own_time w s r)) [
   | inl less ↦ less
   | inr late ↦
       let isnt : rule.blocks w s i r ≡ false = none_blocks w.count w s i r free ranked below in
       let third : nat_le (rule.own_time w s r) (rule.own_time w s i) ≡ true = grind (arith, nat_tests, late) in
-      let is : rule.blocks w s i r ≡ true = rw (lt-ltb (wired w r).rank (wired w i).rank above, lt-ltb (task s r).part.ended (task_entry s r).aimed left, third) refl in
+      let is : rule.blocks w s i r ≡ true = rw (lt-ltb (wired_task w r).rank (wired_task w i).rank above, lt-ltb (task s r).part.ended (task_entry s r).aimed left, third) refl in
       absurd (cc (is, isnt))
 ]
 
@@ -83,11 +83,11 @@ module _ (p : Plan) (w : Wiring) (rows : ℕ → ℕ → List ℤ) (s : State) (
       passed_below (is_counted w k) (task_entry s (link w k).reader).known (task s (link w k).reader).words.ended (link_entry s k).instance ok.known (omega (arith, ok.ended, claimed_instance p w rows s own sound k fits busy))
 
   module _ (i n : ℕ) (below : i < length w.tasks) (at : (task s i).part.place ≡ place.Look n) where
-    few : n < length (wired w i).reads
-    few = subst (λ (x : Place). PlaceIn (wired w i) x) at (sound.shape.each_task i below).place
+    few : n < length (wired_task w i).reads
+    few = subst (λ (x : Place). PlaceIn (wired_task w i) x) at (sound.shape.each_task i below).place
 
-    all : heard_by (1 + length (wired w i).links) (task s i).part.place ≡ 1 + length (wired w i).links
-    all = ap (heard_by (1 + length (wired w i).links)) at
+    all : heard_by (1 + length (wired_task w i).links) (task s i).part.place ≡ 1 + length (wired_task w i).links
+    all = ap (heard_by (1 + length (wired_task w i).links)) at
 
     read : IsOwnRead p w i n
     read = own.reads i n below few
@@ -146,7 +146,7 @@ module _ (p : Plan) (w : Wiring) (rows : ℕ → ℕ → List ℤ) (s : State) (
           elim (cases_lt (last_filled (task s v)) (link_entry s k).number) [
             | inr filled ↦ filled_ready filled
             | inl coming ↦
-                let above : (wired w v).rank < (wired w i).rank = omega (arith, own.downward k read.below direct, ap (λ x. (wired w x).rank) read.reader) in
+                let above : (wired_task w v).rank < (wired_task w i).rank = omega (arith, own.downward k read.below direct, ap (λ x. (wired_task w x).rank) read.reader) in
                 let number : (link_entry s k).number ≡ count_until (times_of p.batches v) (time_of p.batches i ((task s i).part.ended + 1)) - (link w k).delay = claimed_number p w rows s own sound i k read.below read.reader (ap running_count at) in
                 let later : rule.own_time w s i < rule.own_time w s v = higher_later w s i v free ranked writer above (omega (arith, coming, number_aimed)) in
                 let soon : time_of p.batches v ((task s v).part.ended + 1) ≤ time_of p.batches i ((task s i).part.ended + 1) = come p v (task s v).part.ended (time_of p.batches i ((task s i).part.ended + 1)) (omega (arith, coming, number, direct)) in
@@ -170,11 +170,11 @@ module _ (p : Plan) (w : Wiring) (rows : ℕ → ℕ → List ℤ) (s : State) (
       let reader : r < length w.tasks = own.whole.reader k fits in
       let ok : TaskSound p w rows i (task_entry s i) (task s i) = sound.tasks i writer in
       let other : TaskSound p w rows r (task_entry s r) (task s r) = sound.tasks r reader in
-      let shape : TaskShape w (declared p i) i (task_entry s i).aimed (task s i) = sound.shape.each_task i writer in
-      let u = uncounted w.count (wired w i).rank (wired w r).rank isnt in
+      let shape : TaskShape w (declared_task p i) i (task_entry s i).aimed (task s i) = sound.shape.each_task i writer in
+      let u = uncounted w.count (wired_task w i).rank (wired_task w r).rank isnt in
       let live : (task s r).words.ended < (link_entry s k).instance = subst (λ (b : Bool). last_passed b (task_entry s r).known (task s r).words.ended < (link_entry s k).instance) isnt stands in
       let claim : (link_entry s k).instance ≤ (task_entry s r).aimed = omega (arith, (sound.claims k fits).instance, sound.shape.aimed r reader, claims_aims p w own.whole s.releaser.place k fits) in
-      let above : (wired w r).rank < (wired w i).rank = omega (arith, u.1, own.ranks i r writer reader (own.apart k fits)) in
+      let above : (wired_task w r).rank < (wired_task w i).rank = omega (arith, u.1, own.ranks i r writer reader (own.apart k fits)) in
       let later : rule.own_time w s i < rule.own_time w s r = higher_later w s i r free u.0 reader above (omega (arith, other.ended)) in
       let now : (task_entry s i).aimed ≡ (task s i).part.ended + 1 = omega (arith, shape.gate, shape.aimed, ok.known, ok.ended, ok.aimed) in
       let most : (task_entry s i).aimed ≤ length (times_of p.batches i) = omega (arith, sound.shape.aimed i writer, own.whole.releases.aims_times s.releaser.place i) in

@@ -7,11 +7,11 @@ use Rattle.std.proofs.lemmas.List.{get_or-take, length-take-le}
 use Rattle.std.proofs.lemmas.List.Folds.{list_any_at}
 use Rattle.std.proofs.lemmas.Option.{slice_get_within}
 use Rattle.dbp_plan.specs.declared.plan.Plan.{Plan}
-use Rattle.dbp_plan.specs.Lookups.{declared}
+use Rattle.dbp_plan.specs.Lookups.{declared_task}
 use Rattle.release_list.specs.Schedule.{aims, opens, seen_by}
 use Rattle.release_list.specs.declared.release.Release.TheVariants as release
 use Rattle.dbp_rules.specs.Moves as move
-use Rattle.dbp_rules.specs.Places.{is_counted, link, link_entry, slot_at, task, task_entry, wired}
+use Rattle.dbp_rules.specs.Places.{is_counted, link, link_entry, slot_at, task, task_entry, wired_task}
 use Rattle.dbp_rules.specs.Rules as rule
 use Rattle.dbp_rules.specs.Shapes.{EntryShape, TaskShape, heard_by}
 use Rattle.dbp_rules.specs.Sound.{Sound}
@@ -71,15 +71,15 @@ kept_stamp : (t : TaskWiring) (e : TaskEntry) (w : TaskState) (j : ℕ) → leng
 kept_stamp t e w zero size first each below = rw (get_or-take (length e.kept) (e.current ∷ e.kept) 0 0 (omega arith)) (omega (arith, first))
 kept_stamp t e w (suc j) size first each below = rw (get_or-take (length e.kept) (e.current ∷ e.kept) (suc j) 0 (omega arith)) (omega (arith, each j (omega arith)))
 
-aim_task : (p : Plan) (w : Wiring) (rows : ℕ → ℕ → List ℤ) (i slot : ℕ) (e : TaskEntry) (t : TaskState) → TaskSound p w rows i e t → TaskShape w (declared p i) i e.aimed t → EntryShape (wired w i) e
+aim_task : (p : Plan) (w : Wiring) (rows : ℕ → ℕ → List ℤ) (i slot : ℕ) (e : TaskEntry) (t : TaskState) → TaskSound p w rows i e t → TaskShape w (declared_task p i) i e.aimed t → EntryShape (wired_task w i) e
     → e.aimed ≡ e.known → rule.stays_kept e slot ≡ false
     → TaskSound p w rows i (move.after_aim e slot) (record t { words = move.words_after_aim t.words (move.after_aim e slot) })
 aim_task p w rows i slot e t ok shape fits known free =
     let rest : t.part.place ≡ place.Idle = idle t.part.place (omega (arith, shape.gate, shape.aimed, ok.known, ok.ended)) in
     let filled : filled_by t.part.place ≡ 0 = ap filled_by rest in
     let shut : shut_by t.part.place ≡ 0 = ap shut_by rest in
-    let puts : put_by (wired w i).ports t.part.place ≡ 0 = ap (put_by (wired w i).ports) rest in
-    let orders : length t.part.heard.items ≡ 0 = shape.heard ∙ ap (heard_by (1 + length (wired w i).links)) rest in
+    let puts : put_by (wired_task w i).ports t.part.place ≡ 0 = ap (put_by (wired_task w i).ports) rest in
+    let orders : length t.part.heard.items ≡ 0 = shape.heard ∙ ap (heard_by (1 + length (wired_task w i).links)) rest in
     let now : (slot_at t.words.slots e.current).stamp ≡ e.aimed + 1 = ok.filled (omega (arith, ok.known, ok.ended)) in
     record {
       known = ok.known;
@@ -91,7 +91,7 @@ aim_task p w rows i slot e t ok shape fits known free =
       filled = λ all. absurd (omega (arith, shape.gate, shape.aimed));
       filling = λ some. absurd (omega arith);
       put = λ port below. absurd (omega arith);
-      kept = λ j below. kept_stamp (wired w i) e t j fits.kept now ok.kept below;
+      kept = λ j below. kept_stamp (wired_task w i) e t j fits.kept now ok.kept below;
       kept_apart = λ _ j below. not_there (rule.kept_after_aim e) slot j free (omega (arith, fits.kept, length-take-le (length e.kept) (e.current ∷ e.kept) (omega arith)));
       states = ok.states;
       taken = ok.taken;
@@ -100,7 +100,7 @@ aim_task p w rows i slot e t ok shape fits known free =
     }
 
 -- a link out of the task
-aim_writes : (p : Plan) (w : Wiring) (rows : ℕ → ℕ → List ℤ) (i k slot : ℕ) (c : LinkEntry) (v : TaskEntry) (t : TaskState) (e : TaskEntry) (reader : TaskState) → TaskSound p w rows i v t → TaskShape w (declared p i) i v.aimed t
+aim_writes : (p : Plan) (w : Wiring) (rows : ℕ → ℕ → List ℤ) (i k slot : ℕ) (c : LinkEntry) (v : TaskEntry) (t : TaskState) (e : TaskEntry) (reader : TaskState) → TaskSound p w rows i v t → TaskShape w (declared_task p i) i v.aimed t
     → v.aimed ≡ v.known → (is_counted w k ≡ true → e.known < c.instance → c.slot ≢ slot) → seen_by w.links p.batches k c.instance ≤ v.aimed
     → LinkSound p w k c v t e reader → LinkSound p w k c (move.after_aim v slot) (record t { words = move.words_after_aim t.words (move.after_aim v slot) }) e reader
 aim_writes p w rows i k slot c v t e reader ok shape known free seen old =
@@ -126,7 +126,7 @@ aim_reads p w k slot c v writer e t old = record { holds = old.holds; current = 
 
 -- ---- claim
 
-claim_holds : (p : Plan) (w : Wiring) (rows : ℕ → ℕ → List ℤ) (i d : ℕ) (v : TaskEntry) (t : TaskState) → TaskSound p w rows i v t → d ≤ (wired w i).kept
+claim_holds : (p : Plan) (w : Wiring) (rows : ℕ → ℕ → List ℤ) (i d : ℕ) (v : TaskEntry) (t : TaskState) → TaskSound p w rows i v t → d ≤ (wired_task w i).kept
     → ((slot_at t.words.slots (move.claimed_slot d v.current v.kept)).stamp ≡ v.aimed - d + 1) ⊎ ((move.claimed_slot d v.current v.kept ≡ v.current) × (v.aimed - d ≡ v.aimed) × (last_filled t < v.aimed - d))
 claim_holds p w rows i zero v t ok few = elim (cases_lt (last_filled t) v.aimed) [
   | inl less ↦ inr (refl, omega arith, omega arith)
@@ -134,7 +134,7 @@ claim_holds p w rows i zero v t ok few = elim (cases_lt (last_filled t) v.aimed)
 ]
 claim_holds p w rows i (suc d) v t ok few = inl (ok.kept d (omega arith) ∙ omega arith)
 
-claim_current : (p : Plan) (w : Wiring) (rows : ℕ → ℕ → List ℤ) (i d : ℕ) (v : TaskEntry) (t : TaskState) → TaskSound p w rows i v t → d ≤ (wired w i).kept
+claim_current : (p : Plan) (w : Wiring) (rows : ℕ → ℕ → List ℤ) (i d : ℕ) (v : TaskEntry) (t : TaskState) → TaskSound p w rows i v t → d ≤ (wired_task w i).kept
     → move.claimed_slot d v.current v.kept ≡ v.current → v.aimed - d ≡ v.aimed
 claim_current p w rows i zero v t ok few here = omega arith
 claim_current p w rows i (suc d) v t ok few here = elim (cases_lt 0 v.aimed) [
@@ -208,7 +208,7 @@ module _ (p : Plan) (w : Wiring) (rows : ℕ → ℕ → List ℤ) (s : State) (
       let e : TaskEntry = move.after_aim (task_entry s i) slot in
       let t : TaskState = record (task s i) { words = move.words_after_aim (task s i).words (move.after_aim (task_entry s i) slot) } in
       let ok : TaskSound p w rows i (task_entry s i) (task s i) = sound.tasks i below in
-      let shape : TaskShape w (declared p i) i (task_entry s i).aimed (task s i) = sound.shape.each_task i below in
+      let shape : TaskShape w (declared_task p i) i (task_entry s i).aimed (task s i) = sound.shape.each_task i below in
       task_frame p w rows s own sound (rule.next p w s (Aim i slot)) i (move.after_aim (task_entry s i) slot) (record (task s i) { words = move.words_after_aim (task s i).words (move.after_aim (task_entry s i) slot) })
       (step_kept p w s sound.shape (Aim i slot) named free) (omega (arith, slice_get_within w.releases s.releaser.place (release.Aim i) here))
       (changed_further s (rule.with_task (rule.with_entry s i (move.after_aim (task_entry s i) slot)) i (record (task s i) { words = move.words_after_aim (task s i).words (move.after_aim (task_entry s i) slot) })) i
@@ -232,15 +232,15 @@ module _ (p : Plan) (w : Wiring) (rows : ℕ → ℕ → List ℤ) (s : State) (
       let at : ClaimPlace p w s.releaser.place k = claim_place p w own.whole s.releaser.place k here in
       let writer : (link w k).writer < length w.tasks = own.whole.writer k below in
       let reader : (link w k).reader < length w.tasks = own.whole.reader k below in
-      let few : (link w k).delay ≤ (wired w (link w k).writer).kept = own.whole.delay k below in
+      let few : (link w k).delay ≤ (wired_task w (link w k).writer).kept = own.whole.delay k below in
       let v : TaskSound p w rows (link w k).writer (task_entry s (link w k).writer) (task s (link w k).writer) = sound.tasks (link w k).writer writer in
       let ok : TaskSound p w rows (link w k).reader (task_entry s (link w k).reader) (task s (link w k).reader) = sound.tasks (link w k).reader reader in
-      let shape : TaskShape w (declared p (link w k).reader) (link w k).reader (task_entry s (link w k).reader).aimed (task s (link w k).reader) = sound.shape.each_task (link w k).reader reader in
+      let shape : TaskShape w (declared_task p (link w k).reader) (link w k).reader (task_entry s (link w k).reader).aimed (task s (link w k).reader) = sound.shape.each_task (link w k).reader reader in
       let aimed : (task_entry s (link w k).reader).aimed ≡ aims w.releases s.releaser.place (link w k).reader = sound.shape.aimed (link w k).reader reader in
       let written : (task_entry s (link w k).writer).aimed ≡ aims w.releases s.releaser.place (link w k).writer = sound.shape.aimed (link w k).writer writer in
       let gate : (task s (link w k).reader).words.gate + 1 ≡ (task_entry s (link w k).reader).aimed = omega (arith, sound.gates (link w k).reader reader, at.opened, aimed) in
       let rest : (task s (link w k).reader).part.place ≡ place.Idle = idle (task s (link w k).reader).part.place (omega (arith, shape.gate, gate, ok.known, ok.ended, ok.aimed)) in
-      let orders : length (task s (link w k).reader).part.heard.items ≡ 0 = shape.heard ∙ ap (heard_by (1 + length (wired w (link w k).reader).links)) rest in
+      let orders : length (task s (link w k).reader).part.heard.items ≡ 0 = shape.heard ∙ ap (heard_by (1 + length (wired_task w (link w k).reader).links)) rest in
       claim_frame p w rows s own sound (rule.next p w s (Claim k)) k (move.claim_entry (link w k).delay (task_entry s (link w k).writer) (task_entry s (link w k).reader))
       (step_kept p w s sound.shape (Claim k) named free) below (slice_get_within w.releases s.releaser.place (release.Claim k) here) refl refl refl refl refl
       (λ j. claim_opens w.releases s.releaser.place k j here)

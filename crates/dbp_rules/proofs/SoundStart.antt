@@ -6,13 +6,13 @@ use Rattle.std.proofs.lemmas.Option.{slice_get-get_or}
 use Rattle.std.proofs.Math.ListN.{get_or-map}
 use Rattle.dbp_plan.specs.declared.plan.Plan.{Plan}
 use Rattle.dbp_plan.specs.Closed.{place_count}
-use Rattle.dbp_plan.specs.Lookups.{declared, no_declared}
+use Rattle.dbp_plan.specs.Lookups.{declared_task, no_declared}
 use Rattle.sync_meaning.proofs.OneMeaning.{meaning_solves}
 use Rattle.sync_meaning.specs.SomeMeaning.{meaning_of, meaning_of-is}
 use Rattle.dbp_plan.specs.Table.{table_row}
 use Rattle.sync_meaning.specs.SomeMeaningRows.{Solves, states_at-none}
 use Rattle.dbp_plan.proofs.ListParts.{repeated}
-use Rattle.dbp_rules.specs.Places.{is_counted, link, no_link_entry, no_order, no_slot, no_task, no_task_wiring, slot_at, task, task_entry, wired}
+use Rattle.dbp_rules.specs.Places.{is_counted, link, no_link_entry, no_order, no_slot, no_task, no_task_wiring, slot_at, task, task_entry, wired_task}
 use Rattle.dbp_rules.specs.Shapes.{IsWired}
 use Rattle.dbp_rules.specs.Sound.{Sound}
 use Rattle.dbp_rules.specs.SoundParts.{TaskSound, last_passed}
@@ -39,22 +39,22 @@ whole t row rows (suc n) l same below stamp =
     let empty : (slot_at (start_slots t row) (suc n)).stamp ≡ 0 = ap (λ (x : Slot). x.stamp) (get_or-replicate (t.slots - 1) n (record { stamp = 0; words = replicate t.ports (pos 0) }) no_slot (omega arith)) in
     absurd (omega arith)
 
-start_sound_task : (p : Plan) (w : Wiring) (rows : ℕ → ℕ → List ℤ) (i : ℕ) → first_row (declared p i) ≡ rows i 0 → TaskSound p w rows i (start_entry (wired w i)) (start_task (wired w i) (declared p i))
+start_sound_task : (p : Plan) (w : Wiring) (rows : ℕ → ℕ → List ℤ) (i : ℕ) → first_row (declared_task p i) ≡ rows i 0 → TaskSound p w rows i (start_entry (wired_task w i)) (start_task (wired_task w i) (declared_task p i))
 start_sound_task p w rows i same =
-    let states : length (first_states (declared p i)) ≡ length (declared p i).states = length-map (declared p i).states _ in
+    let states : length (first_states (declared_task p i)) ≡ length (declared_task p i).states = length-map (declared_task p i).states _ in
     record {
       known = omega arith;
       ended = refl;
       aimed = omega arith;
       aim = refl;
       heard = λ some. absurd (omega arith);
-      whole = λ n l below stamp. whole (wired w i) (first_row (declared p i)) (rows i) n l same below stamp;
+      whole = λ n l below stamp. whole (wired_task w i) (first_row (declared_task p i)) (rows i) n l same below stamp;
       filled = λ all. refl;
       filling = λ some. absurd (omega arith);
       put = λ port below. absurd (omega arith);
-      kept = λ j below. let zero_ : get_or (replicate {A = ℕ} (wired w i).kept 0) j 0 ≡ 0 = repeated {A = ℕ} (wired w i).kept j 0 in rw zero_ (omega arith);
+      kept = λ j below. let zero_ : get_or (replicate {A = ℕ} (wired_task w i).kept 0) j 0 ≡ 0 = repeated {A = ℕ} (wired_task w i).kept j 0 in rw zero_ (omega arith);
       kept_apart = λ some. absurd (omega arith);
-      states = take_front (first_states (declared p i)) (replicate (place_count (declared p i) - length (declared p i).states) (pos 0)) (length (declared p i).states) states ∙ sym (states_at-none p.diagram p.samples p.batches rows i (declared p i));
+      states = take_front (first_states (declared_task p i)) (replicate (place_count (declared_task p i) - length (declared_task p i).states) (pos 0)) (length (declared_task p i).states) states ∙ sym (states_at-none p.diagram p.samples p.batches rows i (declared_task p i));
       taken = λ n below. absurd (omega arith);
       row = same;
       later = λ some. absurd (omega arith);
@@ -66,9 +66,9 @@ none_stands false stands = absurd (omega arith)
 
 pub start_sound : (p : Plan) (w : Wiring) (rows : ℕ → ℕ → List ℤ) → IsWired p w → Solves p.diagram p.samples p.batches rows → Sound p w rows (start_of p w)
 start_sound p w rows wires solves =
-    let entries : (i : ℕ) → i < length w.tasks → task_entry (start_of p w) i ≡ start_entry (wired w i) = λ i below. get_or-map start_entry w.tasks i no_task_wiring in
-    let tasks : (i : ℕ) → i < length w.tasks → task (start_of p w) i ≡ start_task (wired w i) (declared p i) = λ i below. get_or-map-range_with_len (λ (j : ℕ). start_task (wired w j) (declared p j)) 0 (length w.tasks) i i no_task below (omega arith) in
-    let first : (i : ℕ) → i < length w.tasks → first_row (declared p i) ≡ rows i 0 = λ i below. sym (solves.each i 0 (declared p i) (slice_get-get_or p.diagram.tasks i no_declared (omega (arith, below, wires.tasks))) (omega arith)) in
+    let entries : (i : ℕ) → i < length w.tasks → task_entry (start_of p w) i ≡ start_entry (wired_task w i) = λ i below. get_or-map start_entry w.tasks i no_task_wiring in
+    let tasks : (i : ℕ) → i < length w.tasks → task (start_of p w) i ≡ start_task (wired_task w i) (declared_task p i) = λ i below. get_or-map-range_with_len (λ (j : ℕ). start_task (wired_task w j) (declared_task p j)) 0 (length w.tasks) i i no_task below (omega arith) in
+    let first : (i : ℕ) → i < length w.tasks → first_row (declared_task p i) ≡ rows i 0 = λ i below. sym (solves.each i 0 (declared_task p i) (slice_get-get_or p.diagram.tasks i no_declared (omega (arith, below, wires.tasks))) (omega arith)) in
     record {
       shape = start_shape p w wires;
       place = omega arith;

@@ -3,10 +3,10 @@ use Rattle.std.proofs.Common.{◌≡◌, ◌≢◌, ℕ, ℤ, pos, ◌+◌, ◌<
 use Rattle.std.proofs.lemmas.Bool.{cases_eq, cond_both, ltb-false}
 use Rattle.std.proofs.lemmas.List.{ext_get_or}
 use Rattle.dbp_plan.specs.declared.plan.Plan.{Plan}
-use Rattle.dbp_plan.specs.Lookups.{declared}
+use Rattle.dbp_plan.specs.Lookups.{declared_task}
 use Rattle.sync_meaning.specs.SomeMeaningRows.{states_at}
 use Rattle.dbp_rules.specs.Moves as move
-use Rattle.dbp_rules.specs.Places.{link, link_entry, no_slot, slot_at, task, task_entry, wired}
+use Rattle.dbp_rules.specs.Places.{link, link_entry, no_slot, slot_at, task, task_entry, wired_task}
 use Rattle.dbp_rules.specs.Rules as rule
 use Rattle.dbp_rules.specs.Shapes.{EntryShape, IsShape, PlaceIn, TaskShape, heard_by, place_number, running_count}
 use Rattle.dbp_rules.specs.Sound.{Sound}
@@ -33,8 +33,8 @@ use Rattle.dbp_rules.proofs.SoundStart.{take_front}
 use Rattle.dbp_rules.proofs.StateKept.{step_kept}
 
 -- a task that has heard its orders has heard its current slot
-pub own_current : (p : Plan) (w : Wiring) (rows : ℕ → ℕ → List ℤ) (i : ℕ) (e : TaskEntry) (t : TaskState) → TaskSound p w rows i e t → TaskShape w (declared p i) i e.aimed t
-    → heard_by (1 + length (wired w i).links) t.part.place ≡ 1 + length (wired w i).links → move.own_slot t.part ≡ e.current
+pub own_current : (p : Plan) (w : Wiring) (rows : ℕ → ℕ → List ℤ) (i : ℕ) (e : TaskEntry) (t : TaskState) → TaskSound p w rows i e t → TaskShape w (declared_task p i) i e.aimed t
+    → heard_by (1 + length (wired_task w i).links) t.part.place ≡ 1 + length (wired_task w i).links → move.own_slot t.part ≡ e.current
 own_current p w rows i e t ok shape all =
     let some : 0 < length t.part.heard.items = omega (arith, shape.heard) in
     ap (λ o. o.slot) (ok.heard some ∙ ok.aim)
@@ -48,13 +48,13 @@ pub record Writes (p : Plan) (w : Wiring) (rows : ℕ → ℕ → List ℤ) (i m
   pub whole : (l : ℕ) → x.stamp ≡ l + 1 → (l ≤ m + filled_by q) × (x.words ≡ rows i l)
   pub filled : aimed ≤ m + filled_by q → x.stamp ≡ aimed + 1
   pub filling : filled_by q < shut_by q → x.stamp ≡ 0
-  pub put : (port : ℕ) → port < put_by (wired w i).ports q → get_or x.words port (pos 0) ≡ get_or (rows i (m + 1)) port (pos 0)
-  pub states : take (length (declared p i).states) work.now ≡ states_at p.diagram p.samples p.batches rows i (declared p i) m
-  pub taken : (n : ℕ) → n < taken_by (length (wired w i).reads) q → get_or work.now (place_of_read p w i n) (pos 0) ≡ meant_word p rows i (m + 1) (read_of p w i n)
+  pub put : (port : ℕ) → port < put_by (wired_task w i).ports q → get_or x.words port (pos 0) ≡ get_or (rows i (m + 1)) port (pos 0)
+  pub states : take (length (declared_task p i).states) work.now ≡ states_at p.diagram p.samples p.batches rows i (declared_task p i) m
+  pub taken : (n : ℕ) → n < taken_by (length (wired_task w i).reads) q → get_or work.now (place_of_read p w i n) (pos 0) ≡ meant_word p rows i (m + 1) (read_of p w i n)
   pub row : work.row ≡ rows i (m + shut_by q)
-  pub later : 0 < shut_by q → work.later ≡ states_at p.diagram p.samples p.batches rows i (declared p i) (m + 1)
+  pub later : 0 < shut_by q → work.later ≡ states_at p.diagram p.samples p.batches rows i (declared_task p i) (m + 1)
 
-pub task_writes : (p : Plan) (w : Wiring) (rows : ℕ → ℕ → List ℤ) (i : ℕ) (e : TaskEntry) (t : TaskState) (q : Place) (x : Slot) (work : WorkWords) → TaskSound p w rows i e t → TaskShape w (declared p i) i e.aimed t → EntryShape (wired w i) e
+pub task_writes : (p : Plan) (w : Wiring) (rows : ℕ → ℕ → List ℤ) (i : ℕ) (e : TaskEntry) (t : TaskState) (q : Place) (x : Slot) (work : WorkWords) → TaskSound p w rows i e t → TaskShape w (declared_task p i) i e.aimed t → EntryShape (wired_task w i) e
     → running_count t.part.place ≡ 1 → filled_by t.part.place ≡ 0 → move.own_slot t.part ≡ e.current → Writes p w rows i t.part.ended e.aimed q x work → TaskSound p w rows i e (written t q x work)
 task_writes p w rows i e t q x work ok shape fits busy from same new =
     let some : 0 < e.aimed = omega (arith, shape.gate, shape.aimed) in
@@ -66,7 +66,7 @@ task_writes p w rows i e t q x work ok shape fits busy from same new =
       aimed = ok.aimed;
       aim = ok.aim;
       heard = ok.heard;
-      whole = λ n l. after_set (λ m u. m < (wired w i).slots → u.stamp ≡ l + 1 → (l ≤ t.part.ended + filled_by q) × (u.words ≡ rows i l)) t.words.slots (move.own_slot t.part) x no_slot inside
+      whole = λ n l. after_set (λ m u. m < (wired_task w i).slots → u.stamp ≡ l + 1 → (l ≤ t.part.ended + filled_by q) × (u.words ≡ rows i l)) t.words.slots (move.own_slot t.part) x no_slot inside
           (λ _ stamp. new.whole l stamp)
           (λ m other below stamp. ((omega (arith, (ok.whole m l below stamp).0, from)), (ok.whole m l below stamp).1)) n;
       filled = λ all. rw here (new.filled all);
@@ -84,7 +84,7 @@ task_writes p w rows i e t q x work ok shape fits busy from same new =
 
 -- a link out of the task
 pub link_written : (p : Plan) (w : Wiring) (rows : ℕ → ℕ → List ℤ) (i k : ℕ) (c : LinkEntry) (v : TaskEntry) (t : TaskState) (e : TaskEntry) (reader : TaskState) (q : Place) (x : Slot) (work : WorkWords)
-    → TaskSound p w rows i v t → TaskShape w (declared p i) i v.aimed t → EntryShape (wired w i) v
+    → TaskSound p w rows i v t → TaskShape w (declared_task p i) i v.aimed t → EntryShape (wired_task w i) v
     → running_count t.part.place ≡ 1 → filled_by t.part.place ≡ 0 → move.own_slot t.part ≡ v.current
     → (Stands w k c e reader → c.slot ≡ v.current → c.number ≡ v.aimed)
     → (t.part.ended + filled_by q < v.aimed) ⊎ (x.stamp ≡ v.aimed + 1)
@@ -135,15 +135,15 @@ module _ (p : Plan) (w : Wiring) (rows : ℕ → ℕ → List ℤ) (s : State) (
 
   -- a step that writes the task's own slot
   pub write_sound : (i : ℕ) (q : Place) (x : Slot) (work : WorkWords) → i < length w.tasks → IsShape p w (rule.with_task s i (written (task s i) q x work)) → rule.blocker_refusal w.count w s i ≡ None
-      → running_count (task s i).part.place ≡ 1 → filled_by (task s i).part.place ≡ 0 → heard_by (1 + length (wired w i).links) (task s i).part.place ≡ 1 + length (wired w i).links
+      → running_count (task s i).part.place ≡ 1 → filled_by (task s i).part.place ≡ 0 → heard_by (1 + length (wired_task w i).links) (task s i).part.place ≡ 1 + length (wired_task w i).links
       → ((task s i).part.ended + filled_by q < (task_entry s i).aimed) ⊎ (x.stamp ≡ (task_entry s i).aimed + 1)
       → Writes p w rows i (task s i).part.ended (task_entry s i).aimed q x work
       → ((n : ℕ) → q ≡ place.Take n → ⊥)
       → Sound p w rows (rule.with_task s i (written (task s i) q x work))
   write_sound i q x work below shape free busy from all after new no_take =
       let ok : TaskSound p w rows i (task_entry s i) (task s i) = sound.tasks i below in
-      let fits : TaskShape w (declared p i) i (task_entry s i).aimed (task s i) = sound.shape.each_task i below in
-      let entry : EntryShape (wired w i) (task_entry s i) = sound.shape.each_entry i below in
+      let fits : TaskShape w (declared_task p i) i (task_entry s i).aimed (task s i) = sound.shape.each_task i below in
+      let entry : EntryShape (wired_task w i) (task_entry s i) = sound.shape.each_entry i below in
       let same : move.own_slot (task s i).part ≡ (task_entry s i).current = own_current p w rows i (task_entry s i) (task s i) ok fits all in
       task_step p w rows s own sound i (written (task s i) q x work) below shape refl
       (task_writes p w rows i (task_entry s i) (task s i) q x work ok fits entry busy from same new)
@@ -157,7 +157,7 @@ module _ (p : Plan) (w : Wiring) (rows : ℕ → ℕ → List ℤ) (s : State) (
       (λ n at _. absurd (no_take n at)) old)
 
   -- the row that a task has computed has a word for each port
-  row_size : (i : ℕ) → i < length w.tasks → shut_by (task s i).part.place ≡ 1 → length (rows i ((task s i).part.ended + 1)) ≡ (wired w i).ports
+  row_size : (i : ℕ) → i < length w.tasks → shut_by (task s i).part.place ≡ 1 → length (rows i ((task s i).part.ended + 1)) ≡ (wired_task w i).ports
   row_size i below shut =
       let row : (task s i).work.row ≡ rows i (last_shut (task s i)) = (sound.tasks i below).row in
       let number : last_shut (task s i) ≡ (task s i).part.ended + 1 = omega arith in
@@ -167,29 +167,29 @@ module _ (p : Plan) (w : Wiring) (rows : ℕ → ℕ → List ℤ) (s : State) (
   put_sound i port named free =
       let below : i < length w.tasks = there i named in
       let ok : TaskSound p w rows i (task_entry s i) (task s i) = sound.tasks i below in
-      let fits : TaskShape w (declared p i) i (task_entry s i).aimed (task s i) = sound.shape.each_task i below in
+      let fits : TaskShape w (declared_task p i) i (task_entry s i).aimed (task s i) = sound.shape.each_task i below in
       let both = or_else_none (rule.steps_next w s i 10 port) (rule.blocker_refusal w.count w s i) free in
       let first : (task s i).part.place ≡ place.Put (place_number (task s i).part.place) = at_step w s i 10 port (rule.blocker_refusal w.count w s i) free in
-      let kind : (rule.place_kind (wired w i) (task s i).part.place).1 ≡ port = (next_none broken.TaskPlace (rule.place_kind (wired w i) (task s i).part.place) 10 port both.0).1 in
-      let number : place_number (task s i).part.place ≡ port = sym (ap (λ (q : Place). (rule.place_kind (wired w i) q).1) first) ∙ kind in
+      let kind : (rule.place_kind (wired_task w i) (task s i).part.place).1 ≡ port = (next_none broken.TaskPlace (rule.place_kind (wired_task w i) (task s i).part.place) 10 port both.0).1 in
+      let number : place_number (task s i).part.place ≡ port = sym (ap (λ (q : Place). (rule.place_kind (wired_task w i) q).1) first) ∙ kind in
       let at : (task s i).part.place ≡ place.Put port = first ∙ ap (λ (n : ℕ). place.Put n) number in
-      let all : heard_by (1 + length (wired w i).links) (task s i).part.place ≡ 1 + length (wired w i).links = ap (heard_by (1 + length (wired w i).links)) at in
+      let all : heard_by (1 + length (wired_task w i).links) (task s i).part.place ≡ 1 + length (wired_task w i).links = ap (heard_by (1 + length (wired_task w i).links)) at in
       let from : filled_by (task s i).part.place ≡ 0 = ap filled_by at in
       let shut : shut_by (task s i).part.place ≡ 1 = ap shut_by at in
       let busy : running_count (task s i).part.place ≡ 1 = ap running_count at in
-      let puts : put_by (wired w i).ports (task s i).part.place ≡ port = ap (put_by (wired w i).ports) at in
-      let taken : taken_by (length (wired w i).reads) (task s i).part.place ≡ length (wired w i).reads = ap (taken_by (length (wired w i).reads)) at in
+      let puts : put_by (wired_task w i).ports (task s i).part.place ≡ port = ap (put_by (wired_task w i).ports) at in
+      let taken : taken_by (length (wired_task w i).reads) (task s i).part.place ≡ length (wired_task w i).reads = ap (taken_by (length (wired_task w i).reads)) at in
       let same : move.own_slot (task s i).part ≡ (task_entry s i).current = own_current p w rows i (task_entry s i) (task s i) ok fits all in
       let slot : Slot = slot_at (task s i).words.slots (move.own_slot (task s i).part) in
       let empty : slot.stamp ≡ 0 = ap (λ (n : ℕ). (slot_at (task s i).words.slots n).stamp) same ∙ ok.filling (omega arith) in
       let word : ℤ = get_or (task s i).work.row port (pos 0) in
-      let q : Place = move.put_place (wired w i).ports (port + 1) in
-      let to = put_running (wired w i).ports (port + 1) in
-      let inside : port < (wired w i).ports = subst (λ (x : Place). PlaceIn (wired w i) x) at fits.place in
-      let size : length slot.words ≡ (wired w i).ports = fits.slots.1 (move.own_slot (task s i).part) (omega (arith, same, (sound.shape.each_entry i below).current)) in
+      let q : Place = move.put_place (wired_task w i).ports (port + 1) in
+      let to = put_running (wired_task w i).ports (port + 1) in
+      let inside : port < (wired_task w i).ports = subst (λ (x : Place). PlaceIn (wired_task w i) x) at fits.place in
+      let size : length slot.words ≡ (wired_task w i).ports = fits.slots.1 (move.own_slot (task s i).part) (omega (arith, same, (sound.shape.each_entry i below).current)) in
       let old : (m : ℕ) → m < port → get_or slot.words m (pos 0) ≡ get_or (rows i ((task s i).part.ended + 1)) m (pos 0) = λ m less. ap (λ (n : ℕ). get_or (slot_at (task s i).words.slots n).words m (pos 0)) same ∙ ok.put m (omega arith) in
       let row : (task s i).work.row ≡ rows i ((task s i).part.ended + 1) = ok.row ∙ ap (rows i) (omega arith) in
-      write_sound i (move.put_place (wired w i).ports (port + 1)) (record (slot_at (task s i).words.slots (move.own_slot (task s i).part)) { words = set (slot_at (task s i).words.slots (move.own_slot (task s i).part)).words port (get_or (task s i).work.row port (pos 0)) }) (task s i).work below
+      write_sound i (move.put_place (wired_task w i).ports (port + 1)) (record (slot_at (task s i).words.slots (move.own_slot (task s i).part)) { words = set (slot_at (task s i).words.slots (move.own_slot (task s i).part)).words port (get_or (task s i).work.row port (pos 0)) }) (task s i).work below
       (step_kept p w s sound.shape (Put i port) named free) both.1 busy from all (inl (omega (arith, to.0, fits.gate, fits.aimed)))
       (record {
         whole = λ l stamp. absurd (omega arith);
@@ -197,31 +197,31 @@ module _ (p : Plan) (w : Wiring) (rows : ℕ → ℕ → List ℤ) (s : State) (
         filling = λ _. empty;
         put = λ m less. elim (cases_eq m port) [
           | inl is ↦ rw (is, get_or-set_same slot.words port word (pos 0) (omega arith)) (ap (λ (xs : List ℤ). get_or xs port (pos 0)) row)
-          | inr other ↦ get_or-set_other slot.words port m word (pos 0) other ∙ old m (omega (arith, put_most (wired w i).ports (port + 1)))
+          | inr other ↦ get_or-set_other slot.words port m word (pos 0) other ∙ old m (omega (arith, put_most (wired_task w i).ports (port + 1)))
         ];
         states = ok.states;
-        taken = λ n less. ok.taken n (omega (arith, to.2 (length (wired w i).reads)));
+        taken = λ n less. ok.taken n (omega (arith, to.2 (length (wired_task w i).reads)));
         row = row ∙ ap (rows i) (omega (arith, to.1));
         later = λ _. ok.later (omega arith);
       })
-      (λ n takes. put_takes (wired w i).ports (port + 1) n takes)
+      (λ n takes. put_takes (wired_task w i).ports (port + 1) n takes)
 
   pub done_sound : (i : ℕ) → i < length p.diagram.tasks → rule.refusal w s (Done i) ≡ None → Sound p w rows (rule.next p w s (Done i))
   done_sound i named free =
       let below : i < length w.tasks = there i named in
       let ok : TaskSound p w rows i (task_entry s i) (task s i) = sound.tasks i below in
-      let fits : TaskShape w (declared p i) i (task_entry s i).aimed (task s i) = sound.shape.each_task i below in
+      let fits : TaskShape w (declared_task p i) i (task_entry s i).aimed (task s i) = sound.shape.each_task i below in
       let both = or_else_none (rule.steps_next w s i 11 0) (rule.blocker_refusal w.count w s i) free in
       let at : (task s i).part.place ≡ place.Done = at_step w s i 11 0 (rule.blocker_refusal w.count w s i) free in
-      let all : heard_by (1 + length (wired w i).links) (task s i).part.place ≡ 1 + length (wired w i).links = ap (heard_by (1 + length (wired w i).links)) at in
+      let all : heard_by (1 + length (wired_task w i).links) (task s i).part.place ≡ 1 + length (wired_task w i).links = ap (heard_by (1 + length (wired_task w i).links)) at in
       let from : filled_by (task s i).part.place ≡ 0 = ap filled_by at in
       let shut : shut_by (task s i).part.place ≡ 1 = ap shut_by at in
       let busy : running_count (task s i).part.place ≡ 1 = ap running_count at in
-      let puts : put_by (wired w i).ports (task s i).part.place ≡ (wired w i).ports = ap (put_by (wired w i).ports) at in
-      let taken : taken_by (length (wired w i).reads) (task s i).part.place ≡ length (wired w i).reads = ap (taken_by (length (wired w i).reads)) at in
+      let puts : put_by (wired_task w i).ports (task s i).part.place ≡ (wired_task w i).ports = ap (put_by (wired_task w i).ports) at in
+      let taken : taken_by (length (wired_task w i).reads) (task s i).part.place ≡ length (wired_task w i).reads = ap (taken_by (length (wired_task w i).reads)) at in
       let same : move.own_slot (task s i).part ≡ (task_entry s i).current = own_current p w rows i (task_entry s i) (task s i) ok fits all in
       let slot : Slot = slot_at (task s i).words.slots (move.own_slot (task s i).part) in
-      let size : length slot.words ≡ (wired w i).ports = fits.slots.1 (move.own_slot (task s i).part) (omega (arith, same, (sound.shape.each_entry i below).current)) in
+      let size : length slot.words ≡ (wired_task w i).ports = fits.slots.1 (move.own_slot (task s i).part) (omega (arith, same, (sound.shape.each_entry i below).current)) in
       let now : (task_entry s i).aimed ≡ (task s i).part.ended + 1 = omega (arith, fits.gate, fits.aimed, ok.known, ok.ended, ok.aimed) in
       let words : slot.words ≡ rows i ((task s i).part.ended + 1) = ext_get_or (pos 0) slot.words (rows i ((task s i).part.ended + 1)) (size ∙ sym (row_size i below shut)) (λ m less. ap (λ (n : ℕ). get_or (slot_at (task s i).words.slots n).words m (pos 0)) same ∙ ok.put m (omega arith)) in
       write_sound i place.End (record (slot_at (task s i).words.slots (move.own_slot (task s i).part)) { stamp = (task s i).part.ended + 2 }) (task s i).work below
@@ -244,7 +244,7 @@ module _ (p : Plan) (w : Wiring) (rows : ℕ → ℕ → List ℤ) (s : State) (
   end_sound i named free =
       let below : i < length w.tasks = there i named in
       let ok : TaskSound p w rows i (task_entry s i) (task s i) = sound.tasks i below in
-      let fits : TaskShape w (declared p i) i (task_entry s i).aimed (task s i) = sound.shape.each_task i below in
+      let fits : TaskShape w (declared_task p i) i (task_entry s i).aimed (task s i) = sound.shape.each_task i below in
       let at : (task s i).part.place ≡ place.End = at_step w s i 12 0 (rule.blocker_refusal w.count w s i) free in
       let filled : filled_by (task s i).part.place ≡ 1 = ap filled_by at in
       let shut : shut_by (task s i).part.place ≡ 1 = ap shut_by at in
@@ -263,7 +263,7 @@ module _ (p : Plan) (w : Wiring) (rows : ℕ → ℕ → List ℤ) (s : State) (
         put = λ port less. absurd (omega arith);
         kept = ok.kept;
         kept_apart = ok.kept_apart;
-        states = take_front (task s i).work.later (drop (length (task s i).work.later) (task s i).work.now) (length (declared p i).states) fits.later ∙ ok.later (omega arith);
+        states = take_front (task s i).work.later (drop (length (task s i).work.later) (task s i).work.now) (length (declared_task p i).states) fits.later ∙ ok.later (omega arith);
         taken = λ n less. absurd (omega arith);
         row = ok.row ∙ ap (rows i) (omega arith);
         later = λ some. absurd (omega arith);

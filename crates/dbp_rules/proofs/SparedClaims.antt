@@ -3,9 +3,9 @@
 use Rattle.std.proofs.Common.{◌≡◌, ℕ, ℤ, pos, ◌+◌, ◌<◌, ◌⊎◌, true, List, length, get_or, set, Some, None, refl, sym, ◌∙◌, ap, arith, inl, inr, get_or-set_other}
 use Rattle.std.proofs.lemmas.Bool.{cases_eq, eq-eqb, lt-ltb}
 use Rattle.dbp_plan.specs.declared.plan.Plan.{Plan}
-use Rattle.dbp_plan.specs.Lookups.{declared}
+use Rattle.dbp_plan.specs.Lookups.{declared_task}
 use Rattle.dbp_rules.specs.Moves as move
-use Rattle.dbp_rules.specs.Places.{counts_link, is_counted, link, link_entry, no_slot, slot_at, task, task_entry, wired}
+use Rattle.dbp_rules.specs.Places.{counts_link, is_counted, link, link_entry, no_slot, slot_at, task, task_entry, wired_task}
 use Rattle.dbp_rules.specs.Promises.{IsFilledByItsOwn, IsUnclaimed, SparesClaims, filled_of}
 use Rattle.dbp_rules.specs.Rules as rule
 use Rattle.dbp_rules.specs.Shapes.{heard_by, place_number, running_count}
@@ -43,15 +43,15 @@ module _ (p : Plan) (w : Wiring) (rows : ℕ → ℕ → List ℤ) (s : State) (
 
   -- a step that replaces the task's own slot
   fills : (i kind operand : ℕ) (e : Step) (t : TaskState) (x : Slot) → i < length p.diagram.tasks → rule.or_else (rule.steps_next w s i kind operand) (rule.blocker_refusal w.count w s i) ≡ None
-      → ((n : ℕ) → running_count (place_of kind n) ≡ 1) → ((n : ℕ) → heard_by (1 + length (wired w i).links) (place_of kind n) ≡ 1 + length (wired w i).links)
+      → ((n : ℕ) → running_count (place_of kind n) ≡ 1) → ((n : ℕ) → heard_by (1 + length (wired_task w i).links) (place_of kind n) ≡ 1 + length (wired_task w i).links)
       → filled_of e ≡ Some i → t.words.slots ≡ set (task s i).words.slots (move.own_slot (task s i).part) x
       → (k : ℕ) → k < length w.links → (task s (link w k).reader).words.ended < (link_entry s k).instance
       → (slot_at (task (rule.with_task s i t) (link w k).writer).words.slots (link_entry s k).slot ≡ slot_of_claim w s k) ⊎ IsFilledByItsOwn w s e k
   fills i kind operand e t x named free runs all is slots k fits live =
       let both = or_else_none (rule.steps_next w s i kind operand) (rule.blocker_refusal w.count w s i) free in
-      let at : (task s i).part.place ≡ place_of kind (place_number (task s i).part.place) = at_next broken.TaskPlace (wired w i) (task s i).part.place kind operand both.0 in
+      let at : (task s i).part.place ≡ place_of kind (place_number (task s i).part.place) = at_next broken.TaskPlace (wired_task w i) (task s i).part.place kind operand both.0 in
       let busy : running_count (task s i).part.place ≡ 1 = ap running_count at ∙ runs (place_number (task s i).part.place) in
-      let heard : heard_by (1 + length (wired w i).links) (task s i).part.place ≡ 1 + length (wired w i).links = ap (heard_by (1 + length (wired w i).links)) at ∙ all (place_number (task s i).part.place) in
+      let heard : heard_by (1 + length (wired_task w i).links) (task s i).part.place ≡ 1 + length (wired_task w i).links = ap (heard_by (1 + length (wired_task w i).links)) at ∙ all (place_number (task s i).part.place) in
       let moved : (link w k).writer ≡ i → (link_entry s k).slot ≡ move.own_slot (task s i).part → IsFilledByItsOwn w s e k =
       λ out slot. record {
         writer = is ∙ ap Some (sym out);
@@ -73,15 +73,15 @@ module _ (p : Plan) (w : Wiring) (rows : ℕ → ℕ → List ℤ) (s : State) (
   spared (Claim j) named free k fits live = inl refl
   spared (OpenGate i) named free k fits live = inl (slots_stay i k (record (task s i) { words = move.words_after_open (task s i).words (task_entry s i).aimed }) named refl)
   spared (Start i) named free k fits live = inl (slots_stay i k (record (task s i) { part = move.after_start (task s i).part (rule.is_open s i) }) named refl)
-  spared (Hear i) named free k fits live = inl (slots_stay i k (record (task s i) { part = move.after_hear (wired w i) (task s i).part (rule.hears_at (task s i).part.place) (rule.order_word w s i (rule.hears_at (task s i).part.place)) }) named refl)
+  spared (Hear i) named free k fits live = inl (slots_stay i k (record (task s i) { part = move.after_hear (wired_task w i) (task s i).part (rule.hears_at (task s i).part.place) (rule.order_word w s i (rule.hears_at (task s i).part.place)) }) named refl)
   spared (Look i r) named free k fits live = inl (slots_stay i k (record (task s i) { part = move.after_look (task s i).part (rule.turn_at (task s i).part.place) (rule.is_ready w s i (rule.turn_at (task s i).part.place)) }) named refl)
   spared (Take i r) named free k fits live =
-      inl (slots_stay i k (record { words = (task s i).words; part = move.after_take (wired w i) (task s i).part (rule.turn_at (task s i).part.place); work = move.with_read (declared p i) (task s i).work r (rule.read_word w s i (rule.turn_at (task s i).part.place)) }) named refl)
+      inl (slots_stay i k (record { words = (task s i).words; part = move.after_take (wired_task w i) (task s i).part (rule.turn_at (task s i).part.place); work = move.with_read (declared_task p i) (task s i).work r (rule.read_word w s i (rule.turn_at (task s i).part.place)) }) named refl)
   spared (Shut i) named free k fits live =
-      fills i 9 0 (Shut i) (record { words = move.with_stamp (task s i).words (move.own_slot (task s i).part) 0; part = move.at_place (task s i).part (place.Put 0); work = move.after_compute (declared p i) (rule.sense_values p w s i) (task s i).work })
+      fills i 9 0 (Shut i) (record { words = move.with_stamp (task s i).words (move.own_slot (task s i).part) 0; part = move.at_place (task s i).part (place.Put 0); work = move.after_compute (declared_task p i) (rule.sense_values p w s i) (task s i).work })
       (record (slot_at (task s i).words.slots (move.own_slot (task s i).part)) { stamp = 0 }) named free (λ n. refl) (λ n. refl) refl refl k fits live
   spared (Put i port) named free k fits live =
-      fills i 10 port (Put i port) (record { words = move.with_word (task s i).words (move.own_slot (task s i).part) port (get_or (task s i).work.row port (pos 0)); part = move.at_place (task s i).part (move.put_place (wired w i).ports (port + 1)); work = (task s i).work })
+      fills i 10 port (Put i port) (record { words = move.with_word (task s i).words (move.own_slot (task s i).part) port (get_or (task s i).work.row port (pos 0)); part = move.at_place (task s i).part (move.put_place (wired_task w i).ports (port + 1)); work = (task s i).work })
       (record (slot_at (task s i).words.slots (move.own_slot (task s i).part)) { words = set (slot_at (task s i).words.slots (move.own_slot (task s i).part)).words port (get_or (task s i).work.row port (pos 0)) }) named free (λ n. refl) (λ n. refl) refl refl k fits live
   spared (Done i) named free k fits live =
       fills i 11 0 (Done i) (record { words = move.with_stamp (task s i).words (move.own_slot (task s i).part) ((task s i).part.ended + 2); part = move.at_place (task s i).part place.End; work = (task s i).work })
@@ -95,7 +95,7 @@ all_counted c writer reader is = rw is refl
 
 pub aims_apart : (w : Wiring) (s : State) (i slot : ℕ) → rule.refusal w s (Aim i slot) ≡ None → w.count ≡ All → IsUnclaimed w s i slot
 aims_apart w s i slot free all k fits out stands same =
-    let counted : is_counted w k ≡ true = all_counted w.count (wired w (link w k).writer).rank (wired w (link w k).reader).rank all in
+    let counted : is_counted w k ≡ true = all_counted w.count (wired_task w (link w k).writer).rank (wired_task w (link w k).reader).rank all in
     let known : (task_entry s (link w k).reader).known < (link_entry s k).instance = rw counted at stands in
     let is : rule.claims_slot w s i slot k ≡ true = rw (eq-eqb (link w k).writer i out, counted, lt-ltb (task_entry s (link w k).reader).known (link_entry s k).instance known, eq-eqb (link_entry s k).slot slot same) refl in
     absurd (cc (is, (aim_allowed w s.releaser i slot free).unclaimed k fits))

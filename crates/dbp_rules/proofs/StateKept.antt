@@ -7,11 +7,11 @@ use Rattle.dbp_plan.specs.declared.diagram.Task.{Task}
 use Rattle.dbp_plan.specs.declared.plan.Plan.{Plan}
 use Rattle.dbp_plan.specs.declared.limits.TheConstants.{MAX_OCCURRENCES}
 use Rattle.dbp_plan.specs.Closed.{let_base}
-use Rattle.dbp_plan.specs.Lookups.{declared}
+use Rattle.dbp_plan.specs.Lookups.{declared_task}
 use Rattle.release_list.specs.Schedule.{aims}
 use Rattle.release_list.specs.declared.release.Release.TheVariants as release
 use Rattle.dbp_rules.specs.Moves as move
-use Rattle.dbp_rules.specs.Places.{link, task, task_entry, wired}
+use Rattle.dbp_rules.specs.Places.{link, task, task_entry, wired_task}
 use Rattle.dbp_rules.specs.Rules as rule
 use Rattle.dbp_rules.specs.Shapes.{EntryShape, IsShape, IsTaskWired, TaskShape, heard_by, running_count}
 use Rattle.dbp_rules.specs.Work.{WorkWords}
@@ -35,17 +35,17 @@ use Rattle.dbp_rules.proofs.TaskKept.{WorkFits, computed_fits, end_kept, goes_on
 module _ (p : Plan) (w : Wiring) (s : State) (shape : IsShape p w s) where
   seen_kept : (i : ℕ) → i < length w.tasks → IsShape p w (rule.next p w s (Seen i))
   seen_kept i below =
-      let e : EntryShape (wired w i) (task_entry s i) = shape.each_entry i below in
+      let e : EntryShape (wired_task w i) (task_entry s i) = shape.each_entry i below in
       entry_changes p w s i (move.after_seen (task_entry s i) (task s i).words.ended) shape below refl (record { current = e.current; kept = e.kept; kept_slots = e.kept_slots })
 
   aim_kept : (i slot : ℕ) → i < length w.tasks → rule.refusal w s (Aim i slot) ≡ None → IsShape p w (rule.next p w s (Aim i slot))
   aim_kept i slot below free =
       let a : IsAllowedAim w s.releaser i slot = aim_allowed w s.releaser i slot free in
       let here : slice_get w.releases s.releaser.place ≡ Some (release.Aim i) = a.here in
-      let fits : slot < (wired w i).slots = a.below in
-      let e : EntryShape (wired w i) (task_entry s i) = shape.each_entry i below in
-      let ok : TaskShape w (declared p i) i (task_entry s i).aimed (task s i) = shape.each_task i below in
-      let t : IsTaskWired p w i (wired w i) = shape.wiring.each_task i below in
+      let fits : slot < (wired_task w i).slots = a.below in
+      let e : EntryShape (wired_task w i) (task_entry s i) = shape.each_entry i below in
+      let ok : TaskShape w (declared_task p i) i (task_entry s i).aimed (task s i) = shape.each_task i below in
+      let t : IsTaskWired p w i (wired_task w i) = shape.wiring.each_task i below in
       let more : aims w.releases (s.releaser.place + 1) i ≡ aims w.releases s.releaser.place i + 1 = aims_same w.releases s.releaser.place i here in
       aim_changes p w s i (move.after_aim (task_entry s i) slot) (record (task s i) { words = move.words_after_aim (task s i).words (move.after_aim (task_entry s i) slot) }) shape below
       (omega (arith, shape.aimed i below, more))
@@ -53,7 +53,7 @@ module _ (p : Plan) (w : Wiring) (s : State) (shape : IsShape p w s) where
       (record {
         current = fits;
         kept = length-take-le (length (task_entry s i).kept) ((task_entry s i).current ∷ (task_entry s i).kept) (omega arith) ∙ e.kept;
-        kept_slots = λ j few. kept_on (wired w i).slots (wired w i).kept (task_entry s i).current j (task_entry s i).kept e.kept e.current e.kept_slots few;
+        kept_slots = λ j few. kept_on (wired_task w i).slots (wired_task w i).kept (task_entry s i).current j (task_entry s i).kept e.kept e.current e.kept_slots few;
       })
       (record {
         gate = ok.gate;
@@ -73,9 +73,9 @@ module _ (p : Plan) (w : Wiring) (s : State) (shape : IsShape p w s) where
       let next = next_none broken.Place (rule.release_kind (slice_get w.releases s.releaser.place)) 3 k free in
       let here : slice_get w.releases s.releaser.place ≡ Some (release.Claim k) = at_claim (slice_get w.releases s.releaser.place) k next.0 next.1 in
       let writer : (link w k).writer < length w.tasks = shape.wiring.writer k below in
-      let e : EntryShape (wired w (link w k).writer) (task_entry s (link w k).writer) = shape.each_entry (link w k).writer writer in
-      let slot : move.claimed_slot (link w k).delay (task_entry s (link w k).writer).current (task_entry s (link w k).writer).kept < (wired w (link w k).writer).slots =
-      claimed_fits (wired w (link w k).writer).slots (wired w (link w k).writer).kept (link w k).delay (task_entry s (link w k).writer) e.current e.kept_slots (shape.wiring.delay k below) in
+      let e : EntryShape (wired_task w (link w k).writer) (task_entry s (link w k).writer) = shape.each_entry (link w k).writer writer in
+      let slot : move.claimed_slot (link w k).delay (task_entry s (link w k).writer).current (task_entry s (link w k).writer).kept < (wired_task w (link w k).writer).slots =
+      claimed_fits (wired_task w (link w k).writer).slots (wired_task w (link w k).writer).kept (link w k).delay (task_entry s (link w k).writer) e.current e.kept_slots (shape.wiring.delay k below) in
       let number : (task_entry s (link w k).writer).aimed - (link w k).delay ≤ MAX_OCCURRENCES = omega (arith, aimed_few p w s shape (link w k).writer writer) in
       let c = move.claim_entry (link w k).delay (task_entry s (link w k).writer) (task_entry s (link w k).reader) in
       further_on p w (rule.with_claim s k c) (claim_changes p w s k c shape below (record { claim = (slot, number); order = (slot, number) })) (λ j. aims_claim w.releases s.releaser.place k j here)
@@ -84,7 +84,7 @@ module _ (p : Plan) (w : Wiring) (s : State) (shape : IsShape p w s) where
   open_kept i below free =
       let next = next_none broken.Place (rule.release_kind (slice_get w.releases s.releaser.place)) 4 i free in
       let here : slice_get w.releases s.releaser.place ≡ Some (release.OpenGate i) = at_open (slice_get w.releases s.releaser.place) i next.0 next.1 in
-      let ok : TaskShape w (declared p i) i (task_entry s i).aimed (task s i) = shape.each_task i below in
+      let ok : TaskShape w (declared_task p i) i (task_entry s i).aimed (task s i) = shape.each_task i below in
       let t = record (task s i) { words = move.words_after_open (task s i).words (task_entry s i).aimed } in
       further_on p w (rule.with_task s i t) (task_changes p w s i t shape below (record {
         gate = omega (arith, ok.gate, ok.aimed);
@@ -101,44 +101,44 @@ module _ (p : Plan) (w : Wiring) (s : State) (shape : IsShape p w s) where
 
   start_on : (i : ℕ) → i < length w.tasks → (task s i).part.place ≡ place.Idle → IsShape p w (rule.next p w s (Start i))
   start_on i below at =
-      let ok : TaskShape w (declared p i) i (task_entry s i).aimed (task s i) = shape.each_task i below in
+      let ok : TaskShape w (declared_task p i) i (task_entry s i).aimed (task s i) = shape.each_task i below in
       elim (cases_Bool (rule.is_open s i)) [
         | inl is ↦
             let gate : (task s i).words.gate ≡ (task s i).part.ended + 1 = eqb-true (task s i).words.gate ((task s i).part.ended + 1) is in
-            rw is (task_changes p w s i (record (task s i) { part = move.at_place (task s i).part (place.Hear 0) }) shape below (start_kept w (declared p i) i (task_entry s i).aimed (task s i) ok at gate))
+            rw is (task_changes p w s i (record (task s i) { part = move.at_place (task s i).part (place.Hear 0) }) shape below (start_kept w (declared_task p i) i (task_entry s i).aimed (task s i) ok at gate))
         | inr isnt ↦ rw isnt (task_changes p w s i (task s i) shape below ok)
       ]
 
   hear_on : (i n : ℕ) → i < length w.tasks → (task s i).part.place ≡ place.Hear n → IsShape p w (rule.next p w s (Hear i))
   hear_on i n below at =
-      let ok : TaskShape w (declared p i) i (task_entry s i).aimed (task s i) = shape.each_task i below in
-      let few : n ≤ length (wired w i).links = omega (arith, place_in p w s shape i (place.Hear n) below at) in
-      rw at (task_changes p w s i (record (task s i) { part = move.after_hear (wired w i) (task s i).part n (rule.order_word w s i n) }) shape below (hear_kept w (declared p i) i (task_entry s i).aimed (task s i) ok n (rule.order_word w s i n) at (word_ordered p w s shape i n below few)))
+      let ok : TaskShape w (declared_task p i) i (task_entry s i).aimed (task s i) = shape.each_task i below in
+      let few : n ≤ length (wired_task w i).links = omega (arith, place_in p w s shape i (place.Hear n) below at) in
+      rw at (task_changes p w s i (record (task s i) { part = move.after_hear (wired_task w i) (task s i).part n (rule.order_word w s i n) }) shape below (hear_kept w (declared_task p i) i (task_entry s i).aimed (task s i) ok n (rule.order_word w s i n) at (word_ordered p w s shape i n below few)))
 
   look_on : (i r n : ℕ) → i < length w.tasks → (task s i).part.place ≡ place.Look n → IsShape p w (rule.next p w s (Look i r))
   look_on i r n below at =
-      let ok : TaskShape w (declared p i) i (task_entry s i).aimed (task s i) = shape.each_task i below in
-      let few : n < length (wired w i).reads = place_in p w s shape i (place.Look n) below at in
+      let ok : TaskShape w (declared_task p i) i (task_entry s i).aimed (task s i) = shape.each_task i below in
+      let few : n < length (wired_task w i).reads = place_in p w s shape i (place.Look n) below at in
       elim (cases_Bool (rule.is_ready w s i n)) [
         | inl is ↦ rw (at, is) (task_changes p w s i (record (task s i) { part = move.at_place (task s i).part (place.Take n) }) shape below
-            (goes_on w (declared p i) i (task_entry s i).aimed (task s i) ok (place.Take n) (task s i).words (task s i).work (ap running_count at) (ap (heard_by (1 + length (wired w i).links)) at) (record { inside = few; busy = refl; heard = refl }) refl refl ok.slots ok.now ok.later ok.row))
+            (goes_on w (declared_task p i) i (task_entry s i).aimed (task s i) ok (place.Take n) (task s i).words (task s i).work (ap running_count at) (ap (heard_by (1 + length (wired_task w i).links)) at) (record { inside = few; busy = refl; heard = refl }) refl refl ok.slots ok.now ok.later ok.row))
         | inr isnt ↦ rw (at, isnt) (task_changes p w s i (task s i) shape below ok)
       ]
 
   take_on : (i r n : ℕ) → i < length w.tasks → (task s i).part.place ≡ place.Take n → IsShape p w (rule.next p w s (Take i r))
   take_on i r n below at =
-      let ok : TaskShape w (declared p i) i (task_entry s i).aimed (task s i) = shape.each_task i below in
-      let work : WorkWords = move.with_read (declared p i) (task s i).work r (rule.read_word w s i n) in
-      rw at (task_changes p w s i (record { words = (task s i).words; part = move.after_take (wired w i) (task s i).part n; work = work }) shape below
-      (goes_on w (declared p i) i (task_entry s i).aimed (task s i) ok (move.read_place (length (wired w i).reads) (n + 1)) (task s i).words work (ap running_count at) (ap (heard_by (1 + length (wired w i).links)) at)
-      (goes_to_read (wired w i) (n + 1)) refl refl ok.slots (length-set (task s i).work.now (length (declared p i).states + length (declared p i).senses + r) (rule.read_word w s i n) ∙ ok.now) ok.later ok.row))
+      let ok : TaskShape w (declared_task p i) i (task_entry s i).aimed (task s i) = shape.each_task i below in
+      let work : WorkWords = move.with_read (declared_task p i) (task s i).work r (rule.read_word w s i n) in
+      rw at (task_changes p w s i (record { words = (task s i).words; part = move.after_take (wired_task w i) (task s i).part n; work = work }) shape below
+      (goes_on w (declared_task p i) i (task_entry s i).aimed (task s i) ok (move.read_place (length (wired_task w i).reads) (n + 1)) (task s i).words work (ap running_count at) (ap (heard_by (1 + length (wired_task w i).links)) at)
+      (goes_to_read (wired_task w i) (n + 1)) refl refl ok.slots (length-set (task s i).work.now (length (declared_task p i).states + length (declared_task p i).senses + r) (rule.read_word w s i n) ∙ ok.now) ok.later ok.row))
 
   shut_on : (i : ℕ) → i < length w.tasks → (task s i).part.place ≡ place.Shut → IsShape p w (rule.next p w s (Shut i))
   shut_on i below at =
-      let ok : TaskShape w (declared p i) i (task_entry s i).aimed (task s i) = shape.each_task i below in
-      let t : IsTaskWired p w i (wired w i) = shape.wiring.each_task i below in
-      let all : heard_by (1 + length (wired w i).links) (task s i).part.place ≡ 1 + length (wired w i).links = ap (heard_by (1 + length (wired w i).links)) at in
-      let d : Task = declared p i in
+      let ok : TaskShape w (declared_task p i) i (task_entry s i).aimed (task s i) = shape.each_task i below in
+      let t : IsTaskWired p w i (wired_task w i) = shape.wiring.each_task i below in
+      let all : heard_by (1 + length (wired_task w i).links) (task s i).part.place ≡ 1 + length (wired_task w i).links = ap (heard_by (1 + length (wired_task w i).links)) at in
+      let d : Task = declared_task p i in
       let senses : List ℤ = rule.sense_values p w s i in
       let count : length senses ≡ length d.senses = length-map d.senses _ in
       let room : length (take (let_base d) (move.with_senses d senses (task s i).work).now) ≡ let_base d =
@@ -147,30 +147,30 @@ module _ (p : Plan) (w : Wiring) (s : State) (shape : IsShape p w s) where
       let fits : WorkFits d (move.after_compute d senses (task s i).work) = computed_fits d (length p.diagram.inputs) (length p.diagram.events) (length p.diagram.links) (take (let_base d) (move.with_senses d senses (task s i).work).now) t.closed room in
       task_changes p w s i (record { words = move.with_stamp (task s i).words (move.own_slot (task s i).part) 0; part = move.at_place (task s i).part (place.Put 0); work = move.after_compute d senses (task s i).work }) shape below
       (goes_on w d i (task_entry s i).aimed (task s i) ok (place.Put 0) (move.with_stamp (task s i).words (move.own_slot (task s i).part) 0) (move.after_compute d senses (task s i).work) (ap running_count at) all
-      (record { inside = t.some_port; busy = refl; heard = refl }) refl refl (stamped_fit (wired w i) (task s i).words (move.own_slot (task s i).part) 0 ok.slots (own_fits p w s shape i (task s i).part.place below refl all)) fits.now fits.later fits.row)
+      (record { inside = t.some_port; busy = refl; heard = refl }) refl refl (stamped_fit (wired_task w i) (task s i).words (move.own_slot (task s i).part) 0 ok.slots (own_fits p w s shape i (task s i).part.place below refl all)) fits.now fits.later fits.row)
 
   put_on : (i port n : ℕ) → i < length w.tasks → (task s i).part.place ≡ place.Put n → IsShape p w (rule.next p w s (Put i port))
   put_on i port n below at =
-      let ok : TaskShape w (declared p i) i (task_entry s i).aimed (task s i) = shape.each_task i below in
-      let all : heard_by (1 + length (wired w i).links) (task s i).part.place ≡ 1 + length (wired w i).links = ap (heard_by (1 + length (wired w i).links)) at in
+      let ok : TaskShape w (declared_task p i) i (task_entry s i).aimed (task s i) = shape.each_task i below in
+      let all : heard_by (1 + length (wired_task w i).links) (task s i).part.place ≡ 1 + length (wired_task w i).links = ap (heard_by (1 + length (wired_task w i).links)) at in
       let words = move.with_word (task s i).words (move.own_slot (task s i).part) port _ in
       task_changes p w s i _ shape below
-      (goes_on w (declared p i) i (task_entry s i).aimed (task s i) ok (move.put_place (wired w i).ports (port + 1)) words (task s i).work (ap running_count at) all
-      (goes_to_put (wired w i) (port + 1)) refl refl (word_fits (wired w i) (task s i).words (move.own_slot (task s i).part) port _ ok.slots (own_fits p w s shape i (task s i).part.place below refl all)) ok.now ok.later ok.row)
+      (goes_on w (declared_task p i) i (task_entry s i).aimed (task s i) ok (move.put_place (wired_task w i).ports (port + 1)) words (task s i).work (ap running_count at) all
+      (goes_to_put (wired_task w i) (port + 1)) refl refl (word_fits (wired_task w i) (task s i).words (move.own_slot (task s i).part) port _ ok.slots (own_fits p w s shape i (task s i).part.place below refl all)) ok.now ok.later ok.row)
 
   done_on : (i : ℕ) → i < length w.tasks → (task s i).part.place ≡ place.Done → IsShape p w (rule.next p w s (Done i))
   done_on i below at =
-      let ok : TaskShape w (declared p i) i (task_entry s i).aimed (task s i) = shape.each_task i below in
-      let all : heard_by (1 + length (wired w i).links) (task s i).part.place ≡ 1 + length (wired w i).links = ap (heard_by (1 + length (wired w i).links)) at in
+      let ok : TaskShape w (declared_task p i) i (task_entry s i).aimed (task s i) = shape.each_task i below in
+      let all : heard_by (1 + length (wired_task w i).links) (task s i).part.place ≡ 1 + length (wired_task w i).links = ap (heard_by (1 + length (wired_task w i).links)) at in
       let stamp : ℕ = (task s i).part.ended + 2 in
       task_changes p w s i (record { words = move.with_stamp (task s i).words (move.own_slot (task s i).part) stamp; part = move.at_place (task s i).part place.End; work = (task s i).work }) shape below
-      (goes_on w (declared p i) i (task_entry s i).aimed (task s i) ok place.End (move.with_stamp (task s i).words (move.own_slot (task s i).part) stamp) (task s i).work (ap running_count at) all
-      (record { inside = omega arith; busy = refl; heard = refl }) refl refl (stamped_fit (wired w i) (task s i).words (move.own_slot (task s i).part) stamp ok.slots (own_fits p w s shape i (task s i).part.place below refl all)) ok.now ok.later ok.row)
+      (goes_on w (declared_task p i) i (task_entry s i).aimed (task s i) ok place.End (move.with_stamp (task s i).words (move.own_slot (task s i).part) stamp) (task s i).work (ap running_count at) all
+      (record { inside = omega arith; busy = refl; heard = refl }) refl refl (stamped_fit (wired_task w i) (task s i).words (move.own_slot (task s i).part) stamp ok.slots (own_fits p w s shape i (task s i).part.place below refl all)) ok.now ok.later ok.row)
 
   end_on : (i : ℕ) → i < length w.tasks → (task s i).part.place ≡ place.End → IsShape p w (rule.next p w s (End i))
   end_on i below at =
-      let ok : TaskShape w (declared p i) i (task_entry s i).aimed (task s i) = shape.each_task i below in
-      task_changes p w s i _ shape below (end_kept w (declared p i) i (task_entry s i).aimed (task s i) ok at)
+      let ok : TaskShape w (declared_task p i) i (task_entry s i).aimed (task s i) = shape.each_task i below in
+      task_changes p w s i _ shape below (end_kept w (declared_task p i) i (task_entry s i).aimed (task s i) ok at)
 
   -- a task of the diagram is one of the wiring
   there : (i : ℕ) → i < length p.diagram.tasks → i < length w.tasks

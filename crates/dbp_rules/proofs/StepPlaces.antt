@@ -1,6 +1,6 @@
 -- The place of a task whose step is allowed.
 use Rattle.std.proofs.Common.{◌≡◌, ℕ, Option, None, sym, ◌∙◌, ap}
-use Rattle.dbp_rules.specs.Places.{task, wired}
+use Rattle.dbp_rules.specs.Places.{task, wired_task}
 use Rattle.dbp_rules.specs.Rules as rule
 use Rattle.dbp_rules.specs.Shapes.{place_number}
 use Rattle.dbp_rules.specs.declared.parts.Place.{Place}
@@ -15,7 +15,7 @@ use Rattle.dbp_rules.proofs.Allowed.{at_next, next_none, or_else_none, place_of}
 module _ (w : Wiring) (s : State) (i : ℕ) where
   -- a task whose next step is of this kind is at the place of the kind
   pub at_kind : (kind operand : ℕ) → rule.steps_next w s i kind operand ≡ None → (task s i).part.place ≡ place_of kind (place_number (task s i).part.place)
-  at_kind kind operand next = at_next broken.TaskPlace (wired w i) (task s i).part.place kind operand next
+  at_kind kind operand next = at_next broken.TaskPlace (wired_task w i) (task s i).part.place kind operand next
 
   pub at_step : (kind operand : ℕ) (rest : Option Illegal) → rule.or_else (rule.steps_next w s i kind operand) rest ≡ None → (task s i).part.place ≡ place_of kind (place_number (task s i).part.place)
   at_step kind operand rest free = at_kind kind operand (or_else_none _ _ free).0
@@ -42,8 +42,8 @@ module _ (w : Wiring) (s : State) (i : ℕ) where
   at_put port free =
       let first : (task s i).part.place ≡ place.Put (place_number (task s i).part.place) = at_step 10 port _ free in
       let next : rule.steps_next w s i 10 port ≡ None = (or_else_none (rule.steps_next w s i 10 port) _ free).0 in
-      let number : (rule.place_kind (wired w i) (task s i).part.place).1 ≡ port = (next_none broken.TaskPlace (rule.place_kind (wired w i) (task s i).part.place) 10 port next).1 in
-      first ∙ ap (λ (n : ℕ). place.Put n) (sym (ap (λ (q : Place). (rule.place_kind (wired w i) q).1) first) ∙ number)
+      let number : (rule.place_kind (wired_task w i) (task s i).part.place).1 ≡ port = (next_none broken.TaskPlace (rule.place_kind (wired_task w i) (task s i).part.place) 10 port next).1 in
+      first ∙ ap (λ (n : ℕ). place.Put n) (sym (ap (λ (q : Place). (rule.place_kind (wired_task w i) q).1) first) ∙ number)
 
   pub at_done : rule.refusal w s (Done i) ≡ None → (task s i).part.place ≡ place.Done
   at_done free = at_step 11 0 _ free

@@ -3,11 +3,11 @@ use Rattle.std.proofs.Common.{◌≡◌, ℕ, ℤ, pos, ◌+◌, ◌<◌, ◌≤
 use Rattle.std.proofs.lemmas.Option.{same_Some}
 use Rattle.dbp_plan.specs.declared.limits.TheConstants.{MAX_OCCURRENCES}
 use Rattle.dbp_plan.specs.declared.plan.Plan.{Plan}
-use Rattle.dbp_plan.specs.Lookups.{declared}
+use Rattle.dbp_plan.specs.Lookups.{declared_task}
 use Rattle.dbp_slots.specs.TableWords.{IsSlot, IsWord, TableWord, aim, claim, ended, gate, stamp, word}
 use Rattle.dbp_rules.specs.LoadedWords.{sizes_of_wiring, stored_number}
 use Rattle.dbp_rules.specs.Moves as move
-use Rattle.dbp_rules.specs.Places.{link, no_order, no_slot, no_task, order, slot_at, task, task_entry, wired}
+use Rattle.dbp_rules.specs.Places.{link, no_order, no_slot, no_task, order, slot_at, task, task_entry, wired_task}
 use Rattle.dbp_rules.specs.Rules as rule
 use Rattle.dbp_rules.specs.Shapes.{IsShape, OrderFits, PlaceIn, TaskShape}
 use Rattle.dbp_rules.specs.SharedWords.{order_value, signed_value, stored_by, value_in}
@@ -47,22 +47,22 @@ module _ (p : Plan) (w : Wiring) (s : State) (shape : IsShape p w s) where
 
   -- ---- the slot that a task fills
 
-  shut_fits : (i : ℕ) → i < length w.tasks → rule.refusal w s (Shut i) ≡ None → move.own_slot (task s i).part < (wired w i).slots
+  shut_fits : (i : ℕ) → i < length w.tasks → rule.refusal w s (Shut i) ≡ None → move.own_slot (task s i).part < (wired_task w i).slots
   shut_fits i below free = own_fits p w s shape i place.Shut below (at_shut w s i free) refl
 
-  put_fits : (i port : ℕ) → i < length w.tasks → rule.refusal w s (Put i port) ≡ None → move.own_slot (task s i).part < (wired w i).slots
+  put_fits : (i port : ℕ) → i < length w.tasks → rule.refusal w s (Put i port) ≡ None → move.own_slot (task s i).part < (wired_task w i).slots
   put_fits i port below free = own_fits p w s shape i (place.Put port) below (at_put w s i port free) refl
 
-  done_fits : (i : ℕ) → i < length w.tasks → rule.refusal w s (Done i) ≡ None → move.own_slot (task s i).part < (wired w i).slots
+  done_fits : (i : ℕ) → i < length w.tasks → rule.refusal w s (Done i) ≡ None → move.own_slot (task s i).part < (wired_task w i).slots
   done_fits i below free = own_fits p w s shape i place.Done below (at_done w s i free) refl
 
   -- the port of a put is one of the task's
-  put_port : (i port : ℕ) → i < length w.tasks → rule.refusal w s (Put i port) ≡ None → port < (wired w i).ports
-  put_port i port below free = subst (λ (q : Place). PlaceIn (wired w i) q) (at_put w s i port free) (shape.each_task i below).place
+  put_port : (i port : ℕ) → i < length w.tasks → rule.refusal w s (Put i port) ≡ None → port < (wired_task w i).ports
+  put_port i port below free = subst (λ (q : Place). PlaceIn (wired_task w i) q) (at_put w s i port free) (shape.each_task i below).place
 
   -- ---- the word is one of the table's
 
-  own_word : (i : ℕ) → i < length w.tasks → move.own_slot (task s i).part < (wired w i).slots → IsSlot (sizes_of_wiring w) i (move.own_slot (task s i).part)
+  own_word : (i : ℕ) → i < length w.tasks → move.own_slot (task s i).part < (wired_task w i).slots → IsSlot (sizes_of_wiring w) i (move.own_slot (task s i).part)
   own_word i below fits = is_slot w i (move.own_slot (task s i).part) below fits
 
   pub stored_inside : (e : Step) (q : TableWord) → rule.IsNamed p.diagram e → rule.refusal w s e ≡ None → stored_by s e ≡ Some q → IsWord (sizes_of_wiring w) q
@@ -85,7 +85,7 @@ module _ (p : Plan) (w : Wiring) (s : State) (shape : IsShape p w s) where
   inside : (i : ℕ) → i < length p.diagram.tasks → i < length s.tasks
   inside i named = omega (arith, named, shape.wiring.tasks, shape.tasks)
 
-  slot_inside : (i : ℕ) → i < length p.diagram.tasks → move.own_slot (task s i).part < (wired w i).slots → move.own_slot (task s i).part < length (task s i).words.slots
+  slot_inside : (i : ℕ) → i < length p.diagram.tasks → move.own_slot (task s i).part < (wired_task w i).slots → move.own_slot (task s i).part < length (task s i).words.slots
   slot_inside i named fits = omega (arith, fits, (shape.each_task i (there i named)).slots.0)
 
   number_in : (new : State) (v q : TableWord) (x : ℕ) → Some v ≡ Some q → value_in new v ≡ x → value_in new q ≡ x
@@ -107,17 +107,17 @@ module _ (p : Plan) (w : Wiring) (s : State) (shape : IsShape p w s) where
   shut_number i named free =
       let n : ℕ = move.own_slot (task s i).part in
       ap (λ (t : TaskState). (slot_at t.words.slots n).stamp)
-      (task_there s i (record { words = move.with_stamp (task s i).words (move.own_slot (task s i).part) 0; part = move.at_place (task s i).part (place.Put 0); work = move.after_compute (declared p i) (rule.sense_values p w s i) (task s i).work }) (inside i named))
+      (task_there s i (record { words = move.with_stamp (task s i).words (move.own_slot (task s i).part) 0; part = move.at_place (task s i).part (place.Put 0); work = move.after_compute (declared_task p i) (rule.sense_values p w s i) (task s i).work }) (inside i named))
       ∙ stamp_there (task s i).words n 0 (slot_inside i named (shut_fits i (there i named) free))
 
   put_number : (i port : ℕ) → i < length p.diagram.tasks → rule.refusal w s (Put i port) ≡ None → value_in (rule.next p w s (Put i port)) (word i (move.own_slot (task s i).part) port) ≡ stored_number w s (Put i port)
   put_number i port named free =
       let n : ℕ = move.own_slot (task s i).part in
-      let fits : move.own_slot (task s i).part < (wired w i).slots = put_fits i port (there i named) free in
+      let fits : move.own_slot (task s i).part < (wired_task w i).slots = put_fits i port (there i named) free in
       let x : ℤ = get_or (task s i).work.row port (pos 0) in
       let few : port < length (slot_at (task s i).words.slots n).words = omega (arith, (shape.each_task i (there i named)).slots.1 n fits, put_port i port (there i named) free) in
       ap (λ (t : TaskState). signed_value (get_or (slot_at t.words.slots n).words port (pos 0)))
-      (task_there s i (record { words = move.with_word (task s i).words (move.own_slot (task s i).part) port (get_or (task s i).work.row port (pos 0)); part = move.at_place (task s i).part (move.put_place (wired w i).ports (port + 1)); work = (task s i).work }) (inside i named))
+      (task_there s i (record { words = move.with_word (task s i).words (move.own_slot (task s i).part) port (get_or (task s i).work.row port (pos 0)); part = move.at_place (task s i).part (move.put_place (wired_task w i).ports (port + 1)); work = (task s i).work }) (inside i named))
       ∙ ap signed_value (word_there (task s i).words n port x (slot_inside i named fits) few)
 
   done_number : (i : ℕ) → i < length p.diagram.tasks → rule.refusal w s (Done i) ≡ None → value_in (rule.next p w s (Done i)) (stamp i (move.own_slot (task s i).part)) ≡ stored_number w s (Done i)
@@ -149,23 +149,23 @@ module _ (p : Plan) (w : Wiring) (s : State) (shape : IsShape p w s) where
 
   ended_few : (i : ℕ) → i < length w.tasks → (task s i).part.ended ≤ MAX_OCCURRENCES
   ended_few i below =
-      let ok : TaskShape w (declared p i) i (task_entry s i).aimed (task s i) = shape.each_task i below in
+      let ok : TaskShape w (declared_task p i) i (task_entry s i).aimed (task s i) = shape.each_task i below in
       omega (arith, ok.gate, ok.aimed, aimed_few p w s shape i below)
 
-  module _ (few : (i : ℕ) → i < length w.tasks → (wired w i).slots < 2 ^ 32) where
-    order_few : (i : ℕ) (o : Order) → i < length w.tasks → OrderFits (wired w i) o → order_value o < 2 ^ 64
+  module _ (few : (i : ℕ) → i < length w.tasks → (wired_task w i).slots < 2 ^ 32) where
+    order_few : (i : ℕ) (o : Order) → i < length w.tasks → OrderFits (wired_task w i) o → order_value o < 2 ^ 64
     order_few i o below fits = order_below o (omega (arith, few i below, fits.0)) (omega (arith, fits.1))
 
     aim_few : (i slot : ℕ) → i < length p.diagram.tasks → rule.refusal w s (Aim i slot) ≡ None → stored_number w s (Aim i slot) < 2 ^ 64
     aim_few i slot named free =
         let new : State = rule.next p w s (Aim i slot) in
-        let fits : OrderFits (wired w i) (task (rule.next p w s (Aim i slot)) i).words.aim = ((step_kept p w s shape (Aim i slot) named free).each_task i (there i named)).aim in
+        let fits : OrderFits (wired_task w i) (task (rule.next p w s (Aim i slot)) i).words.aim = ((step_kept p w s shape (Aim i slot) named free).each_task i (there i named)).aim in
         subst (λ (x : ℕ). x < 2 ^ 64) (aim_number i slot named) (order_few i (task (rule.next p w s (Aim i slot)) i).words.aim (there i named) fits)
 
     claim_few : (k : ℕ) → k < length p.diagram.links → rule.refusal w s (Claim k) ≡ None → stored_number w s (Claim k) < 2 ^ 64
     claim_few k named free =
         let below : k < length w.links = rw shape.wiring.links named in
-        let fits : OrderFits (wired w (link w k).writer) (order (rule.next p w s (Claim k)) k) = ((step_kept p w s shape (Claim k) named free).each_link k below).order in
+        let fits : OrderFits (wired_task w (link w k).writer) (order (rule.next p w s (Claim k)) k) = ((step_kept p w s shape (Claim k) named free).each_link k below).order in
         subst (λ (x : ℕ). x < 2 ^ 64) (claim_number k named) (order_few (link w k).writer (order (rule.next p w s (Claim k)) k) (shape.wiring.writer k below) fits)
 
     pub number_below : (e : Step) → PutWordFits s e → rule.IsNamed p.diagram e → rule.refusal w s e ≡ None → stored_number w s e < 2 ^ 64

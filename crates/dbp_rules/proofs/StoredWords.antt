@@ -3,9 +3,9 @@ use Rattle.std.proofs.Common.{◌≡◌, ◌≢◌, ℕ, ℤ, pos, ◌+◌, ◌<
 use Rattle.std.proofs.lemmas.Bool.{cases_eq}
 use Rattle.dbp_slots.specs.TableWords.{TableWord, gate, ended, aim, claim, stamp, word}
 use Rattle.dbp_plan.specs.declared.plan.Plan.{Plan}
-use Rattle.dbp_plan.specs.Lookups.{declared}
+use Rattle.dbp_plan.specs.Lookups.{declared_task}
 use Rattle.dbp_rules.specs.Moves as move
-use Rattle.dbp_rules.specs.Places.{link, no_order, no_slot, no_task, slot_at, task, task_entry, wired}
+use Rattle.dbp_rules.specs.Places.{link, no_order, no_slot, no_task, slot_at, task, task_entry, wired_task}
 use Rattle.dbp_rules.specs.Rules as rule
 use Rattle.dbp_rules.specs.Shapes.{IsShape, TaskShape, heard_by, place_number}
 use Rattle.dbp_rules.specs.SharedWords.{KeepsOtherParts, KeepsOtherWords, made_by, order_value, signed_value, stored_by, value_in}
@@ -159,11 +159,11 @@ module _ (p : Plan) (w : Wiring) (s : State) (shape : IsShape p w s) where
 
   -- the slot that a task has heard of is one of its own
   own_inside : (i kind operand : ℕ) (rest : Option Illegal) → i < length p.diagram.tasks → rule.or_else (rule.steps_next w s i kind operand) rest ≡ None
-      → ((n : ℕ) → heard_by (1 + length (wired w i).links) (place_of kind n) ≡ 1 + length (wired w i).links) → move.own_slot (task s i).part < length (task s i).words.slots
+      → ((n : ℕ) → heard_by (1 + length (wired_task w i).links) (place_of kind n) ≡ 1 + length (wired_task w i).links) → move.own_slot (task s i).part < length (task s i).words.slots
   own_inside i kind operand rest named free all =
-      let fits : TaskShape w (declared p i) i (task_entry s i).aimed (task s i) = shape.each_task i (omega (arith, named, shape.wiring.tasks)) in
-      let at : (task s i).part.place ≡ place_of kind (place_number (task s i).part.place) = at_next broken.TaskPlace (wired w i) (task s i).part.place kind operand (or_else_none _ _ free).0 in
-      let heard : length (task s i).part.heard.items ≡ 1 + length (wired w i).links = fits.heard ∙ ap (heard_by (1 + length (wired w i).links)) at ∙ all (place_number (task s i).part.place) in
+      let fits : TaskShape w (declared_task p i) i (task_entry s i).aimed (task s i) = shape.each_task i (omega (arith, named, shape.wiring.tasks)) in
+      let at : (task s i).part.place ≡ place_of kind (place_number (task s i).part.place) = at_next broken.TaskPlace (wired_task w i) (task s i).part.place kind operand (or_else_none _ _ free).0 in
+      let heard : length (task s i).part.heard.items ≡ 1 + length (wired_task w i).links = fits.heard ∙ ap (heard_by (1 + length (wired_task w i).links)) at ∙ all (place_number (task s i).part.place) in
       omega (arith, (fits.each_heard 0 (omega (arith, heard))).0, fits.slots.0)
 
   pub words_kept : (e : Step) → rule.IsNamed p.diagram e → rule.refusal w s e ≡ None → KeepsOtherWords (stored_by s e) s (rule.next p w s e)
@@ -183,17 +183,17 @@ module _ (p : Plan) (w : Wiring) (s : State) (shape : IsShape p w s) where
       value_same (rule.next p w s (OpenGate i)) (rule.with_task s i (record (task s i) { words = move.words_after_open (task s i).words (task_entry s i).aimed })) q refl refl
       ∙ value_task s i (record (task s i) { words = move.words_after_open (task s i).words (task_entry s i).aimed }) q (there i named) (but_gate (task s i).words (task_entry s i).aimed i q other)
   words_kept (Start i) named free q other = words_stay s i (move.after_start (task s i).part (rule.is_open s i)) (task s i).work q (there i named)
-  words_kept (Hear i) named free q other = words_stay s i (move.after_hear (wired w i) (task s i).part (rule.hears_at (task s i).part.place) (rule.order_word w s i (rule.hears_at (task s i).part.place))) (task s i).work q (there i named)
+  words_kept (Hear i) named free q other = words_stay s i (move.after_hear (wired_task w i) (task s i).part (rule.hears_at (task s i).part.place) (rule.order_word w s i (rule.hears_at (task s i).part.place))) (task s i).work q (there i named)
   words_kept (Look i r) named free q other = words_stay s i (move.after_look (task s i).part (rule.turn_at (task s i).part.place) (rule.is_ready w s i (rule.turn_at (task s i).part.place))) (task s i).work q (there i named)
   words_kept (Take i r) named free q other =
-      words_stay s i (move.after_take (wired w i) (task s i).part (rule.turn_at (task s i).part.place)) (move.with_read (declared p i) (task s i).work r (rule.read_word w s i (rule.turn_at (task s i).part.place))) q (there i named)
+      words_stay s i (move.after_take (wired_task w i) (task s i).part (rule.turn_at (task s i).part.place)) (move.with_read (declared_task p i) (task s i).work r (rule.read_word w s i (rule.turn_at (task s i).part.place))) q (there i named)
   words_kept (Shut i) named free q other =
       let inside : move.own_slot (task s i).part < length (task s i).words.slots = own_inside i 9 0 (rule.blocker_refusal w.count w s i) named free (λ n. refl) in
-      value_task s i (record { words = move.with_stamp (task s i).words (move.own_slot (task s i).part) 0; part = move.at_place (task s i).part (place.Put 0); work = move.after_compute (declared p i) (rule.sense_values p w s i) (task s i).work }) q (there i named)
+      value_task s i (record { words = move.with_stamp (task s i).words (move.own_slot (task s i).part) 0; part = move.at_place (task s i).part (place.Put 0); work = move.after_compute (declared_task p i) (rule.sense_values p w s i) (task s i).work }) q (there i named)
       (but_stamp (task s i).words (move.own_slot (task s i).part) 0 i q inside other)
   words_kept (Put i port) named free q other =
       let inside : move.own_slot (task s i).part < length (task s i).words.slots = own_inside i 10 port (rule.blocker_refusal w.count w s i) named free (λ n. refl) in
-      value_task s i (record { words = move.with_word (task s i).words (move.own_slot (task s i).part) port (get_or (task s i).work.row port (pos 0)); part = move.at_place (task s i).part (move.put_place (wired w i).ports (port + 1)); work = (task s i).work }) q (there i named)
+      value_task s i (record { words = move.with_word (task s i).words (move.own_slot (task s i).part) port (get_or (task s i).work.row port (pos 0)); part = move.at_place (task s i).part (move.put_place (wired_task w i).ports (port + 1)); work = (task s i).work }) q (there i named)
       (but_word (task s i).words (move.own_slot (task s i).part) port i (get_or (task s i).work.row port (pos 0)) q inside other)
   words_kept (Done i) named free q other =
       let inside : move.own_slot (task s i).part < length (task s i).words.slots = own_inside i 11 0 (rule.blocker_refusal w.count w s i) named free (λ n. refl) in

@@ -11,7 +11,7 @@ use Rattle.dbp_slots.specs.Slots.{is_to_higher, is_to_lower}
 use Rattle.dbp_slots.specs.TableWords.{IsSlot, IsWord, SlotSizes, TableWord, sizes_of, task_sizes}
 use Rattle.dbp_slots.proofs.Links.{delay_short, links_few}
 use Rattle.dbp_rules.specs.LoadedWords.{sizes_of_wiring}
-use Rattle.dbp_rules.specs.Places.{no_task_wiring, wired}
+use Rattle.dbp_rules.specs.Places.{no_task_wiring, wired_task}
 use Rattle.dbp_rules.specs.Shapes.{OrderFits}
 use Rattle.dbp_rules.specs.Wired.{slot_count, task_wiring, wiring_of}
 use Rattle.dbp_rules.specs.declared.parts.Order.{Order}
@@ -27,10 +27,10 @@ slot_sizes t = record { slots = t.slots; ports = t.ports }
 pub task_count : (w : Wiring) → length (sizes_of_wiring w).tasks ≡ length w.tasks
 task_count w = length-map w.tasks slot_sizes
 
-pub sizes_of_task : (w : Wiring) (i : ℕ) → task_sizes (sizes_of_wiring w) i ≡ record { slots = (wired w i).slots; ports = (wired w i).ports }
+pub sizes_of_task : (w : Wiring) (i : ℕ) → task_sizes (sizes_of_wiring w) i ≡ record { slots = (wired_task w i).slots; ports = (wired_task w i).ports }
 sizes_of_task w i = get_or-map slot_sizes w.tasks i no_task_wiring
 
-pub is_slot : (w : Wiring) (i n : ℕ) → i < length w.tasks → n < (wired w i).slots → IsSlot (sizes_of_wiring w) i n
+pub is_slot : (w : Wiring) (i n : ℕ) → i < length w.tasks → n < (wired_task w i).slots → IsSlot (sizes_of_wiring w) i n
 is_slot w i n below fits = (omega (arith, task_count w), rw (sizes_of_task w i) fits)
 
 -- a word that is there is one of the table's
@@ -52,10 +52,10 @@ slot_count_few p All i =
     let closed : IsClosed p.diagram = p.rules.ranked.closed in
     omega (arith, links_few p.diagram (is_to_lower p.diagram.ranks i) closed, links_few p.diagram (is_to_higher p.diagram.ranks i) closed, delay_short p.diagram i closed)
 
-pub slots_few : (p : Plan) (count : Count) (i : ℕ) → i < length p.diagram.tasks → (wired (wiring_of p count) i).slots < 2 ^ 32
+pub slots_few : (p : Plan) (count : Count) (i : ℕ) → i < length p.diagram.tasks → (wired_task (wiring_of p count) i).slots < 2 ^ 32
 slots_few p count i below =
-    let same : (wired (wiring_of p count) i).slots ≡ slot_count count p i = ap (λ (t : TaskWiring). t.slots) (wired_is p count i below) in
+    let same : (wired_task (wiring_of p count) i).slots ≡ slot_count count p i = ap (λ (t : TaskWiring). t.slots) (wired_is p count i below) in
     omega (arith, same, slot_count_few p count i)
 
-pub order_small : (p : Plan) (count : Count) (i : ℕ) (o : Order) → i < length p.diagram.tasks → OrderFits (wired (wiring_of p count) i) o → (o.slot < 2 ^ 32) × (o.number < 2 ^ 32)
+pub order_small : (p : Plan) (count : Count) (i : ℕ) (o : Order) → i < length p.diagram.tasks → OrderFits (wired_task (wiring_of p count) i) o → (o.slot < 2 ^ 32) × (o.number < 2 ^ 32)
 order_small p count i o below fits = (omega (arith, slots_few p count i below, fits.0), omega (arith, fits.1))

@@ -7,7 +7,7 @@ use Rattle.dbp_plan.specs.declared.diagram.Task.{Task}
 use Rattle.dbp_plan.specs.Closed.{IsClosedTask, let_base, place_count}
 use Rattle.sync_meaning.specs.SomeMeaningEnvs.{env_from, env_from-is, states_after-are}
 use Rattle.dbp_rules.specs.Moves as move
-use Rattle.dbp_rules.specs.Places.{no_order, no_slot, slot_at, wired}
+use Rattle.dbp_rules.specs.Places.{no_order, no_slot, slot_at, wired_task}
 use Rattle.dbp_rules.specs.Shapes.{OrderFits, PlaceIn, SlotsFit, TaskShape, heard_by, running_count, slot_owner}
 use Rattle.dbp_rules.specs.Work.{WorkWords}
 use Rattle.dbp_rules.specs.declared.parts.Order.{Order}
@@ -68,19 +68,19 @@ word_fits t w n port word fit below =
     )
 
 -- the heard orders are in range with one more
-pub orders_more : (w : Wiring) (i n : ℕ) (items : List Order) (o : Order) → length items ≡ n → ((m : ℕ) → m < length items → OrderFits (wired w (slot_owner w i m)) (get_or items m no_order)) → OrderFits (wired w (slot_owner w i n)) o
-    → (m : ℕ) → m < length (items ++ o ∷ []) → OrderFits (wired w (slot_owner w i m)) (get_or (items ++ o ∷ []) m no_order)
+pub orders_more : (w : Wiring) (i n : ℕ) (items : List Order) (o : Order) → length items ≡ n → ((m : ℕ) → m < length items → OrderFits (wired_task w (slot_owner w i m)) (get_or items m no_order)) → OrderFits (wired_task w (slot_owner w i n)) o
+    → (m : ℕ) → m < length (items ++ o ∷ []) → OrderFits (wired_task w (slot_owner w i m)) (get_or (items ++ o ∷ []) m no_order)
 orders_more w i n items o size each fits m below = elim (cases_lt m n) [
   | inl before ↦ rw (get_or_append_left items (o ∷ []) no_order m (omega (arith, size))) (each m (omega (arith, size)))
   | inr last_ ↦
       let same : m ≡ n = omega (arith, size, length-append items (o ∷ [])) in
-      rw same (subst (λ (k : ℕ). OrderFits (wired w (slot_owner w i n)) (get_or (items ++ o ∷ []) k no_order)) size (rw (get_or-append_seam items o [] no_order) fits))
+      rw same (subst (λ (k : ℕ). OrderFits (wired_task w (slot_owner w i n)) (get_or (items ++ o ∷ []) k no_order)) size (rw (get_or-append_seam items o [] no_order) fits))
 ]
 
 module _ (w : Wiring) (d : Task) (i last : ℕ) (s : TaskState) (ok : TaskShape w d i last s) where
   -- the task goes on within its instance, with the same orders, words that fit and work that fits
-  pub goes_on : (q : Place) (words : TaskWords) (work : WorkWords) → running_count s.part.place ≡ 1 → heard_by (1 + length (wired w i).links) s.part.place ≡ 1 + length (wired w i).links → GoesOn (wired w i) (1 + length (wired w i).links) q
-      → words.gate ≡ s.words.gate → words.aim ≡ s.words.aim → SlotsFit (wired w i) words.slots → length work.now ≡ place_count d → length work.later ≡ length d.states → length work.row ≡ length d.outs
+  pub goes_on : (q : Place) (words : TaskWords) (work : WorkWords) → running_count s.part.place ≡ 1 → heard_by (1 + length (wired_task w i).links) s.part.place ≡ 1 + length (wired_task w i).links → GoesOn (wired_task w i) (1 + length (wired_task w i).links) q
+      → words.gate ≡ s.words.gate → words.aim ≡ s.words.aim → SlotsFit (wired_task w i) words.slots → length work.now ≡ place_count d → length work.later ≡ length d.states → length work.row ≡ length d.outs
       → TaskShape w d i last (record { words = words; part = move.at_place s.part q; work = work })
   goes_on q words work busy all goes gate aim fit now later row = record {
     gate = rw (gate, goes.busy) (omega (arith, ok.gate, busy));
@@ -102,20 +102,20 @@ module _ (w : Wiring) (d : Task) (i last : ℕ) (s : TaskState) (ok : TaskShape 
     aim = ok.aim;
     slots = ok.slots;
     place = omega arith;
-    heard = ok.heard ∙ ap (heard_by (1 + length (wired w i).links)) at;
+    heard = ok.heard ∙ ap (heard_by (1 + length (wired_task w i).links)) at;
     each_heard = ok.each_heard;
     now = ok.now;
     later = ok.later;
     row = ok.row;
   }
 
-  pub hear_kept : (n : ℕ) (o : Order) → s.part.place ≡ place.Hear n → OrderFits (wired w (slot_owner w i n)) o → TaskShape w d i last (record s { part = move.after_hear (wired w i) s.part n o })
+  pub hear_kept : (n : ℕ) (o : Order) → s.part.place ≡ place.Hear n → OrderFits (wired_task w (slot_owner w i n)) o → TaskShape w d i last (record s { part = move.after_hear (wired_task w i) s.part n o })
   hear_kept n o at fits =
-      let inside : PlaceIn (wired w i) (place.Hear n) = subst (λ (q : Place). PlaceIn (wired w i) q) at ok.place in
-      let few : n ≤ length (wired w i).links = omega (arith, inside) in
-      let size : length s.part.heard.items ≡ n = ok.heard ∙ ap (heard_by (1 + length (wired w i).links)) at in
+      let inside : PlaceIn (wired_task w i) (place.Hear n) = subst (λ (q : Place). PlaceIn (wired_task w i) q) at ok.place in
+      let few : n ≤ length (wired_task w i).links = omega (arith, inside) in
+      let size : length s.part.heard.items ≡ n = ok.heard ∙ ap (heard_by (1 + length (wired_task w i).links)) at in
       let busy : running_count s.part.place ≡ 1 = ap running_count at in
-      let goes : GoesOn (wired w i) (n + 1) (move.hear_place (wired w i) (n + 1)) = goes_to_hear (wired w i) n few in
+      let goes : GoesOn (wired_task w i) (n + 1) (move.hear_place (wired_task w i) (n + 1)) = goes_to_hear (wired_task w i) n few in
       record {
         gate = omega (arith, ok.gate, busy, goes.busy);
         aimed = ok.aimed;

@@ -9,7 +9,7 @@ use Rattle.dbp_plan.specs.declared.diagram.Read.{Read}
 use Rattle.dbp_plan.specs.declared.diagram.Task.{Task}
 use Rattle.dbp_plan.specs.declared.plan.Plan.{Plan}
 use Rattle.dbp_plan.specs.Closed.{IsClosed}
-use Rattle.dbp_plan.specs.Lookups.{link_at, no_link, declared, no_declared, no_read}
+use Rattle.dbp_plan.specs.Lookups.{link_at, no_link, declared_task, no_declared, no_read}
 use Rattle.release_list.specs.Releases.{links_into}
 use Rattle.release_list.proofs.Schedules.{scheduled}
 use Rattle.dbp_plan.proofs.TaskTimes.{times_few}
@@ -17,7 +17,7 @@ use Rattle.dbp_rules.specs.declared.step.Count.{Count}
 use Rattle.dbp_rules.specs.declared.step.Count.TheVariants.{Ranked, All}
 use Rattle.dbp_rules.specs.declared.wiring.TaskWiring.{TaskWiring}
 use Rattle.dbp_rules.specs.declared.wiring.Wiring.{Wiring}
-use Rattle.dbp_rules.specs.Places.{link, no_read_wiring, read_at, wired}
+use Rattle.dbp_rules.specs.Places.{link, no_read_wiring, read_at, wired_task}
 use Rattle.dbp_rules.specs.Shapes.{IsReadWired, IsTaskWired, IsWired, link_in, slot_owner}
 use Rattle.dbp_rules.specs.Wired.{in_turn, read_wiring, slot_count, task_wiring, wiring_of}
 use Rattle.dbp_rules.proofs.IntoTask.{into_below, into_no_more, link_below, link_place, link_there}
@@ -46,7 +46,7 @@ module _ (p : Plan) (count : Count) where
 
   module _ (i : ℕ) (below : i < length d.tasks) where
     abbrev t : Task
-    t = declared p i
+    t = declared_task p i
 
     abbrev into : List ℕ
     into = links_into d.links i
@@ -54,7 +54,7 @@ module _ (p : Plan) (count : Count) where
     here : slice_get d.tasks i ≡ Some t
     here = slice_get-get_or d.tasks i no_declared below
 
-    is : wired w i ≡ task_wiring p count (i, t)
+    is : wired_task w i ≡ task_wiring p count (i, t)
     is = wired_is p count i below
 
     -- a read, seen by its number
@@ -77,11 +77,11 @@ module _ (p : Plan) (count : Count) where
       next : suc place ≡ 1 + place
       next = omega arith
 
-      port : r.port < (wired w (link_at d.links r.link).writer).ports
+      port : r.port < (wired_task w (link_at d.links r.link).writer).ports
       port =
           let v : ℕ = (link_at d.links r.link).writer in
           let there : v < length d.tasks = writer_below r.link linked in
-          rw (wired_is p count v there) (closed.ports t (declared p v) r (link_at d.links r.link) i m here at (slice_get-get_or d.links r.link no_link linked) (slice_get-get_or d.tasks v no_declared there))
+          rw (wired_is p count v there) (closed.ports t (declared_task p v) r (link_at d.links r.link) i m here at (slice_get-get_or d.links r.link no_link linked) (slice_get-get_or d.tasks v no_declared there))
 
       read_wired : IsReadWired w (length t.reads) i (read_wiring d.links into t.reads m)
       read_wired = record {
@@ -120,10 +120,10 @@ module _ (p : Plan) (count : Count) where
       each_read = λ n inside. reads_wired n (omega (arith, reads_size));
     }
 
-    task_wired : IsTaskWired p w i (wired w i)
+    task_wired : IsTaskWired p w i (wired_task w i)
     task_wired = rw is made_wired
 
-  delay : (k : ℕ) → k < length d.links → (link w k).delay ≤ (wired w (link w k).writer).kept
+  delay : (k : ℕ) → k < length d.links → (link w k).delay ≤ (wired_task w (link w k).writer).kept
   delay k below = rw (wired_is p count (link_at d.links k).writer (writer_below k below)) (delay_kept d.links k below)
 
 pub wiring-whole : (p : Plan) (count : Count) → IsWired p (wiring_of p count)

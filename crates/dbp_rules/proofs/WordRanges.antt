@@ -6,9 +6,9 @@ use Rattle.dbp_plan.specs.declared.diagram.Diagram.{Diagram}
 use Rattle.dbp_plan.specs.declared.diagram.Out.{Out}
 use Rattle.dbp_plan.specs.declared.diagram.Task.{Task}
 use Rattle.dbp_plan.specs.declared.plan.Plan.{Plan}
-use Rattle.dbp_plan.specs.Lookups.{declared, no_declared}
+use Rattle.dbp_plan.specs.Lookups.{declared_task, no_declared}
 use Rattle.dbp_rules.specs.Moves as move
-use Rattle.dbp_rules.specs.Places.{no_slot, no_task, slot_at, task, wired}
+use Rattle.dbp_rules.specs.Places.{no_slot, no_task, slot_at, task, wired_task}
 use Rattle.dbp_rules.specs.Rules as rule
 use Rattle.dbp_rules.specs.Start.{first_row, start_of, start_slots, start_task}
 use Rattle.dbp_rules.specs.WordRanges.{FirstValuesFit, PutWordFits, SlotWordsFit}
@@ -80,8 +80,8 @@ start_slots_fit t row fit (suc n) =
 
 pub start_fits : (p : Plan) (w : Wiring) → FirstValuesFit p.diagram → SlotWordsFit (start_of p w)
 start_fits p w fit =
-    map_each (λ (t : TaskState). AllFit t.words.slots) (λ i. start_task (wired w i) (declared p i)) (range_with_len 0 (length w.tasks)) no_task (λ n port. nothing_fits)
-    (λ i. start_slots_fit (wired w i) (first_row (declared p i)) (all_each Fits (λ (o : Out). o.first) (declared p i).outs (pos 0) nothing_fits (first_fits p.diagram fit i)))
+    map_each (λ (t : TaskState). AllFit t.words.slots) (λ i. start_task (wired_task w i) (declared_task p i)) (range_with_len 0 (length w.tasks)) no_task (λ n port. nothing_fits)
+    (λ i. start_slots_fit (wired_task w i) (first_row (declared_task p i)) (all_each Fits (λ (o : Out). o.first) (declared_task p i).outs (pos 0) nothing_fits (first_fits p.diagram fit i)))
 
 -- ---- the steps
 

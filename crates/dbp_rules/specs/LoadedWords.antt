@@ -3,11 +3,11 @@
 use Rattle.std.specs.Prelude.{ℕ, zero, suc, ℤ, pos, negsuc, ◌+◌, ◌-◌, ◌/◌, ◌%◌, ◌^◌, nat_lt, if◌then◌else◌, List, length, map, slice_index_or, Option, Some, None}
 use Rattle.std.specs.Option.{option_map_or}
 use Rattle.dbp_plan.specs.declared.plan.Plan.{Plan}
-use Rattle.dbp_plan.specs.Lookups.{declared}
+use Rattle.dbp_plan.specs.Lookups.{declared_task}
 use Rattle.dbp_slots.specs.TableWords.{Sizes, TableWord, gate, ended, aim, claim, stamp, word}
 use Rattle.dbp_rules.specs.Moves.{claim_order}
 use Rattle.dbp_rules.specs.PartyRules.{Loaded, a_number, a_value, an_order, hears_at, is_stamp_of, loaded_number, loaded_order, next_claim, no_word, is_opened_by, read_order_in, turn_at}
-use Rattle.dbp_rules.specs.Places.{entry_in, read_at, task, wired}
+use Rattle.dbp_rules.specs.Places.{entry_in, read_at, task, wired_task}
 use Rattle.dbp_rules.specs.Shapes.{link_in}
 use Rattle.dbp_rules.specs.SharedWords.{made_by, maker_part, order_value, signed_value, value_in}
 use Rattle.dbp_rules.specs.Start.{first_row}
@@ -49,14 +49,14 @@ loaded_of _ x = no_word
 -- the word of the order at this place: the task's aim, then the claim of each link into it
 abbrev pub word_of_order : Wiring → ℕ → ℕ → TableWord
 word_of_order w i zero = aim i
-word_of_order w i (suc n) = claim (link_in (wired w i) n)
+word_of_order w i (suc n) = claim (link_in (wired_task w i) n)
 
 -- the stamp of the slot that the task heard of for the read of this turn, and the word of the read's port there
 abbrev pub stamp_of_read : Wiring → TaskPart → ℕ → ℕ → TableWord
-stamp_of_read w t i n = stamp (read_at (wired w i) n).writer (read_order_in (wired w i) t n).slot
+stamp_of_read w t i n = stamp (read_at (wired_task w i) n).writer (read_order_in (wired_task w i) t n).slot
 
 abbrev pub word_of_read : Wiring → TaskPart → ℕ → ℕ → TableWord
-word_of_read w t i n = word (read_at (wired w i) n).writer (read_order_in (wired w i) t n).slot (read_at (wired w i) n).port
+word_of_read w t i n = word (read_at (wired_task w i) n).writer (read_order_in (wired_task w i) t n).slot (read_at (wired_task w i) n).port
 
 -- the word that the step loads, if the task that makes it has this part
 abbrev pub loaded_in : Wiring → TaskPart → Step → Option TableWord
@@ -91,7 +91,7 @@ abbrev pub heard_of : Wiring → TaskPart → Step → Loaded → Heard
 heard_of w t (Seen i) l = heard.Ended (loaded_number l)
 heard_of w t (Start i) l = if is_opened_by t (loaded_number l) then heard.Started else heard.Closed
 heard_of w t (Hear i) l = heard.Order (loaded_order l).slot (loaded_order l).number
-heard_of w t (Look i r) l = if is_stamp_of (read_order_in (wired w i) t (turn_at t.place)) (loaded_number l) then heard.Ready else heard.NotYet
+heard_of w t (Look i r) l = if is_stamp_of (read_order_in (wired_task w i) t (turn_at t.place)) (loaded_number l) then heard.Ready else heard.NotYet
 heard_of w t (Take i r) l = heard.Word (loaded_word l)
 heard_of w t _ l = heard.Stored
 
@@ -121,5 +121,5 @@ stored_number w s e = option_map_or (λ i. number_of_task (task s i).part (task 
 -- slot 0 of each task is stamped and holds its first values; all other words are 0
 abbrev pub start_number : Plan → TableWord → ℕ
 start_number p (stamp i zero) = 1
-start_number p (word i zero port) = signed_value (slice_index_or (first_row (declared p i)) port (pos 0))
+start_number p (word i zero port) = signed_value (slice_index_or (first_row (declared_task p i)) port (pos 0))
 start_number p _ = 0

@@ -6,7 +6,7 @@ use Rattle.std.specs.Option.{option_or}
 use Rattle.release_list.specs.declared.release.Release.{Release}
 use Rattle.release_list.specs.declared.release.Release.TheVariants as release
 use Rattle.dbp_rules.specs.Moves as move
-use Rattle.dbp_rules.specs.Places.{claim_in, entry_in, is_counted, link, no_order, read_at, wired}
+use Rattle.dbp_rules.specs.Places.{claim_in, entry_in, is_counted, link, no_order, read_at, wired_task}
 use Rattle.dbp_rules.specs.StepKinds.{kind_number, kind_of, other_subject, subject_of}
 use Rattle.dbp_rules.specs.declared.kind.StepKind.TheVariants as kind
 use Rattle.dbp_rules.specs.declared.parts.LinkEntry.{LinkEntry}
@@ -102,7 +102,7 @@ least f (suc n) = option_or (least f n) (if f n then Some n else None)
 abbrev pub aim_refusal : Wiring → ReleaserPart → ℕ → ℕ → Option Illegal
 aim_refusal w r i slot =
     or_else (unless ((entry_in r i).aimed == (entry_in r i).known) broken.LastNotEnded (entry_in r i).aimed (entry_in r i).known)
-    (or_else (unless (nat_lt slot (wired w i).slots) broken.SlotRange (wired w i).slots slot)
+    (or_else (unless (nat_lt slot (wired_task w i).slots) broken.SlotRange (wired_task w i).slots slot)
     (or_else (unless (not (stays_kept (entry_in r i) slot)) broken.SlotKept slot slot)
     (none_of (least (claims_slot_in w r i slot) (length w.links)) broken.SlotClaimed slot)))
 

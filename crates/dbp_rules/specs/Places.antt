@@ -68,8 +68,8 @@ slot_at slots n = slice_index_or slots n no_slot
 
 -- of a wiring
 
-abbrev pub wired : Wiring → ℕ → TaskWiring
-wired w i = slice_index_or w.tasks i no_task_wiring
+abbrev pub wired_task : Wiring → ℕ → TaskWiring
+wired_task w i = slice_index_or w.tasks i no_task_wiring
 
 abbrev pub link : Wiring → ℕ → Link
 link w k = link_at w.links k
@@ -88,4 +88,4 @@ counts_link All writer reader = true
 counts_link Ranked writer reader = nat_lt writer reader
 
 abbrev pub is_counted : Wiring → ℕ → Bool
-is_counted w k = counts_link w.count (wired w (link w k).writer).rank (wired w (link w k).reader).rank
+is_counted w k = counts_link w.count (wired_task w (link w k).writer).rank (wired_task w (link w k).reader).rank

@@ -4,12 +4,12 @@ use Rattle.dbp_plan.specs.declared.diagram.Read.{Read}
 use Rattle.dbp_plan.specs.declared.plan.Plan.{Plan}
 use Rattle.dbp_plan.specs.declared.table.Table.{Table}
 use Rattle.dbp_plan.specs.Occurrences.{count_until, times_of, time_of}
-use Rattle.dbp_plan.specs.Lookups.{declared}
+use Rattle.dbp_plan.specs.Lookups.{declared_task}
 use Rattle.dbp_slots.specs.FreeSlot.{IsLeastFree}
 use Rattle.sync_meaning.specs.Meaning.{IsRead}
 use Rattle.dbp_rules.specs.Moves.{own_slot}
 use Rattle.dbp_rules.specs.PartyRules.{claimed_in, releaser_refusal, kept_after_aim}
-use Rattle.dbp_rules.specs.Places.{entry_in, link, link_entry, slot_at, task, wired}
+use Rattle.dbp_rules.specs.Places.{entry_in, link, link_entry, slot_at, task, wired_task}
 use Rattle.dbp_rules.specs.Rules.{hears, next}
 use Rattle.dbp_rules.specs.SoundParts.{last_filled}
 use Rattle.dbp_rules.specs.TenParts.{IsStanding, slot_of_claim}
@@ -25,7 +25,7 @@ use Rattle.dbp_rules.specs.declared.wiring.Wiring.{Wiring}
 -- the word is the one that the meaning gives the read of the task's instance
 pub record IsMeant (p : Plan) (table : Table) (i instance r : ℕ) (word : ℤ) : Type 0 where
   pub read : Read
-  pub has_read : slice_get (declared p i).reads r ≡ Some read
+  pub has_read : slice_get (declared_task p i).reads r ≡ Some read
   pub is : IsRead p.diagram.links (λ v. count_until (times_of p.batches v) (time_of p.batches i instance)) table read word
 
 -- the take hears the word of the running instance
@@ -72,14 +72,14 @@ claimed_of w s i = claimed_in w s.releaser i
 
 -- the claimed slots and those that stay kept are fewer than the task's slots
 abbrev pub HasFreeSlotIn : Wiring → ReleaserPart → ℕ → Type 0
-HasFreeSlotIn w r i = length (claimed_in w r i) + length (kept_after_aim (entry_in r i)) < (wired w i).slots
+HasFreeSlotIn w r i = length (claimed_in w r i) + length (kept_after_aim (entry_in r i)) < (wired_task w i).slots
 
 abbrev pub HasFreeSlot : Wiring → State → ℕ → Type 0
 HasFreeSlot w s i = HasFreeSlotIn w s.releaser i
 
 -- the least slot that is in neither may be aimed at, and is the least that may
 pub record IsLeastAimIn (w : Wiring) (r : ReleaserPart) (i slot : ℕ) : Type 0 where
-  pub free : IsLeastFree (claimed_in w r i) (kept_after_aim (entry_in r i)) (wired w i).slots slot
+  pub free : IsLeastFree (claimed_in w r i) (kept_after_aim (entry_in r i)) (wired_task w i).slots slot
   pub allowed : releaser_refusal w r (Aim i slot) ≡ None
   pub least : (n : ℕ) → releaser_refusal w r (Aim i n) ≡ None → slot ≤ n
 

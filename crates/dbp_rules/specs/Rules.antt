@@ -4,11 +4,11 @@ use Rattle.std.specs.Prelude.{◌≡◌, ℕ, zero, suc, ℤ, pos, ◌+◌, ◌<
 use Rattle.dbp_plan.specs.declared.diagram.Diagram.{Diagram}
 use Rattle.dbp_plan.specs.declared.plan.Plan.{Plan}
 use Rattle.dbp_plan.specs.Samples.{input_value}
-use Rattle.dbp_plan.specs.Lookups.{declared}
+use Rattle.dbp_plan.specs.Lookups.{declared_task}
 use Rattle.dbp_rules.specs.Moves as move
 use Rattle.dbp_rules.specs.PartyRules.{Loaded, a_number, a_value, an_order, next_claim, no_word, is_opened_by, is_stamp_of, read_order_in, releaser_after, releaser_next, releaser_refusal, task_after, task_next, task_refusal, with_entry_in, with_claim_in, one_further}
 pub use Rattle.dbp_rules.specs.PartyRules.{claims_slot_in, hears_at, is_next, least, none_of, or_else, place_kind, release_kind, kept_after_aim, stays_kept, turn_at, unless}
-use Rattle.dbp_rules.specs.Places.{task, task_entry, order, slot_at, wired, read_at, time}
+use Rattle.dbp_rules.specs.Places.{task, task_entry, order, slot_at, wired_task, read_at, time}
 use Rattle.dbp_rules.specs.declared.parts.LinkEntry.{LinkEntry}
 use Rattle.dbp_rules.specs.declared.parts.Order.{Order}
 use Rattle.dbp_rules.specs.declared.parts.ReleaserPart.{ReleaserPart}
@@ -52,7 +52,7 @@ abbrev pub releases_next : Wiring → State → ℕ → ℕ → Option Illegal
 releases_next w s kind subject = releaser_next w s.releaser kind subject
 
 abbrev pub steps_next : Wiring → State → ℕ → ℕ → ℕ → Option Illegal
-steps_next w s i kind subject = task_next (wired w i) (task s i).part kind subject
+steps_next w s i kind subject = task_next (wired_task w i) (task s i).part kind subject
 
 -- a counted link from the task claims the slot for an instance that isn't known to have ended
 abbrev pub claims_slot : Wiring → State → ℕ → ℕ → ℕ → Bool
@@ -60,16 +60,16 @@ claims_slot w s i slot k = claims_slot_in w s.releaser i slot k
 
 -- the time of the task's first instance that hasn't ended; 0 if all have
 abbrev pub own_time : Wiring → State → ℕ → ℕ
-own_time w s i = time (wired w i) ((task s i).part.ended + 1)
+own_time w s i = time (wired_task w i) ((task s i).part.ended + 1)
 
 -- task r is ranked above task i, and has an instance that hasn't ended and that was aimed no later than that of i
 abbrev pub blocks : Wiring → State → ℕ → ℕ → Bool
-blocks w s i r = nat_lt (wired w r).rank (wired w i).rank && (nat_lt (task s r).part.ended (task_entry s r).aimed && nat_le (own_time w s r) (own_time w s i))
+blocks w s i r = nat_lt (wired_task w r).rank (wired_task w i).rank && (nat_lt (task s r).part.ended (task_entry s r).aimed && nat_le (own_time w s r) (own_time w s i))
 
 -- the higher-ranked of the task found so far and this one
 abbrev pub higher : Wiring → Option ℕ → ℕ → ℕ
 higher w None r = r
-higher w (Some q) r = if nat_lt (wired w q).rank (wired w r).rank then q else r
+higher w (Some q) r = if nat_lt (wired_task w q).rank (wired_task w r).rank then q else r
 
 -- the highest-ranked task below n that passes
 abbrev pub highest : Wiring → (ℕ → Bool) → ℕ → Option ℕ
@@ -90,15 +90,15 @@ is_open s i = is_opened_by (task s i).part (task s i).words.gate
 -- the order at the place: the task's own, then that of each link into it
 abbrev pub order_word : Wiring → State → ℕ → ℕ → Order
 order_word w s i zero = (task s i).words.aim
-order_word w s i (suc n) = order s (slice_index_or (wired w i).links n 0)
+order_word w s i (suc n) = order s (slice_index_or (wired_task w i).links n 0)
 
 -- the order that the task heard for the read of this turn
 abbrev pub read_order : Wiring → State → ℕ → ℕ → Order
-read_order w s i n = read_order_in (wired w i) (task s i).part n
+read_order w s i n = read_order_in (wired_task w i) (task s i).part n
 
 -- the slot that it names
 abbrev pub read_slot : Wiring → State → ℕ → ℕ → Slot
-read_slot w s i n = slot_at (task s (read_at (wired w i) n).writer).words.slots (read_order w s i n).slot
+read_slot w s i n = slot_at (task s (read_at (wired_task w i) n).writer).words.slots (read_order w s i n).slot
 
 -- the slot holds the row that was ordered
 abbrev pub is_ready : Wiring → State → ℕ → ℕ → Bool
@@ -106,7 +106,7 @@ is_ready w s i n = is_stamp_of (read_order w s i n) (read_slot w s i n).stamp
 
 -- the word of the read's port in it
 abbrev pub read_word : Wiring → State → ℕ → ℕ → ℤ
-read_word w s i n = slice_index_or (read_slot w s i n).words (read_at (wired w i) n).port (pos 0)
+read_word w s i n = slice_index_or (read_slot w s i n).words (read_at (wired_task w i) n).port (pos 0)
 
 -- what stands in the word that the step loads
 abbrev pub loaded_value : Wiring → State → Step → Loaded
@@ -119,13 +119,13 @@ loaded_value w s _ = no_word
 
 -- the values of the task's senses at the release of its running instance
 abbrev pub sense_values : Plan → Wiring → State → ℕ → List ℤ
-sense_values p w s i = map (λ x. input_value p.diagram.inputs p.samples x.input (own_time w s i)) (declared p i).senses
+sense_values p w s i = map (λ x. input_value p.diagram.inputs p.samples x.input (own_time w s i)) (declared_task p i).senses
 
 -- ---- the steps
 
 -- why the task's own part, or else a task ranked above it, forbids the step
 abbrev pub ranked_refusal : Wiring → State → ℕ → Step → Option Illegal
-ranked_refusal w s i e = or_else (task_refusal (wired w i) (task s i).part e) (blocker_refusal w.count w s i)
+ranked_refusal w s i e = or_else (task_refusal (wired_task w i) (task s i).part e) (blocker_refusal w.count w s i)
 
 -- the first broken condition
 abbrev pub refusal : Wiring → State → Step → Option Illegal
@@ -133,7 +133,7 @@ refusal w s (Seen i) = releaser_refusal w s.releaser (Seen i)
 refusal w s (Aim i slot) = releaser_refusal w s.releaser (Aim i slot)
 refusal w s (Claim k) = releaser_refusal w s.releaser (Claim k)
 refusal w s (OpenGate i) = releaser_refusal w s.releaser (OpenGate i)
-refusal w s (Start i) = or_else (task_refusal (wired w i) (task s i).part (Start i)) (if is_open s i then blocker_refusal w.count w s i else None)
+refusal w s (Start i) = or_else (task_refusal (wired_task w i) (task s i).part (Start i)) (if is_open s i then blocker_refusal w.count w s i else None)
 refusal w s (Hear i) = ranked_refusal w s i (Hear i)
 refusal w s (Look i r) = ranked_refusal w s i (Look i r)
 refusal w s (Take i r) = ranked_refusal w s i (Take i r)
@@ -160,7 +160,7 @@ abbrev pub next_releaser : Wiring → State → Step → ReleaserPart
 next_releaser w s e = releaser_after w s.releaser e (loaded_value w s e)
 
 abbrev pub next_part : Wiring → State → ℕ → Step → TaskPart
-next_part w s i e = task_after (wired w i) (task s i).part e (loaded_value w s e)
+next_part w s i e = task_after (wired_task w i) (task s i).part e (loaded_value w s e)
 
 -- the state after an allowed step
 abbrev pub next : Plan → Wiring → State → Step → State
@@ -174,12 +174,12 @@ next p w s (Look i r) = with_part s i (next_part w s i (Look i r))
 next p w s (Take i r) = with_task s i (record {
   words = (task s i).words;
   part = next_part w s i (Take i r);
-  work = move.with_read (declared p i) (task s i).work r (read_word w s i (turn_at (task s i).part.place));
+  work = move.with_read (declared_task p i) (task s i).work r (read_word w s i (turn_at (task s i).part.place));
 })
 next p w s (Shut i) = with_task s i (record {
   words = move.with_stamp (task s i).words (move.own_slot (task s i).part) 0;
   part = next_part w s i (Shut i);
-  work = move.after_compute (declared p i) (sense_values p w s i) (task s i).work;
+  work = move.after_compute (declared_task p i) (sense_values p w s i) (task s i).work;
 })
 next p w s (Put i port) = with_task s i (record {
   words = move.with_word (task s i).words (move.own_slot (task s i).part) port (slice_index_or (task s i).work.row port (pos 0));

@@ -6,10 +6,10 @@ use Rattle.dbp_plan.specs.declared.plan.Plan.{Plan}
 use Rattle.dbp_plan.specs.declared.schedule.Sample.{Sample}
 use Rattle.dbp_plan.specs.Closed.{IsClosedTask, place_count}
 use Rattle.dbp_plan.specs.Occurrences.{times_of}
-use Rattle.dbp_plan.specs.Lookups.{declared}
+use Rattle.dbp_plan.specs.Lookups.{declared_task}
 use Rattle.release_list.specs.Schedule.{IsSchedule, aims}
 use Rattle.dbp_rules.specs.Moves.{heard_order}
-use Rattle.dbp_rules.specs.Places.{link, link_entry, order, read_at, slot_at, task, task_entry, wired}
+use Rattle.dbp_rules.specs.Places.{link, link_entry, order, read_at, slot_at, task, task_entry, wired_task}
 use Rattle.dbp_rules.specs.Wired.{links_at}
 use Rattle.dbp_rules.specs.declared.parts.LinkEntry.{LinkEntry}
 use Rattle.dbp_rules.specs.declared.parts.Order.{Order}
@@ -38,29 +38,29 @@ link_in t n = slice_index_or t.links n 0
 -- the task whose slot the order at this place names: the task itself, then the writer of each link
 abbrev pub slot_owner : Wiring → ℕ → ℕ → ℕ
 slot_owner w i zero = i
-slot_owner w i (suc n) = (link w (link_in (wired w i) n)).writer
+slot_owner w i (suc n) = (link w (link_in (wired_task w i) n)).writer
 
 -- a read's order is one that its task hears over a link, and its port is one of the writer's
 pub record IsReadWired (w : Wiring) (reads i : ℕ) (r : ReadWiring) : Type 0 where
   pub read : r.read < reads
-  pub order : r.order < 1 + length (wired w i).links
+  pub order : r.order < 1 + length (wired_task w i).links
   pub owner : r.writer ≡ slot_owner w i r.order
   pub writer : r.writer < length w.tasks
-  pub port : r.port < (wired w r.writer).ports
+  pub port : r.port < (wired_task w r.writer).ports
 
 -- the wiring of a task is that of the plan, and what it names is there
 pub record IsTaskWired (p : Plan) (w : Wiring) (i : ℕ) (t : TaskWiring) : Type 0 where
-  pub closed : IsClosedTask (length p.diagram.inputs) (length p.diagram.events) (length p.diagram.links) (declared p i)
+  pub closed : IsClosedTask (length p.diagram.inputs) (length p.diagram.events) (length p.diagram.links) (declared_task p i)
   pub times : t.times ≡ times_of p.batches i
   pub few : length t.times ≤ MAX_OCCURRENCES
-  pub ports : t.ports ≡ length (declared p i).outs
+  pub ports : t.ports ≡ length (declared_task p i).outs
   pub some_port : 0 < t.ports
   pub some_slot : 0 < t.slots
   pub links : length t.links ≤ MAX_READS
   pub into : (n : ℕ) → n < length t.links → link_in t n < length w.links
   pub leaving : t.leaving ≡ links_at Writer w.links i
-  pub reads : length t.reads ≡ length (declared p i).reads
-  pub each_read : (n : ℕ) → n < length t.reads → IsReadWired w (length (declared p i).reads) i (read_at t n)
+  pub reads : length t.reads ≡ length (declared_task p i).reads
+  pub each_read : (n : ℕ) → n < length t.reads → IsReadWired w (length (declared_task p i).reads) i (read_at t n)
 
 -- the wiring is whole
 pub record IsWired (p : Plan) (w : Wiring) : Type 0 where
@@ -68,8 +68,8 @@ pub record IsWired (p : Plan) (w : Wiring) : Type 0 where
   pub links : w.links ≡ p.diagram.links
   pub writer : (k : ℕ) → k < length w.links → (link w k).writer < length w.tasks
   pub reader : (k : ℕ) → k < length w.links → (link w k).reader < length w.tasks
-  pub delay : (k : ℕ) → k < length w.links → (link w k).delay ≤ (wired w (link w k).writer).kept
-  pub each_task : (i : ℕ) → i < length w.tasks → IsTaskWired p w i (wired w i)
+  pub delay : (k : ℕ) → k < length w.links → (link w k).delay ≤ (wired_task w (link w k).writer).kept
+  pub each_task : (i : ℕ) → i < length w.tasks → IsTaskWired p w i (wired_task w i)
   pub samples : HasSamples p w.samples
   pub releases : IsSchedule p.diagram p.batches w.releases
   pub few_releases : length w.releases + 1 < 2 ^ 32
@@ -142,19 +142,19 @@ pub record EntryShape (t : TaskWiring) (e : TaskEntry) : Type 0 where
 pub record TaskShape (w : Wiring) (d : Task) (i last : ℕ) (s : TaskState) : Type 0 where
   pub gate : s.part.ended + running_count s.part.place ≤ s.words.gate
   pub aimed : s.words.gate ≤ last
-  pub aim : OrderFits (wired w i) s.words.aim
-  pub slots : SlotsFit (wired w i) s.words.slots
-  pub place : PlaceIn (wired w i) s.part.place
-  pub heard : length s.part.heard.items ≡ heard_by (1 + length (wired w i).links) s.part.place
-  pub each_heard : (n : ℕ) → n < length s.part.heard.items → OrderFits (wired w (slot_owner w i n)) (heard_order s.part n)
+  pub aim : OrderFits (wired_task w i) s.words.aim
+  pub slots : SlotsFit (wired_task w i) s.words.slots
+  pub place : PlaceIn (wired_task w i) s.part.place
+  pub heard : length s.part.heard.items ≡ heard_by (1 + length (wired_task w i).links) s.part.place
+  pub each_heard : (n : ℕ) → n < length s.part.heard.items → OrderFits (wired_task w (slot_owner w i n)) (heard_order s.part n)
   pub now : length s.work.now ≡ place_count d
   pub later : length s.work.later ≡ length d.states
   pub row : length s.work.row ≡ length d.outs
 
 -- what is claimed over the link, and the word that orders it, are of its writer
 pub record LinkShape (w : Wiring) (k : ℕ) (c : LinkEntry) (o : Order) : Type 0 where
-  pub claim : (c.slot < (wired w (link w k).writer).slots) × (c.number ≤ MAX_OCCURRENCES)
-  pub order : OrderFits (wired w (link w k).writer) o
+  pub claim : (c.slot < (wired_task w (link w k).writer).slots) × (c.number ≤ MAX_OCCURRENCES)
+  pub order : OrderFits (wired_task w (link w k).writer) o
 
 -- the wiring and the state are whole
 pub record IsShape (p : Plan) (w : Wiring) (s : State) : Type 0 where
@@ -164,6 +164,6 @@ pub record IsShape (p : Plan) (w : Wiring) (s : State) : Type 0 where
   pub tasks : length s.tasks ≡ length w.tasks
   pub orders : length s.orders ≡ length w.links
   pub aimed : (i : ℕ) → i < length w.tasks → (task_entry s i).aimed ≡ aims w.releases s.releaser.place i
-  pub each_entry : (i : ℕ) → i < length w.tasks → EntryShape (wired w i) (task_entry s i)
-  pub each_task : (i : ℕ) → i < length w.tasks → TaskShape w (declared p i) i (task_entry s i).aimed (task s i)
+  pub each_entry : (i : ℕ) → i < length w.tasks → EntryShape (wired_task w i) (task_entry s i)
+  pub each_task : (i : ℕ) → i < length w.tasks → TaskShape w (declared_task p i) i (task_entry s i).aimed (task s i)
   pub each_link : (k : ℕ) → k < length w.links → LinkShape w k (link_entry s k) (order s k)

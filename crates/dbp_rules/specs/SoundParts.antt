@@ -3,11 +3,11 @@ use Rattle.std.specs.Prelude.{◌≡◌, ◌≢◌, ℕ, ℤ, pos, ◌+◌, ◌-
 use Rattle.dbp_plan.specs.declared.diagram.Read.{Read}
 use Rattle.dbp_plan.specs.declared.plan.Plan.{Plan}
 use Rattle.dbp_plan.specs.Occurrences.{time_of}
-use Rattle.dbp_plan.specs.Lookups.{declared, no_read}
+use Rattle.dbp_plan.specs.Lookups.{declared_task, no_read}
 use Rattle.release_list.specs.Schedule.{claims, seen_by}
 use Rattle.sync_meaning.specs.SomeMeaningRows.{states_at, word_at}
 use Rattle.dbp_rules.specs.Moves.{heard_order, claim_order}
-use Rattle.dbp_rules.specs.Places.{is_counted, link, read_at, slot_at, wired}
+use Rattle.dbp_rules.specs.Places.{is_counted, link, read_at, slot_at, wired_task}
 use Rattle.dbp_rules.specs.Shapes.{link_in}
 use Rattle.dbp_rules.specs.declared.parts.LinkEntry.{LinkEntry}
 use Rattle.dbp_rules.specs.declared.parts.Order.{Order}
@@ -72,11 +72,11 @@ last_shut t = t.part.ended + shut_by t.part.place
 
 -- the read whose turn this is
 abbrev pub read_of : Plan → Wiring → ℕ → ℕ → Read
-read_of p w i n = slice_index_or (declared p i).reads (read_at (wired w i) n).read no_read
+read_of p w i n = slice_index_or (declared_task p i).reads (read_at (wired_task w i) n).read no_read
 
 -- the place of its word among those that the task computes with
 abbrev pub place_of_read : Plan → Wiring → ℕ → ℕ → ℕ
-place_of_read p w i n = length (declared p i).states + length (declared p i).senses + (read_at (wired w i) n).read
+place_of_read p w i n = length (declared_task p i).states + length (declared_task p i).senses + (read_at (wired_task w i) n).read
 
 -- the word that the meaning gives the read in the instance
 abbrev pub meant_word : Plan → (ℕ → ℕ → List ℤ) → ℕ → ℕ → Read → ℤ
@@ -101,19 +101,19 @@ pub record TaskSound (p : Plan) (w : Wiring) (rows : ℕ → ℕ → List ℤ) (
   pub aim : t.words.aim ≡ record { slot = e.current; number = e.aimed }
   pub heard : 0 < length t.part.heard.items → heard_order t.part 0 ≡ t.words.aim
   -- a slot that has a stamp holds a row that is filled, and it holds the row that the stamp says
-  pub whole : (n l : ℕ) → n < (wired w i).slots → (slot_at t.words.slots n).stamp ≡ l + 1 → (l ≤ last_filled t) × ((slot_at t.words.slots n).words ≡ rows i l)
+  pub whole : (n l : ℕ) → n < (wired_task w i).slots → (slot_at t.words.slots n).stamp ≡ l + 1 → (l ≤ last_filled t) × ((slot_at t.words.slots n).words ≡ rows i l)
   -- the current slot: it holds the last aimed row if this is filled; while it is being filled it has no stamp, and the outs put so far are those of the next row
   pub filled : e.aimed ≤ last_filled t → (slot_at t.words.slots e.current).stamp ≡ e.aimed + 1
   pub filling : last_filled t < last_shut t → (slot_at t.words.slots e.current).stamp ≡ 0
-  pub put : (port : ℕ) → port < put_by (wired w i).ports t.part.place → slice_index_or (slot_at t.words.slots e.current).words port (pos 0) ≡ slice_index_or (rows i (t.part.ended + 1)) port (pos 0)
+  pub put : (port : ℕ) → port < put_by (wired_task w i).ports t.part.place → slice_index_or (slot_at t.words.slots e.current).words port (pos 0) ≡ slice_index_or (rows i (t.part.ended + 1)) port (pos 0)
   -- the kept slots hold the rows before, the latest first, and row 0 if there are fewer; they aren't the current one once there is an aim
-  pub kept : (j : ℕ) → j < (wired w i).kept → (slot_at t.words.slots (slice_index_or e.kept j 0)).stamp ≡ e.aimed - (j + 1) + 1
-  pub kept_apart : 0 < e.aimed → (j : ℕ) → j < (wired w i).kept → slice_index_or e.kept j 0 ≢ e.current
+  pub kept : (j : ℕ) → j < (wired_task w i).kept → (slot_at t.words.slots (slice_index_or e.kept j 0)).stamp ≡ e.aimed - (j + 1) + 1
+  pub kept_apart : 0 < e.aimed → (j : ℕ) → j < (wired_task w i).kept → slice_index_or e.kept j 0 ≢ e.current
   -- the states are those before the instance, the words taken are those of the meaning, the row is the last computed one
-  pub states : take (length (declared p i).states) t.work.now ≡ states_at p.diagram p.samples p.batches rows i (declared p i) t.part.ended
-  pub taken : (n : ℕ) → n < taken_by (length (wired w i).reads) t.part.place → slice_index_or t.work.now (place_of_read p w i n) (pos 0) ≡ meant_word p rows i (t.part.ended + 1) (read_of p w i n)
+  pub states : take (length (declared_task p i).states) t.work.now ≡ states_at p.diagram p.samples p.batches rows i (declared_task p i) t.part.ended
+  pub taken : (n : ℕ) → n < taken_by (length (wired_task w i).reads) t.part.place → slice_index_or t.work.now (place_of_read p w i n) (pos 0) ≡ meant_word p rows i (t.part.ended + 1) (read_of p w i n)
   pub row : t.work.row ≡ rows i (last_shut t)
-  pub later : 0 < shut_by t.part.place → t.work.later ≡ states_at p.diagram p.samples p.batches rows i (declared p i) (t.part.ended + 1)
+  pub later : 0 < shut_by t.part.place → t.work.later ≡ states_at p.diagram p.samples p.batches rows i (declared_task p i) (t.part.ended + 1)
 
 -- up to which instance of the reader a claim no longer stands: if the link is counted the last one known to have ended, else the last one that has
 abbrev pub last_passed : Bool → ℕ → ℕ → ℕ
@@ -132,6 +132,6 @@ pub record LinkSound (p : Plan) (w : Wiring) (k : ℕ) (c : LinkEntry) (v : Task
   -- as long as the writer hasn't shut the slot: the reader was then released before the writer's last aimed instance
   pub current : Stands w k c e reader → c.slot ≡ v.current → (c.number ≡ v.aimed) ⊎ ((is_counted w k ≡ false) × (last_shut writer < v.aimed) × (seen_by w.links p.batches k c.instance < v.aimed))
   -- what the reader has heard over the link is the claim
-  pub heard : (j : ℕ) → j + 1 < length reader.part.heard.items → link_in (wired w (link w k).reader) j ≡ k → heard_order reader.part (j + 1) ≡ claim_order c
+  pub heard : (j : ℕ) → j + 1 < length reader.part.heard.items → link_in (wired_task w (link w k).reader) j ≡ k → heard_order reader.part (j + 1) ≡ claim_order c
   -- if the reader is to take a word over the link, the claimed row is there
   pub ready : (n : ℕ) → reader.part.place ≡ Take n → (read_of p w (link w k).reader n).link ≡ k → (slot_at writer.words.slots c.slot).stamp ≡ c.number + 1

@@ -4,8 +4,8 @@ use Rattle.std.specs.List.{range_with_len}
 use Rattle.dbp_plan.specs.declared.diagram.Task.{Task}
 use Rattle.dbp_plan.specs.declared.plan.Plan.{Plan}
 use Rattle.dbp_plan.specs.Closed.{place_count}
-use Rattle.dbp_plan.specs.Lookups.{declared}
-use Rattle.dbp_rules.specs.Places.{no_link_entry, no_order, wired}
+use Rattle.dbp_plan.specs.Lookups.{declared_task}
+use Rattle.dbp_rules.specs.Places.{no_link_entry, no_order, wired_task}
 use Rattle.dbp_rules.specs.declared.parts.Place.TheVariants.{Idle}
 use Rattle.dbp_rules.specs.declared.parts.ReleaserPart.{ReleaserPart}
 use Rattle.dbp_rules.specs.declared.parts.TaskEntry.{TaskEntry}
@@ -46,6 +46,6 @@ start_releaser w = record { place = 0; tasks = map start_entry w.tasks; links = 
 abbrev pub start_of : Plan → Wiring → State
 start_of p w = record {
   releaser = start_releaser w;
-  tasks = map (λ i. start_task (wired w i) (declared p i)) (range_with_len 0 (length w.tasks));
+  tasks = map (λ i. start_task (wired_task w i) (declared_task p i)) (range_with_len 0 (length w.tasks));
   orders = replicate (length w.links) no_order;
 }

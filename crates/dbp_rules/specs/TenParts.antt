@@ -4,11 +4,11 @@ use Rattle.std.specs.Prelude.{◌≡◌, ◌≢◌, ℕ, ℤ, pos, ◌+◌, ◌-
 use Rattle.dbp_plan.specs.declared.plan.Plan.{Plan}
 use Rattle.dbp_plan.specs.Closed.{place_count}
 use Rattle.dbp_plan.specs.Occurrences.{time_of}
-use Rattle.dbp_plan.specs.Lookups.{declared}
+use Rattle.dbp_plan.specs.Lookups.{declared_task}
 use Rattle.release_list.specs.Schedule.{aims, claims, opens, seen_by}
 use Rattle.sync_meaning.specs.SomeMeaningRows.{states_at}
 use Rattle.dbp_rules.specs.Moves.{heard_order, claim_order}
-use Rattle.dbp_rules.specs.Places.{is_counted, link, link_entry, order, slot_at, task, task_entry, wired}
+use Rattle.dbp_rules.specs.Places.{is_counted, link, link_entry, order, slot_at, task, task_entry, wired_task}
 use Rattle.dbp_rules.specs.Rules.{order_word}
 use Rattle.dbp_rules.specs.Shapes.{PlaceIn, SlotsFit, heard_by, running_count}
 use Rattle.dbp_rules.specs.SoundParts.{Stands, last_filled, last_shut, meant_word, place_of_read, put_by, read_of, shut_by, taken_by}
@@ -51,12 +51,12 @@ IsReleasedBefore p w s k = time_of p.batches (link w k).reader (link_entry s k).
 -- 1. What is there: a task's place is one of its places and says how many orders its instance has heard, each slot has a
 -- word for each port, and what the task computes with has its lengths.
 pub record TaskIsThere (p : Plan) (w : Wiring) (i : ℕ) (t : TaskState) : Type 0 where
-  pub place : PlaceIn (wired w i) t.part.place
-  pub heard : length t.part.heard.items ≡ heard_by (1 + length (wired w i).links) t.part.place
-  pub slots : SlotsFit (wired w i) t.words.slots
-  pub now : length t.work.now ≡ place_count (declared p i)
-  pub later : length t.work.later ≡ length (declared p i).states
-  pub row : length t.work.row ≡ length (declared p i).outs
+  pub place : PlaceIn (wired_task w i) t.part.place
+  pub heard : length t.part.heard.items ≡ heard_by (1 + length (wired_task w i).links) t.part.place
+  pub slots : SlotsFit (wired_task w i) t.words.slots
+  pub now : length t.work.now ≡ place_count (declared_task p i)
+  pub later : length t.work.later ≡ length (declared_task p i).states
+  pub row : length t.work.row ≡ length (declared_task p i).outs
 
 pub record WhatIsThere (p : Plan) (w : Wiring) (s : State) : Type 0 where
   pub entries : length s.releaser.tasks ≡ length w.tasks
@@ -93,15 +93,15 @@ Chain w s = (i : ℕ) → i < length w.tasks → TaskChain w s i (task_entry s i
 -- 4. The slots that the releaser knows are the tasks' slots: the current ones, as many kept ones as the longest delay of
 -- the links that leave the task, and the claimed ones.
 pub record SlotsAreThere (w : Wiring) (s : State) : Type 0 where
-  pub current : (i : ℕ) → i < length w.tasks → (task_entry s i).current < (wired w i).slots
-  pub kept : (i : ℕ) → i < length w.tasks → length (task_entry s i).kept ≡ (wired w i).kept
-  pub kept_slots : (i j : ℕ) → i < length w.tasks → j < (wired w i).kept → slice_index_or (task_entry s i).kept j 0 < (wired w i).slots
-  pub claimed : (k : ℕ) → k < length w.links → (link_entry s k).slot < (wired w (link w k).writer).slots
+  pub current : (i : ℕ) → i < length w.tasks → (task_entry s i).current < (wired_task w i).slots
+  pub kept : (i : ℕ) → i < length w.tasks → length (task_entry s i).kept ≡ (wired_task w i).kept
+  pub kept_slots : (i j : ℕ) → i < length w.tasks → j < (wired_task w i).kept → slice_index_or (task_entry s i).kept j 0 < (wired_task w i).slots
+  pub claimed : (k : ℕ) → k < length w.links → (link_entry s k).slot < (wired_task w (link w k).writer).slots
 
 -- 5. A stamp says what is there: 0, or one more than the number of a row that is filled (its instance is done, or it is
 -- row 0), and the slot holds this row.
 abbrev pub StampsTell : Wiring → (ℕ → ℕ → List ℤ) → State → Type 0
-StampsTell w rows s = (i n l : ℕ) → i < length w.tasks → n < (wired w i).slots → (slot_at (task s i).words.slots n).stamp ≡ l + 1
+StampsTell w rows s = (i n l : ℕ) → i < length w.tasks → n < (wired_task w i).slots → (slot_at (task s i).words.slots n).stamp ≡ l + 1
     → (l ≤ last_filled (task s i)) × ((slot_at (task s i).words.slots n).words ≡ rows i l)
 
 -- 6. The current slot holds the last aimed row if this is filled. From the shut to the done its stamp is 0, and the
@@ -109,7 +109,7 @@ StampsTell w rows s = (i n l : ℕ) → i < length w.tasks → n < (wired w i).s
 pub record CurrentSlot (w : Wiring) (rows : ℕ → ℕ → List ℤ) (i : ℕ) (e : TaskEntry) (t : TaskState) : Type 0 where
   pub filled : e.aimed ≤ last_filled t → (slot_at t.words.slots e.current).stamp ≡ e.aimed + 1
   pub filling : last_filled t < last_shut t → (slot_at t.words.slots e.current).stamp ≡ 0
-  pub put : (port : ℕ) → port < put_by (wired w i).ports t.part.place → slice_index_or (slot_at t.words.slots e.current).words port (pos 0) ≡ slice_index_or (rows i (t.part.ended + 1)) port (pos 0)
+  pub put : (port : ℕ) → port < put_by (wired_task w i).ports t.part.place → slice_index_or (slot_at t.words.slots e.current).words port (pos 0) ≡ slice_index_or (rows i (t.part.ended + 1)) port (pos 0)
 
 abbrev pub CurrentSlots : Wiring → (ℕ → ℕ → List ℤ) → State → Type 0
 CurrentSlots w rows s = (i : ℕ) → i < length w.tasks → CurrentSlot w rows i (task_entry s i) (task s i)
@@ -117,8 +117,8 @@ CurrentSlots w rows s = (i : ℕ) → i < length w.tasks → CurrentSlot w rows 
 -- 7. The kept slots hold the rows before the last aimed one, the latest first, and row 0 if there are fewer. Once an
 -- instance is aimed none of them is the current slot.
 pub record KeptSlots (w : Wiring) (s : State) : Type 0 where
-  pub stamp : (i j : ℕ) → i < length w.tasks → j < (wired w i).kept → (slot_at (task s i).words.slots (slice_index_or (task_entry s i).kept j 0)).stamp ≡ (task_entry s i).aimed - (j + 1) + 1
-  pub apart : (i j : ℕ) → i < length w.tasks → j < (wired w i).kept → 0 < (task_entry s i).aimed → slice_index_or (task_entry s i).kept j 0 ≢ (task_entry s i).current
+  pub stamp : (i j : ℕ) → i < length w.tasks → j < (wired_task w i).kept → (slot_at (task s i).words.slots (slice_index_or (task_entry s i).kept j 0)).stamp ≡ (task_entry s i).aimed - (j + 1) + 1
+  pub apart : (i j : ℕ) → i < length w.tasks → j < (wired_task w i).kept → 0 < (task_entry s i).aimed → slice_index_or (task_entry s i).kept j 0 ≢ (task_entry s i).current
 
 -- 8. A claim that stands finds its row: its slot holds it, or is the current one, which is to hold it and doesn't yet.
 abbrev pub ClaimsFind : Wiring → State → Type 0
@@ -136,11 +136,11 @@ ClaimsOnCurrent p w s = (k : ℕ) → k < length w.links → IsStanding w s k �
 -- of its reads, its row that of its last computed instance, and from its shut on its next states those after it. If
 -- it is about to take, the claimed slot holds the claimed row.
 pub record TaskWork (p : Plan) (w : Wiring) (rows : ℕ → ℕ → List ℤ) (s : State) (i : ℕ) (t : TaskState) : Type 0 where
-  pub states : take (length (declared p i).states) t.work.now ≡ states_at p.diagram p.samples p.batches rows i (declared p i) t.part.ended
-  pub taken : (n : ℕ) → n < taken_by (length (wired w i).reads) t.part.place → slice_index_or t.work.now (place_of_read p w i n) (pos 0) ≡ meant_word p rows i (t.part.ended + 1) (read_of p w i n)
+  pub states : take (length (declared_task p i).states) t.work.now ≡ states_at p.diagram p.samples p.batches rows i (declared_task p i) t.part.ended
+  pub taken : (n : ℕ) → n < taken_by (length (wired_task w i).reads) t.part.place → slice_index_or t.work.now (place_of_read p w i n) (pos 0) ≡ meant_word p rows i (t.part.ended + 1) (read_of p w i n)
   pub ready : (n : ℕ) → t.part.place ≡ Take n → (slot_of_claim w s (read_of p w i n).link).stamp ≡ (link_entry s (read_of p w i n).link).number + 1
   pub row : t.work.row ≡ rows i (last_shut t)
-  pub later : 0 < shut_by t.part.place → t.work.later ≡ states_at p.diagram p.samples p.batches rows i (declared p i) (t.part.ended + 1)
+  pub later : 0 < shut_by t.part.place → t.work.later ≡ states_at p.diagram p.samples p.batches rows i (declared_task p i) (t.part.ended + 1)
 
 abbrev pub Works : Plan → Wiring → (ℕ → ℕ → List ℤ) → State → Type 0
 Works p w rows s = (i : ℕ) → i < length w.tasks → TaskWork p w rows s i (task s i)

@@ -4,7 +4,7 @@ ghost use Rattle.std.specs.Prelude.{◌≡◌, ◌<◌, ◌≤◌, ◌↔◌, �
 ghost use Rattle.dbp_plan.specs.declared.limits.TheConstants.{MAX_READ_LINES};
 ghost use Rattle.dbp_rules.specs.PartyRules.{claimed_in, has_claim_in, kept_after_aim};
 ghost use Rattle.dbp_rules.specs.PartyShapes.{LinksFit};
-ghost use Rattle.dbp_rules.specs.Places.{entry_in, wired};
+ghost use Rattle.dbp_rules.specs.Places.{entry_in, wired_task};
 ghost use Rattle.dbp_rules.specs.Promises.{HasFreeSlotIn, IsLeastAimIn};
 ghost use Rattle.dbp_slots.specs.FreeSlot.{IsLeastFree};
 ghost use Rattle.release_list.specs.declared.release.Release.TheVariants.{Aim as AimOf};
@@ -65,7 +65,7 @@ fn least_of_many(wiring: &Wiring, part: &ReleaserPart, i: u32) -> u32
     requires claims { length part.now.links ≡ length wiring.now.links }
     requires entries { length part.now.tasks ≡ length wiring.now.tasks }
     requires room { HasFreeSlotIn wiring.now part.now i }
-    ensures { IsLeastFree (claimed_in wiring.now part.now i) (kept_after_aim (entry_in part.now i)) (wired wiring.now i).slots result }
+    ensures { IsLeastFree (claimed_in wiring.now part.now i) (kept_after_aim (entry_in part.now i)) (wired_task wiring.now i).slots result }
 {
     let mut taken = claimed_slots(wiring, part, i);
     let entry = part.entry(i);
@@ -98,7 +98,7 @@ fn least_of_few(wiring: &Wiring, part: &ReleaserPart, i: u32) -> u32
     requires claims { length part.now.links ≡ length wiring.now.links }
     requires entries { length part.now.tasks ≡ length wiring.now.tasks }
     requires room { HasFreeSlotIn wiring.now part.now i }
-    ensures { IsLeastFree (claimed_in wiring.now part.now i) (kept_after_aim (entry_in part.now i)) (wired wiring.now i).slots result }
+    ensures { IsLeastFree (claimed_in wiring.now part.now i) (kept_after_aim (entry_in part.now i)) (wired_task wiring.now i).slots result }
 {
     for slot in 0..wiring.task(i).slots {
         if !is_taken(wiring, part, i, slot) {
@@ -116,7 +116,7 @@ fn least_free(wiring: &Wiring, part: &ReleaserPart, i: u32) -> u32
     requires claims { length part.now.links ≡ length wiring.now.links }
     requires entries { length part.now.tasks ≡ length wiring.now.tasks }
     requires room { HasFreeSlotIn wiring.now part.now i }
-    ensures { IsLeastFree (claimed_in wiring.now part.now i) (kept_after_aim (entry_in part.now i)) (wired wiring.now i).slots result }
+    ensures { IsLeastFree (claimed_in wiring.now part.now i) (kept_after_aim (entry_in part.now i)) (wired_task wiring.now i).slots result }
 {
     if wiring.task(i).leaving.len() <= FEW_LINKS {
         least_of_few(wiring, part, i)

@@ -4,7 +4,7 @@
 ghost use Rattle.std.specs.Prelude.{◌≡◌, ◌<◌, ℕ, List as Items, None, length, slice_index_or};
 ghost use Rattle.dbp_plan.specs.declared.plan.Plan.{Plan};
 ghost use Rattle.dbp_plan.specs.declared.table.Table.{Table};
-ghost use Rattle.dbp_plan.specs.Lookups.{declared, no_read};
+ghost use Rattle.dbp_plan.specs.Lookups.{declared_task, no_read};
 ghost use Rattle.sync_meaning.specs.Meaning.{IsMeaning};
 ghost use Rattle.dbp_plan.specs.Table.{table_row};
 ghost use Rattle.dbp_rules.specs.Lawful.{Leads};
@@ -38,7 +38,7 @@ pub fn a_take_hears_the_meaning()
 pub fn a_delayed_look_is_ready()
     ensures { (p : Plan) (count : Count) (steps : Items Step) (s : State) (i r : ℕ) → Leads p (wiring_of p count) (start_of p (wiring_of p count)) steps s
         → i < length p.diagram.tasks → refusal (wiring_of p count) s (Look i r) ≡ None
-        → 0 < (link (wiring_of p count) (slice_index_or (declared p i).reads r no_read).link).delay → hears (wiring_of p count) s (Look i r) ≡ Ready }
+        → 0 < (link (wiring_of p count) (slice_index_or (declared_task p i).reads r no_read).link).delay → hears (wiring_of p count) s (Look i r) ≡ Ready }
 {}
 
 /// If tasks step by their ranks, every allowed look finds its row.

@@ -4,12 +4,12 @@
 ghost use Rattle.std.specs.Prelude.{◌≡◌, ◌<◌, ℕ, ℤ, List as Items, Some, None, length, slice_get, slice_index_or};
 ghost use Rattle.dbp_plan.specs.declared.plan.Plan.{Plan};
 ghost use Rattle.dbp_plan.specs.declared.table.Table.{Table};
-ghost use Rattle.dbp_plan.specs.Lookups.{declared, no_read};
+ghost use Rattle.dbp_plan.specs.Lookups.{declared_task, no_read};
 ghost use Rattle.dbp_slots.specs.FreeSlot.{IsLeastFree};
 ghost use Rattle.release_list.specs.declared.release.Release.TheVariants.{Aim as AimOf};
 ghost use Rattle.sync_meaning.specs.Meaning.{IsMeaning};
 ghost use Rattle.dbp_plan.specs.Table.{table_row};
-ghost use Rattle.dbp_rules.specs.Places.{link, task_entry, wired};
+ghost use Rattle.dbp_rules.specs.Places.{link, task_entry, wired_task};
 ghost use Rattle.dbp_rules.specs.Promises.{HasFreeSlot, IsClaimFilled, IsLeastAim, IsUnclaimed, SparesClaims, TakesTheMeaning, claimed_of};
 ghost use Rattle.dbp_rules.specs.Rules.{IsNamed, hears, next, refusal, kept_after_aim};
 ghost use Rattle.dbp_rules.specs.SharedWords.{KeepsOtherParts, KeepsOtherWords, made_by, stored_by};
@@ -68,7 +68,7 @@ pub fn a_slot_is_free_for_each_aim()
     ensures least { (p : Plan) (count : Count) (rows : ℕ → ℕ → Items ℤ) (s : State) (i : ℕ) → Sound p (wiring_of p count) rows s
         → slice_get (wiring_of p count).releases s.releaser.place ≡ Some (AimOf i) → (task_entry s i).aimed ≡ (task_entry s i).known → (slot : ℕ) × IsLeastAim (wiring_of p count) s i slot }
     ensures exact { (p : Plan) (count : Count) (s : State) (i slot : ℕ) → slice_get (wiring_of p count).releases s.releaser.place ≡ Some (AimOf i) → (task_entry s i).aimed ≡ (task_entry s i).known
-        → IsLeastFree (claimed_of (wiring_of p count) s i) (kept_after_aim (task_entry s i)) (wired (wiring_of p count) i).slots slot → IsLeastAim (wiring_of p count) s i slot }
+        → IsLeastFree (claimed_of (wiring_of p count) s i) (kept_after_aim (task_entry s i)) (wired_task (wiring_of p count) i).slots slot → IsLeastAim (wiring_of p count) s i slot }
 {}
 
 /// An allowed take hears the word that the meaning gives the read in the running instance.
@@ -80,15 +80,15 @@ pub fn a_sound_take_hears_the_meaning()
 /// An allowed look finds its row if the writer has filled it, and only then.
 pub fn a_sound_look_for_a_filled_row_is_ready()
     ensures ready { (p : Plan) (count : Count) (rows : ℕ → ℕ → Items ℤ) (s : State) (i r : ℕ) → Sound p (wiring_of p count) rows s → i < length p.diagram.tasks → refusal (wiring_of p count) s (Look i r) ≡ None
-        → IsClaimFilled (wiring_of p count) s (slice_index_or (declared p i).reads r no_read).link → hears (wiring_of p count) s (Look i r) ≡ Ready }
+        → IsClaimFilled (wiring_of p count) s (slice_index_or (declared_task p i).reads r no_read).link → hears (wiring_of p count) s (Look i r) ≡ Ready }
     ensures filled { (p : Plan) (count : Count) (rows : ℕ → ℕ → Items ℤ) (s : State) (i r : ℕ) → Sound p (wiring_of p count) rows s → i < length p.diagram.tasks → refusal (wiring_of p count) s (Look i r) ≡ None
-        → hears (wiring_of p count) s (Look i r) ≡ Ready → IsClaimFilled (wiring_of p count) s (slice_index_or (declared p i).reads r no_read).link }
+        → hears (wiring_of p count) s (Look i r) ≡ Ready → IsClaimFilled (wiring_of p count) s (slice_index_or (declared_task p i).reads r no_read).link }
 {}
 
 /// An allowed look over a delayed link finds its row.
 pub fn a_sound_delayed_look_is_ready()
     ensures { (p : Plan) (count : Count) (rows : ℕ → ℕ → Items ℤ) (s : State) (i r : ℕ) → Sound p (wiring_of p count) rows s → i < length p.diagram.tasks → refusal (wiring_of p count) s (Look i r) ≡ None
-        → 0 < (link (wiring_of p count) (slice_index_or (declared p i).reads r no_read).link).delay → hears (wiring_of p count) s (Look i r) ≡ Ready }
+        → 0 < (link (wiring_of p count) (slice_index_or (declared_task p i).reads r no_read).link).delay → hears (wiring_of p count) s (Look i r) ≡ Ready }
 {}
 
 /// Under `Ranked` each allowed look finds its row.

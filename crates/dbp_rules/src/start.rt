@@ -4,8 +4,8 @@ ghost use Rattle.std.specs.Prelude.{◌≡◌, ◌<◌, ◌≤◌, ◌^◌, IfOk
 ghost use Rattle.std.specs.List.{range_with_len};
 ghost use Rattle.dbp_plan.specs.Closed.{place_count};
 ghost use Rattle.dbp_plan.specs.declared.limits.TheConstants.{MAX_BODY, MAX_OUTS};
-ghost use Rattle.dbp_plan.specs.Lookups.{declared};
-ghost use Rattle.dbp_rules.specs.Places.{no_link_entry, no_order, wired};
+ghost use Rattle.dbp_plan.specs.Lookups.{declared_task};
+ghost use Rattle.dbp_rules.specs.Places.{no_link_entry, no_order, wired_task};
 ghost use Rattle.dbp_rules.specs.Shapes.{IsWired};
 ghost use Rattle.dbp_rules.specs.Start as start;
 
@@ -91,7 +91,7 @@ fn start_task(alloc: Global, wired: &TaskWiring, task: &Task) -> Result<TaskStat
 
 fn start_tasks(alloc: Global, plan: &Plan, wiring: &Wiring) -> Result<List<TaskState>, NoMemory>
     requires { IsWired plan.now wiring.now }
-    ensures { IfOk result (λ tasks. tasks ≡ map (λ i. start.start_task (wired wiring.now i) (declared plan.now i)) (range_with_len 0 (length wiring.now.tasks))) }
+    ensures { IfOk result (λ tasks. tasks ≡ map (λ i. start.start_task (wired_task wiring.now i) (declared_task plan.now i)) (range_with_len 0 (length wiring.now.tasks))) }
 {
     let mut tasks = List::new(alloc);
     for i in 0..wiring.tasks.len() {

@@ -1,7 +1,7 @@
 // What the steps look up in a plan, made once.
 
 ghost use Rattle.std.specs.Prelude.{◌≡◌, ◌<◌, length};
-ghost use Rattle.dbp_rules.specs.Places.{wired};
+ghost use Rattle.dbp_rules.specs.Places.{wired_task};
 
 use crate::step::Count;
 use dbp_plan::{Link, List, Sample};
@@ -69,7 +69,7 @@ impl Wiring {
     /// What the steps look up of the task.
     pub fn task(&self, task: u32) -> &TaskWiring
         requires { task < length self.now.tasks }
-        ensures { result.now ≡ wired self.now task }
+        ensures { result.now ≡ wired_task self.now task }
     {
         &self.tasks.items()[task as usize]
     }

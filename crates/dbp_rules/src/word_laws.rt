@@ -5,7 +5,7 @@ ghost use Rattle.std.specs.Int.{w64};
 ghost use Rattle.dbp_plan.specs.declared.plan.Plan.{Plan};
 ghost use Rattle.dbp_slots.specs.TableWords.{IsWord, TableWord, sizes_of};
 ghost use Rattle.dbp_rules.specs.LoadedWords.{heard_of, loaded_by, loaded_of, number_to_load, order_of, sizes_of_wiring, start_number, stored_number, value_of_word};
-ghost use Rattle.dbp_rules.specs.Places.{wired};
+ghost use Rattle.dbp_rules.specs.Places.{wired_task};
 ghost use Rattle.dbp_rules.specs.Rules.{IsNamed, hears, loaded_value, next, refusal};
 ghost use Rattle.dbp_rules.specs.Shapes.{OrderFits};
 ghost use Rattle.dbp_rules.specs.SharedWords.{maker_part, order_value, signed_value, stored_by, value_in};
@@ -34,8 +34,8 @@ pub fn a_number_is_read_back()
 
 /// A slot of a plan's task has a number of 32 bits, and so has an instance. So orders of its slots are read back.
 pub fn an_order_has_small_numbers()
-    ensures slots { (p : Plan) (count : Count) (i : ℕ) → i < length p.diagram.tasks → (wired (wiring_of p count) i).slots < 2 ^ 32 }
-    ensures order { (p : Plan) (count : Count) (i : ℕ) (o : Order) → i < length p.diagram.tasks → OrderFits (wired (wiring_of p count) i) o → (o.slot < 2 ^ 32) × (o.number < 2 ^ 32) }
+    ensures slots { (p : Plan) (count : Count) (i : ℕ) → i < length p.diagram.tasks → (wired_task (wiring_of p count) i).slots < 2 ^ 32 }
+    ensures order { (p : Plan) (count : Count) (i : ℕ) (o : Order) → i < length p.diagram.tasks → OrderFits (wired_task (wiring_of p count) i) o → (o.slot < 2 ^ 32) × (o.number < 2 ^ 32) }
 {}
 
 /// The table of a run of the diagram has the sizes that the plan's wiring has under `All`.

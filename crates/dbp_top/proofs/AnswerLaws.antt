@@ -5,7 +5,7 @@ use Rattle.std.proofs.lemmas.Bool.{false≢true}
 use Rattle.dbp_rules.specs.declared.step.Step.{Step}
 use Rattle.dbp_plan.specs.declared.plan.Plan.{Plan}
 use Rattle.dbp_plan.specs.declared.table.Table.{Table}
-use Rattle.dbp_plan.specs.Lookups.{declared}
+use Rattle.dbp_plan.specs.Lookups.{declared_task}
 use Rattle.dbp_load.specs.Texts.{generated_text}
 use Rattle.rank_order.specs.Ends.{IsOverrun}
 use Rattle.rank_order.specs.Instances.{Instance}
@@ -130,11 +130,11 @@ not-refused-overrun doc p command r x t (illegal ranked es k why script broken) 
 
 -- a plan's overrun stands in one line, after any words
 one-overrun-after : (words : List ℕ) (p : Plan) (x y : Instance) (t u : ℕ) → IsOverrun p (left_of p (service p)) t x → IsOverrun p (left_of p (service p)) u y
-    → overrun_after words (declared p x.task).name x.number t ≡ overrun_after words (declared p y.task).name y.number u
+    → overrun_after words (declared_task p x.task).name x.number t ≡ overrun_after words (declared_task p y.task).name y.number u
 one-overrun-after words p x y t u late again =
     let times : t ≡ u = one_time p (left_of p (service p)) t u x y late again in
     let same : x ≡ y = one_overrun p (left_of p (service p)) t u x y late again in
-    λ i. overrun_after words (declared p (same i).task).name (same i).number (times i)
+    λ i. overrun_after words (declared_task p (same i).task).name (same i).number (times i)
 
 one-simulation-line : (p : Plan) (a b : List ℕ) → IsSimulationLine p a → IsSimulationLine p b → a ≡ b
 one-simulation-line p a b (sim.same none) (sim.same also) = refl
@@ -208,13 +208,13 @@ module _
         ap (λ (w : Refusal). refusal_line w) (one-plan-refusal y.doc q command r s (same-accepted input p q x y (λ doc plan. PlanRefusal doc plan command r) here) there)
 
     one-overrun-line : (p : Plan) (command : Command) (x y : Instance) (t u : ℕ) → PlanOverrun p command x t → PlanOverrun p command y u
-        → overrun_line (declared p x.task).name x.number t ≡ overrun_line (declared p y.task).name y.number u
+        → overrun_line (declared_task p x.task).name x.number t ≡ overrun_line (declared_task p y.task).name y.number u
     one-overrun-line p command x y t u (overrun record_it a b late) (overrun record_it' c d again) = one-overrun-after (codes "overrun: ") p x y t u late again
 
     one-overrun-of : (input : List ℕ) (command : Command) (a b : List ℕ) (m n t u : ℕ) → Overruns input command a m t → Overruns input command b n u → overrun_line a m t ≡ overrun_line b n u
     one-overrun-of input command a b m n t u (of_plan_overrun p x v accepted late) (of_plan_overrun q y w also again) =
         let same : p ≡ q = one_plan input p q accepted also in
-        ap (λ (r : Plan). overrun_line (declared r x.task).name x.number t) same
+        ap (λ (r : Plan). overrun_line (declared_task r x.task).name x.number t) same
         ∙ one-overrun-line q command x y t u (subst (λ (r : Plan). PlanOverrun r command x t) same late) again
 
     one-line : (input : List ℕ) (command : Command) (a b : List ℕ) → IsOverrunLine input command a → IsOverrunLine input command b → a ≡ b

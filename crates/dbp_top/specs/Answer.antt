@@ -4,7 +4,7 @@ use Rattle.dbp_rules.specs.declared.step.Count.{Count}
 use Rattle.dbp_rules.specs.declared.step.Count.TheVariants.{Ranked, All}
 use Rattle.dbp_rules.specs.declared.step.Illegal.{Illegal as Broken}
 use Rattle.dbp_rules.specs.declared.step.Step.{Step}
-use Rattle.dbp_plan.specs.Lookups.{declared}
+use Rattle.dbp_plan.specs.Lookups.{declared_task}
 use Rattle.dbp_plan.specs.declared.plan.Plan.{Plan}
 use Rattle.dbp_plan.specs.declared.table.Table.{Table}
 use Rattle.dbp_load.specs.Texts.{generated_text}
@@ -104,7 +104,7 @@ pub data IsRefused (input : List ℕ) : Command → Refusal → Type 0 where
 -- released instance, and the time
 pub data Overruns (input : List ℕ) (command : Command) : List ℕ → ℕ → ℕ → Type 0 where
   of_plan_overrun : (plan : Plan) (x : Instance) (time : ℕ) → Accepts input plan → PlanOverrun plan command x time
-      → Overruns input command (declared plan x.task).name x.number time
+      → Overruns input command (declared_task plan x.task).name x.number time
 
 -- the line that says so
 pub data IsOverrunLine (input : List ℕ) (command : Command) : List ℕ → Type 0 where

@@ -1,7 +1,7 @@
 -- What a soak writes of the document that it made.
 use Rattle.std.specs.Prelude.{ℕ, ℤ, ◌+◌, ◌%◌, ◌^◌, List, [], ◌∷◌, ◌++◌, codes, drop, fold, length}
 use Rattle.std.specs.Fmt.{decimal}
-use Rattle.dbp_plan.specs.Lookups.{declared}
+use Rattle.dbp_plan.specs.Lookups.{declared_task}
 use Rattle.dbp_plan.specs.Occurrences.{occurrence_count}
 use Rattle.dbp_plan.specs.declared.plan.Plan.{Plan}
 use Rattle.dbp_plan.specs.declared.table.Table.{Table}
@@ -34,7 +34,7 @@ count_line word number = word ++ 32 ∷ decimal number ++ 10 ∷ []
 pub data IsSimulationLine (plan : Plan) : List ℕ → Type 0 where
   same : NoOverrun plan (left_of plan (service plan)) → IsSimulationLine plan (codes "sim same\n")
   overran : (x : Instance) (time : ℕ) → IsOverrun plan (left_of plan (service plan)) time x
-      → IsSimulationLine plan (overrun_after (codes "sim overrun ") (declared plan x.task).name x.number time)
+      → IsSimulationLine plan (overrun_after (codes "sim overrun ") (declared_task plan x.task).name x.number time)
 
 -- the six lines: tasks, links, occurrences, the total of the meaning's table, its simulation, and its run, which has
 -- the same table

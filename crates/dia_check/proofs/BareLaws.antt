@@ -7,7 +7,7 @@ use Rattle.std.proofs.lemmas.List.{length-map, map-append}
 use Rattle.std.proofs.lemmas.Option.{same_Some, slice_get-map}
 use Rattle.dbp_plan.specs.declared.diagram.Diagram.{Diagram}
 use Rattle.dbp_plan.specs.declared.diagram.Task.{Task}
-use Rattle.dbp_plan.specs.FirstFault.{faults_behind, first_fault}
+use Rattle.dbp_plan.specs.FirstFault.{faults_after, first_fault}
 use Rattle.dia_lines.specs.declared.item.Part.{Part}
 use Rattle.dia_lines.specs.declared.item.Part.TheVariants as part
 use Rattle.dia_read.specs.declared.document.Body.{Body}
@@ -103,10 +103,10 @@ same-part-fault body t before (part.Out n v e) = refl
 same-task-fault : (body : Body) (before : List RawTask) (t : RawTask) → task_fault (bare_body body) (map bare_raw_task before) (bare_raw_task t) ≡ task_fault body before t
 same-task-fault body before t = rw (same-names before) refl
 
-same-behind : {A F : Type 0} (f g : List A → A → Option F) → ((before : List A) (x : A) → f before x ≡ g before x) → (before xs : List A) (ns : List ℕ) → faults_behind f before xs ns ≡ faults_behind g before xs ns
-same-behind f g same before [] ns = refl
-same-behind f g same before (x ∷ xs) [] = refl
-same-behind f g same before (x ∷ xs) (n ∷ ns) = rw (same before x, same-behind f g same (before ++ x ∷ []) xs ns) refl
+same-after : {A F : Type 0} (f g : List A → A → Option F) → ((before : List A) (x : A) → f before x ≡ g before x) → (before xs : List A) (ns : List ℕ) → faults_after f before xs ns ≡ faults_after g before xs ns
+same-after f g same before [] ns = refl
+same-after f g same before (x ∷ xs) [] = refl
+same-after f g same before (x ∷ xs) (n ∷ ns) = rw (same before x, same-after f g same (before ++ x ∷ []) xs ns) refl
 
 same-task-faults : (body : Body) (before ts : List RawTask) (ns parts : List ℕ)
     → task_faults (bare_body body) (map bare_raw_task before) (map bare_raw_task ts) ns parts ≡ task_faults body before ts ns parts
@@ -117,13 +117,13 @@ same-task-faults body before (t ∷ ts) (n ∷ ns) parts =
     let rest : task_faults (bare_body body) (map bare_raw_task before ++ bare_raw_task t ∷ []) (map bare_raw_task ts) ns later ≡ task_faults body (before ++ t ∷ []) ts ns later =
     subst (λ front. task_faults (bare_body body) front (map bare_raw_task ts) ns later ≡ task_faults body (before ++ t ∷ []) ts ns later) (map-append bare_raw_task before (t ∷ []))
     (same-task-faults body (before ++ t ∷ []) ts ns later) in
-    rw (same-task-fault body before t, same-behind (part_fault (bare_body body) (bare_raw_task t)) (part_fault body t) (same-part-fault body t) [] t.parts parts, rest) refl
+    rw (same-task-fault body before t, same-after (part_fault (bare_body body) (bare_raw_task t)) (part_fault body t) (same-part-fault body t) [] t.parts parts, rest) refl
 
 abbrev faults_of : Body → List ℕ → List ℕ → List ℕ → List (ℕ × Option LineFault)
-faults_of body decls tasks parts = faults_behind decl_fault [] body.decls decls ++ task_faults body [] body.tasks tasks parts
+faults_of body decls tasks parts = faults_after decl_fault [] body.decls decls ++ task_faults body [] body.tasks tasks parts
 
 same-faults : (body : Body) (decls tasks parts : List ℕ) → faults_of (bare_body body) decls tasks parts ≡ faults_of body decls tasks parts
-same-faults body decls tasks parts = ap (λ fs. faults_behind decl_fault [] body.decls decls ++ fs) (same-task-faults body [] body.tasks tasks parts)
+same-faults body decls tasks parts = ap (λ fs. faults_after decl_fault [] body.decls decls ++ fs) (same-task-faults body [] body.tasks tasks parts)
 
 pub same-line-faults : (a b : Doc) → HaveSameBareBody a b → StandOnSameLines a b → line_faults a ≡ line_faults b
 same-line-faults a b same lines =

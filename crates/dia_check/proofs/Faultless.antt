@@ -11,7 +11,7 @@ use Rattle.dia_read.specs.declared.document.RawTask.{RawTask}
 use Rattle.dia_read.specs.Printable.{HasItemLines}
 use Rattle.dia_check.specs.Faults.{decl_fault, task_fault, part_fault, task_faults, line_faults}
 use Rattle.dbp_plan.proofs.FirstFaults.{append-none, cons-none}
-use Rattle.dbp_plan.specs.FirstFault.{faults_behind, first_fault}
+use Rattle.dbp_plan.specs.FirstFault.{faults_after, first_fault}
 
 -- no line of the body has a fault, item by item
 pub record IsFaultless (body : Body) : Type 0 where
@@ -19,16 +19,16 @@ pub record IsFaultless (body : Body) : Type 0 where
   pub tasks : (i : ℕ) (t : RawTask) → slice_get body.tasks i ≡ Some t → task_fault body (take i body.tasks) t ≡ None
   pub parts : (i j : ℕ) (t : RawTask) (p : Part) → slice_get body.tasks i ≡ Some t → slice_get t.parts j ≡ Some p → part_fault body t (take j t.parts) p ≡ None
 
-items-faultless : {A F : Type 0} (fault : List A → A → Option F) (before xs : List A) (ns : List ℕ) → length xs ≤ length ns → first_fault (faults_behind fault before xs ns) ≡ None
+items-faultless : {A F : Type 0} (fault : List A → A → Option F) (before xs : List A) (ns : List ℕ) → length xs ≤ length ns → first_fault (faults_after fault before xs ns) ≡ None
     → (j : ℕ) (x : A) → slice_get xs j ≡ Some x → fault (before ++ take j xs) x ≡ None
 items-faultless fault before [] ns few none j x at = absurd cc
 items-faultless fault before (y ∷ xs) [] few none j x at = absurd (omega arith)
 items-faultless fault before (y ∷ xs) (n ∷ ns) few none zero x at =
     let same : y ≡ x = cc in
-    let here = (cons-none n (fault before y) (faults_behind fault (before ++ y ∷ []) xs ns) none).0 in
+    let here = (cons-none n (fault before y) (faults_after fault (before ++ y ∷ []) xs ns) none).0 in
     subst (λ z. fault (before ++ []) z ≡ None) same (subst (λ front. fault front y ≡ None) (sym (append-nil before)) here)
 items-faultless fault before (y ∷ xs) (n ∷ ns) few none (suc j) x at =
-    let rest = (cons-none n (fault before y) (faults_behind fault (before ++ y ∷ []) xs ns) none).1 in
+    let rest = (cons-none n (fault before y) (faults_after fault (before ++ y ∷ []) xs ns) none).1 in
     subst (λ front. fault front x ≡ None) (append_assoc before (y ∷ []) (take j xs)) (items-faultless fault (before ++ y ∷ []) xs ns (omega arith) rest j x at)
 
 -- the task and the lines of its body
@@ -49,19 +49,19 @@ tasks-faultless body before (u ∷ ts) [] parts few lines none i t at = absurd (
 tasks-faultless body before (u ∷ ts) (n ∷ ns) parts few lines none zero t at =
     let same : u ≡ t = cc in
     let here = cons-none n (task_fault body before u) _ none in
-    let parted = append-none (faults_behind (part_fault body u) [] u.parts parts) _ here.1 in
+    let parted = append-none (faults_after (part_fault body u) [] u.parts parts) _ here.1 in
     subst (λ v. OneFaultless body (before ++ []) v) same
     (subst (λ front. OneFaultless body front u) (sym (append-nil before)) (here.0, items-faultless (part_fault body u) [] u.parts parts (enough u ts parts lines).0 parted.0))
 tasks-faultless body before (u ∷ ts) (n ∷ ns) parts few lines none (suc i) t at =
     let here = cons-none n (task_fault body before u) _ none in
-    let parted = append-none (faults_behind (part_fault body u) [] u.parts parts) _ here.1 in
+    let parted = append-none (faults_after (part_fault body u) [] u.parts parts) _ here.1 in
     subst (λ front. OneFaultless body front t) (append_assoc before (u ∷ []) (take i ts))
     (tasks-faultless body (before ++ u ∷ []) ts ns (drop (length u.parts) parts) (omega arith) (enough u ts parts lines).1 parted.1 i t at)
 
 pub faultless : (doc : Doc) → HasItemLines doc → first_fault (line_faults doc) ≡ None → IsFaultless doc.body
 faultless doc lines none =
     let body = doc.body in
-    let both = append-none (faults_behind decl_fault [] body.decls doc.lines.decls) (task_faults body [] body.tasks doc.lines.tasks doc.lines.parts) none in
+    let both = append-none (faults_after decl_fault [] body.decls doc.lines.decls) (task_faults body [] body.tasks doc.lines.tasks doc.lines.parts) none in
     let each = tasks-faultless body [] body.tasks doc.lines.tasks doc.lines.parts (omega (arith, lines.tasks)) (omega (arith, lines.parts)) both.1 in
     record {
       decls = items-faultless decl_fault [] body.decls doc.lines.decls (omega (arith, lines.decls)) both.0;

@@ -19,5 +19,5 @@ another-line (Let m e) ps n ns isnt = absurd (isnt m e refl)
 another-line (Next m e) ps n ns isnt = refl
 another-line (Out m v e) ps n ns isnt = refl
 
-pub get-behind : (n : ℕ) (ns : List ℕ) (j m : ℕ) → j ≡ suc m → slice_get (n ∷ ns) j ≡ slice_get ns m
-get-behind n ns j m is = ap (slice_get (n ∷ ns)) is
+pub get-after : (n : ℕ) (ns : List ℕ) (j m : ℕ) → j ≡ suc m → slice_get (n ∷ ns) j ≡ slice_get ns m
+get-after n ns j m is = ap (slice_get (n ∷ ns)) is

@@ -32,7 +32,7 @@ use Rattle.dia_check.specs.Names.{task_names, out_name, env_names, port_names}
 use Rattle.dia_check.proofs.ClosedTasks.{outs-alike}
 use Rattle.dia_check.proofs.DiagramTasks.{raw-at, task-at}
 use Rattle.dia_check.proofs.Faultless.{IsFaultless}
-use Rattle.dia_check.proofs.LinkLists.{same-links, all-firsts, firsts-few, firsts-differ, firsts-have, all-made, all-front, all-behind, made-by-one, any-at, any-made, number-is, same-sums}
+use Rattle.dia_check.proofs.LinkLists.{same-links, all-firsts, firsts-few, firsts-differ, firsts-have, all-made, all-front, all-after, made-by-one, any-at, any-made, number-is, same-sums}
 
 -- ---- the links of read lines
 
@@ -67,13 +67,13 @@ used-by-one P tasks number (u ∷ ts) zero j t p at_t at_p all =
     subst (λ n. All P (link_of tasks n p)) here (made-by-one P (link_of tasks number) t.parts j p at_p front)
 used-by-one P tasks number (u ∷ ts) (suc i) j t p at_t at_p all =
     let later : number + 1 + i ≡ number + suc i = omega arith in
-    subst (λ n. All P (link_of tasks n p)) later (used-by-one P tasks (number + 1) ts i j t p at_t at_p (all-behind P (flat_map (link_of tasks number) u.parts) _ all))
+    subst (λ n. All P (link_of tasks n p)) later (used-by-one P tasks (number + 1) ts i j t p at_t at_p (all-after P (flat_map (link_of tasks number) u.parts) _ all))
 
 pub links_used-append : (tasks : List RawTask) (number : ℕ) (ts us : List RawTask) → links_used tasks number (ts ++ us) ≡ links_used tasks number ts ++ links_used tasks (number + length ts) us
 links_used-append tasks number [] us = ap (λ n. links_used tasks n us) (omega arith)
 links_used-append tasks number (t ∷ ts) us =
-    let behind : number + 1 + length ts ≡ number + suc (length ts) = omega arith in
-    ap (λ ls. flat_map (link_of tasks number) t.parts ++ ls) (links_used-append tasks (number + 1) ts us ∙ ap (λ n. links_used tasks (number + 1) ts ++ links_used tasks n us) behind)
+    let after : number + 1 + length ts ≡ number + suc (length ts) = omega arith in
+    ap (λ ls. flat_map (link_of tasks number) t.parts ++ ls) (links_used-append tasks (number + 1) ts us ∙ ap (λ n. links_used tasks (number + 1) ts ++ links_used tasks n us) after)
     ∙ sym (append_assoc (flat_map (link_of tasks number) t.parts) (links_used tasks (number + 1) ts) (links_used tasks (number + suc (length ts)) us))
 
 pub links-used-add : (tasks : List RawTask) (number : ℕ) (ts : List RawTask) (k : ℕ) (t : RawTask) → k < length ts → t ≡ get_or ts k t

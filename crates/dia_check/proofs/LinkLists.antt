@@ -75,15 +75,15 @@ with_link links l = if list_any (λ k. is_same_link k l) links then links else l
 with-first : (x l : Link) (links : List Link) → x ∷ filter (λ k. not (is_same_link x k)) (with_link links l) ≡ with_link (x ∷ filter (λ k. not (is_same_link x k)) links) l
 with-first x l links =
     let test = λ (k : Link). not (is_same_link x k) in
-    let behind = filter-append test links (l ∷ []) in
+    let after = filter-append test links (l ∷ []) in
     elim (cases_Bool (is_same_link x l)) [
       | inl same ↦
           let none : filter test (l ∷ []) ≡ [] = rw same refl in
-          let last : filter test (links ++ l ∷ []) ≡ filter test links = behind ∙ ap (λ ks. filter test links ++ ks) none ∙ append-nil (filter test links) in
+          let last : filter test (links ++ l ∷ []) ≡ filter test links = after ∙ ap (λ ks. filter test links ++ ks) none ∙ append-nil (filter test links) in
           elim (cases_Bool (list_any (λ k. is_same_link k l) links)) [ inl is ↦ rw (is, same) refl | inr isnt ↦ rw (isnt, same, last) refl ]
       | inr differs ↦
           let one : filter test (l ∷ []) ≡ l ∷ [] = rw differs refl in
-          let last : filter test (links ++ l ∷ []) ≡ filter test links ++ l ∷ [] = behind ∙ ap (λ ks. filter test links ++ ks) one in
+          let last : filter test (links ++ l ∷ []) ≡ filter test links ++ l ∷ [] = after ∙ ap (λ ks. filter test links ++ ks) one in
           let any = any-same x l links differs in
           elim (cases_Bool (list_any (λ k. is_same_link k l) links)) [ inl is ↦ rw (is, differs, any, is) refl | inr isnt ↦ rw (isnt, differs, any, isnt, last) refl ]
     ]
@@ -133,11 +133,11 @@ number-stays used (m ∷ more) l known =
 pub firsts-have : (used : List Link) → All (λ l. list_any (λ k. is_same_link k l) (firsts used) ≡ true) used
 firsts-have [] = All-nil _
 firsts-have (x ∷ used) =
-    let rest : All (λ l. list_any (λ k. is_same_link k l) (firsts (x ∷ used)) ≡ true) used = λ j d below. kept-behind x (firsts used) (get_or used j d) (firsts-have used j d below) in
+    let rest : All (λ l. list_any (λ k. is_same_link k l) (firsts (x ∷ used)) ≡ true) used = λ j d below. kept-after x (firsts used) (get_or used j d) (firsts-have used j d below) in
     All-cons (λ l. list_any (λ k. is_same_link k l) (firsts (x ∷ used)) ≡ true) x used (rw (link-itself x) refl) rest
   where
-    kept-behind : (x : Link) (links : List Link) (l : Link) → list_any (λ k. is_same_link k l) links ≡ true → list_any (λ k. is_same_link k l) (x ∷ filter (λ k. not (is_same_link x k)) links) ≡ true
-    kept-behind x links l among = elim (cases_Bool (is_same_link x l)) [
+    kept-after : (x : Link) (links : List Link) (l : Link) → list_any (λ k. is_same_link k l) links ≡ true → list_any (λ k. is_same_link k l) (x ∷ filter (λ k. not (is_same_link x k)) links) ≡ true
+    kept-after x links l among = elim (cases_Bool (is_same_link x l)) [
       | inl same ↦ rw same refl
       | inr differs ↦ rw (differs, any-same x l links differs) among
     ]
@@ -167,14 +167,14 @@ all-parts P (x ∷ xs) ys all =
 pub all-front : {A : Type 0} (P : A → Type 0) (xs ys : List A) → All P (xs ++ ys) → All P xs
 all-front P xs ys all = (all-parts P xs ys all).0
 
-pub all-behind : {A : Type 0} (P : A → Type 0) (xs ys : List A) → All P (xs ++ ys) → All P ys
-all-behind P xs ys all = (all-parts P xs ys all).1
+pub all-after : {A : Type 0} (P : A → Type 0) (xs ys : List A) → All P (xs ++ ys) → All P ys
+all-after P xs ys all = (all-parts P xs ys all).1
 
 -- what holds of all that are made holds of those that one item makes
 pub made-by-one : {A B : Type 0} (P : B → Type 0) (f : A → List B) (xs : List A) (j : ℕ) (x : A) → slice_get xs j ≡ Some x → All P (flat_map f xs) → All P (f x)
 made-by-one P f [] j x at all = absurd cc
 made-by-one P f (y ∷ xs) zero x at all = subst (λ z. All P (f z)) (same_Some y x at) (all-front P (f y) (flat_map f xs) all)
-made-by-one P f (y ∷ xs) (suc j) x at all = made-by-one P f xs j x at (all-behind P (f y) (flat_map f xs) all)
+made-by-one P f (y ∷ xs) (suc j) x at all = made-by-one P f xs j x at (all-after P (f y) (flat_map f xs) all)
 
 pub any-at : {A : Type 0} (test : A → Bool) (xs : List A) (i : ℕ) (x : A) → slice_get xs i ≡ Some x → test x ≡ true → list_any test xs ≡ true
 any-at test xs i x at passes = list_any_at test xs i x (slice_get_within xs i x at) (ap test (get_or_from_slice_get xs i x x at) ∙ passes)

@@ -5,7 +5,7 @@ use Rattle.std.specs.List.{flat_map, list_any}
 use Rattle.std.proofs.lemmas.Bool.{not-true, not-false}
 use Rattle.std.proofs.lemmas.Option.{none-some, same_Some}
 use Rattle.dbp_plan.specs.FirstFault.{first_fault}
-use Rattle.dbp_plan.proofs.ListParts.{nothing-behind, split-at}
+use Rattle.dbp_plan.proofs.ListParts.{nothing-after, split-at}
 use Rattle.dia_lines.specs.declared.item.Part.{Part}
 use Rattle.dia_lines.specs.declared.item.Part.TheVariants.{State, Sense, Read, Let, Next, Out}
 use Rattle.dia_read.specs.declared.document.Doc.{Doc}
@@ -132,4 +132,4 @@ module _ (ts : List RawTask) (ns : List ℕ) (k : ℕ) (t : RawTask) (n : ℕ) (
   line-later has none = from-here ∙ rw (has, none) refl
 
 pub no-line : (ts : List RawTask) (ns : List ℕ) (k : ℕ) → length ts ≤ k → outless_line (drop k ts) (drop k ns) ≡ None
-no-line ts ns k end = ap (λ us. outless_line us (drop k ns)) (nothing-behind ts k end)
+no-line ts ns k end = ap (λ us. outless_line us (drop k ns)) (nothing-after ts k end)

@@ -17,7 +17,7 @@ use Rattle.dbp_plan.specs.declared.diagram.Task.{Task}
 use Rattle.dbp_plan.specs.Closed.{IsClosed}
 use Rattle.dbp_plan.specs.Ranked.{IsRanked}
 use Rattle.dbp_plan.specs.Ranks.{is_above, ranks_of}
-use Rattle.dbp_plan.specs.FirstFault.{faults_behind, first_fault}
+use Rattle.dbp_plan.specs.FirstFault.{faults_after, first_fault}
 use Rattle.dbp_plan.proofs.RankLaws.{above-fewer, above-total, length-ranks_of, rank-index, ranks-apart}
 use Rattle.dbp_plan.proofs.ListParts.{split-at}
 use Rattle.dbp_plan.proofs.FirstFaults.{append-none, cons-none, first-append, first-front}
@@ -105,11 +105,11 @@ module _ (p : Policy) (tasks : List Task) where
 -- ---- no fault
 
 each-none : {A F : Type 0} (fault : A → Option F) (before xs : List A) (ns : List ℕ) → length xs ≤ length ns
-    → first_fault (faults_behind (λ ys x. fault x) before xs ns) ≡ None → All (λ x. fault x ≡ None) xs
+    → first_fault (faults_after (λ ys x. fault x) before xs ns) ≡ None → All (λ x. fault x ≡ None) xs
 each-none fault before [] ns few none = λ k d below. absurd (omega arith)
 each-none fault before (x ∷ xs) [] few none = absurd (omega arith)
 each-none fault before (x ∷ xs) (n ∷ ns) few none =
-    let both = cons-none n (fault x) (faults_behind (λ ys y. fault y) (before ++ x ∷ []) xs ns) none in
+    let both = cons-none n (fault x) (faults_after (λ ys y. fault y) (before ++ x ∷ []) xs ns) none in
     All-cons (λ y. fault y ≡ None) x xs both.0 (each-none fault (before ++ x ∷ []) xs ns (omega (arith, few)) both.1)
 
 if-none : (test : Bool) (f : RankFault) → (if test then Some f else None) ≡ None → test ≡ false
@@ -157,7 +157,7 @@ not-above ranks l direct none =
     grind (arith, nat_tests)
 
 abbrev pub task_lines_faults : Shaped → List (ℕ × Option RankFault)
-task_lines_faults s = faults_behind (λ before t. task_rank_fault s.diagram.policy t) [] s.diagram.tasks s.task_lines
+task_lines_faults s = faults_after (λ before t. task_rank_fault s.diagram.policy t) [] s.diagram.tasks s.task_lines
 
 abbrev pub read_lines_faults : Shaped → List (ℕ × Option RankFault)
 read_lines_faults s = map (read_line_fault (ranks_of s.diagram.policy s.diagram.tasks) s.diagram.links) s.read_lines

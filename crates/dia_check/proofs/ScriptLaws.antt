@@ -6,7 +6,7 @@ use Rattle.std.proofs.lemmas.List.{length-drop}
 use Rattle.std.proofs.lemmas.List.Sums.{sum_by-cons}
 use Rattle.dbp_plan.specs.declared.diagram.Diagram.{Diagram}
 use Rattle.dbp_plan.specs.declared.diagram.Task.{Task}
-use Rattle.dbp_plan.specs.FirstFault.{faults_behind, first_fault}
+use Rattle.dbp_plan.specs.FirstFault.{faults_after, first_fault}
 use Rattle.dbp_plan.specs.Ranks.{ranks_of}
 use Rattle.dbp_plan.proofs.FirstFaults.{append-none, cons-none, first-append}
 use Rattle.dia_lines.specs.declared.item.Part.{Part}
@@ -29,13 +29,13 @@ use Rattle.dia_check.proofs.ReadLines.{lines-of-shape}
 -- ---- no fault, whatever the numbers of the lines
 
 pub none-again : {A F : Type 0} (fault same : List A → A → Option F) → ((before : List A) (x : A) → fault before x ≡ same before x)
-    → (before xs : List A) (ns ms : List ℕ) → length xs ≤ length ns → first_fault (faults_behind fault before xs ns) ≡ None
-    → first_fault (faults_behind same before xs ms) ≡ None
+    → (before xs : List A) (ns ms : List ℕ) → length xs ≤ length ns → first_fault (faults_after fault before xs ns) ≡ None
+    → first_fault (faults_after same before xs ms) ≡ None
 none-again fault same are before [] ns ms few none = refl
 none-again fault same are before (x ∷ xs) [] ms few none = absurd (omega (arith, few))
 none-again fault same are before (x ∷ xs) (n ∷ ns) [] few none = refl
 none-again fault same are before (x ∷ xs) (n ∷ ns) (m ∷ ms) few none =
-    let parts = cons-none n (fault before x) (faults_behind fault (before ++ x ∷ []) xs ns) none in
+    let parts = cons-none n (fault before x) (faults_after fault (before ++ x ∷ []) xs ns) none in
     let first : same before x ≡ None = sym (are before x) ∙ parts.0 in
     rw first (none-again fault same are (before ++ x ∷ []) xs ns ms (omega (arith, few)) parts.1)
 
@@ -58,16 +58,16 @@ module _ (script : Option (List ℕ)) (body : Body) where
   tasks-again before (t ∷ ts) (n ∷ ns) [] parts others few enough none = refl
   tasks-again before (t ∷ ts) (n ∷ ns) (m ∷ ms) parts others few enough none =
       let sum = sum_by-cons (λ (u : RawTask). length u.parts) t ts in
-      let behind = faults_behind (part_fault body t) [] t.parts parts in
+      let after = faults_after (part_fault body t) [] t.parts parts in
       let rest = task_faults body (before ++ t ∷ []) ts ns (drop (length t.parts) parts) in
-      let first = cons-none n (task_fault body before t) (behind ++ rest) none in
-      let both = append-none behind rest first.1 in
+      let first = cons-none n (task_fault body before t) (after ++ rest) none in
+      let both = append-none after rest first.1 in
       let head : task_fault (with_script script body) before t ≡ None = first.0 in
       let own = none-again (part_fault body t) (part_fault (with_script script body) t) (part-same t) [] t.parts parts others (omega (arith, sum, enough)) both.0 in
       let later = tasks-again (before ++ t ∷ []) ts ns ms (drop (length t.parts) parts) (drop (length t.parts) others) (omega (arith, few)) (omega (arith, sum, enough, length-drop (length t.parts) parts)) both.1 in
-      let others_behind = faults_behind (part_fault (with_script script body) t) [] t.parts others in
+      let others_after = faults_after (part_fault (with_script script body) t) [] t.parts others in
       let others_rest = task_faults (with_script script body) (before ++ t ∷ []) ts ms (drop (length t.parts) others) in
-      rw head (first-append others_behind others_rest own ∙ later)
+      rw head (first-append others_after others_rest own ∙ later)
 
   module _ (lines others : DocLines) where
     abbrev doc : Doc
@@ -78,10 +78,10 @@ module _ (script : Option (List ℕ)) (body : Body) where
 
     lines-again : HasItemLines doc → first_fault (line_faults doc) ≡ None → first_fault (line_faults other) ≡ None
     lines-again items none =
-        let decls = faults_behind decl_fault [] body.decls lines.decls in
+        let decls = faults_after decl_fault [] body.decls lines.decls in
         let tasks = task_faults body [] body.tasks lines.tasks lines.parts in
         let both = append-none decls tasks none in
-        let others_decls = faults_behind decl_fault [] body.decls others.decls in
+        let others_decls = faults_after decl_fault [] body.decls others.decls in
         let others_tasks = task_faults (with_script script body) [] body.tasks others.tasks others.parts in
         first-append others_decls others_tasks (none-again decl_fault decl_fault (λ before x. refl) [] body.decls lines.decls others.decls (omega (arith, items.decls)) both.0)
         ∙ tasks-again [] body.tasks lines.tasks others.tasks lines.parts others.parts (omega (arith, items.tasks)) (omega (arith, items.parts)) both.1
@@ -125,13 +125,13 @@ module _ (script : Option (List ℕ)) (body : Body) where
     ranks-again s items more is none =
         let d = s.diagram in
         let ranks = ranks_of d.policy d.tasks in
-        let tasks = faults_behind (λ before t. task_rank_fault d.policy t) [] d.tasks s.task_lines in
+        let tasks = faults_after (λ before t. task_rank_fault d.policy t) [] d.tasks s.task_lines in
         let reads = map (λ r. (r.line, read_rank_fault ranks d.links r)) s.read_lines in
         let both = append-none tasks reads none in
         let here : HasLines s = lines-of-shape doc d s.task_lines s.read_lines items is.diagram is.task_lines is.read_lines in
         let there : HasLines (shaped_again s) = lines-of-shape other d others.tasks (read_lines_of other) more (diagram-again d is.diagram) refl refl in
         let fault = λ (before : List Task) (t : Task). task_rank_fault d.policy t in
-        let others_tasks = faults_behind fault [] d.tasks others.tasks in
+        let others_tasks = faults_after fault [] d.tasks others.tasks in
         let others_reads = map (λ r. (r.line, read_rank_fault ranks d.links r)) (read_lines_of other) in
         first-append others_tasks others_reads (none-again fault fault (λ before t. refl) [] d.tasks s.task_lines others.tasks (omega (arith, here.tasks)) both.0)
         ∙ links-none (λ k. option_and_then (link_rank_fault ranks) (slice_get d.links k)) s.read_lines (read_lines_of other) (here.reads ∙ sym there.reads) both.1

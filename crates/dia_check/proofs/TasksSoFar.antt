@@ -8,7 +8,7 @@ use Rattle.std.proofs.lemmas.Option.{slice_get_read, slice_get_within, slice_get
 use Rattle.dbp_plan.specs.declared.diagram.Link.{Link}
 use Rattle.dbp_plan.specs.declared.diagram.Task.{Task}
 use Rattle.dbp_plan.specs.FirstFault.{first_fault}
-use Rattle.dbp_plan.proofs.ListParts.{nothing-behind, split-at, take-next}
+use Rattle.dbp_plan.proofs.ListParts.{nothing-after, split-at, take-next}
 use Rattle.dia_read.specs.declared.document.Doc.{Doc}
 use Rattle.dia_read.specs.declared.document.RawTask.{RawTask}
 use Rattle.dia_read.specs.Printable.{HasItemLines, IsPrintable}
@@ -84,9 +84,9 @@ module _ (doc : Doc) where
     lines-there lines =
         let parts : RawTask → ℕ = λ t. length t.parts in
         let long : length rest ≡ length (part_lines doc k) = ap (λ (ns : List ℕ). length ns) from.rest_is in
-        let behind : sum_by parts (drop k doc.body.tasks) ≡ parts (get_or doc.body.tasks k raw) + sum_by parts (drop (k + 1) doc.body.tasks) = sum_by-drop_more parts doc.body.tasks k raw below in
+        let after : sum_by parts (drop k doc.body.tasks) ≡ parts (get_or doc.body.tasks k raw) + sum_by parts (drop (k + 1) doc.body.tasks) = sum_by-drop_more parts doc.body.tasks k raw below in
         let this : parts (get_or doc.body.tasks k raw) ≡ length raw.parts = ap parts (sym is) in
-        omega (arith, long, length-drop (sum_by parts (take k doc.body.tasks)) doc.lines.parts, sum_by-take-drop parts doc.body.tasks k, behind, this, lines.parts)
+        omega (arith, long, length-drop (sum_by parts (take k doc.body.tasks)) doc.lines.parts, sum_by-take-drop parts doc.body.tasks k, after, this, lines.parts)
 
     pub tasks-next : (t : Task) → IsTaskOf doc.body k raw t → IsWhole raw → TasksSoFar (k + 1) (made ++ t ∷ []) (drop (length raw.parts) rest)
     tasks-next t task whole = record {
@@ -131,7 +131,7 @@ module _ (doc : Doc) where
   found-all k rest f from_f end =
       let tasks = doc.body.tasks in (
         from_f.links ∙ ap (λ ts. firsts (links_used tasks 0 ts)) (take_all k tasks (omega (arith, end))),
-        sym (from_f.lines ∙ ap (λ ts. f.lines ++ read_lines_from tasks k ts rest) (nothing-behind tasks k (omega (arith, end))) ∙ append-nil f.lines),
+        sym (from_f.lines ∙ ap (λ ts. f.lines ++ read_lines_from tasks k ts rest) (nothing-after tasks k (omega (arith, end))) ∙ append-nil f.lines),
       )
 
   pub tasks-all : (k : ℕ) (made : List Task) (rest : List ℕ) → TasksSoFar k made rest → k ≡ length doc.body.tasks → AreTasksOf doc.body made × AreWhole doc.body.tasks

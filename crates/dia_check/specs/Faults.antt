@@ -5,7 +5,7 @@ use Rattle.std.specs.Str.{bytes_eq}
 use Rattle.dbp_plan.specs.declared.expr.Expr.{Expr}
 use Rattle.dbp_plan.specs.declared.node.Node.{Node}
 use Rattle.dbp_plan.specs.declared.node.Node.TheVariants.{Var}
-use Rattle.dbp_plan.specs.FirstFault.{faults_behind, first_fault}
+use Rattle.dbp_plan.specs.FirstFault.{faults_after, first_fault}
 use Rattle.dbp_plan.specs.NameLists.{is_among}
 use Rattle.dia_lines.specs.declared.item.Decl.{Decl}
 use Rattle.dia_lines.specs.declared.item.Part.{Part}
@@ -95,12 +95,12 @@ part_fault body t before p =
 -- each task with the number of its line and its first fault, and the lines of its body after it
 abbrev pub task_faults : Body → List RawTask → List RawTask → List ℕ → List ℕ → List (ℕ × Option LineFault)
 task_faults body before (t ∷ ts) (n ∷ ns) parts =
-    (n, task_fault body before t) ∷ (faults_behind (part_fault body t) [] t.parts parts ++ task_faults body (before ++ t ∷ []) ts ns (drop (length t.parts) parts))
+    (n, task_fault body before t) ∷ (faults_after (part_fault body t) [] t.parts parts ++ task_faults body (before ++ t ∷ []) ts ns (drop (length t.parts) parts))
 task_faults body before _ _ parts = []
 
 -- the lines of declarations, tasks and bodies, if each of them has a number
 abbrev pub line_faults : Doc → List (ℕ × Option LineFault)
-line_faults doc = faults_behind decl_fault [] doc.body.decls doc.lines.decls ++ task_faults doc.body [] doc.body.tasks doc.lines.tasks doc.lines.parts
+line_faults doc = faults_after decl_fault [] doc.body.decls doc.lines.decls ++ task_faults doc.body [] doc.body.tasks doc.lines.tasks doc.lines.parts
 
 abbrev pub code_of : LineFault → CheckCode
 code_of Duplicate = code.Duplicate

@@ -7,7 +7,7 @@ use Rattle.dbp_plan.specs.declared.diagram.Policy.{Policy}
 use Rattle.dbp_plan.specs.declared.diagram.Policy.TheVariants.{Fp, Edf}
 use Rattle.dbp_plan.specs.declared.diagram.Task.{Task}
 use Rattle.dbp_plan.specs.Ranks.{ranks_of}
-use Rattle.dbp_plan.specs.FirstFault.{faults_behind, first_fault}
+use Rattle.dbp_plan.specs.FirstFault.{faults_after, first_fault}
 use Rattle.dia_check.specs.declared.fail.CheckCode.{CheckCode}
 use Rattle.dia_check.specs.declared.fail.CheckCode.TheVariants as code
 use Rattle.dia_check.specs.declared.fail.CheckFail.{CheckFail}
@@ -34,7 +34,7 @@ read_rank_fault ranks links r = option_and_then (link_rank_fault ranks) (slice_g
 abbrev pub rank_faults : Shaped → List (ℕ × Option RankFault)
 rank_faults s =
     let d = s.diagram in
-    faults_behind (λ before t. task_rank_fault d.policy t) [] d.tasks s.task_lines
+    faults_after (λ before t. task_rank_fault d.policy t) [] d.tasks s.task_lines
     ++ map (λ r. (r.line, read_rank_fault (ranks_of d.policy d.tasks) d.links r)) s.read_lines
 
 abbrev pub HasNoRankFault : Shaped → Type 0

@@ -2,7 +2,7 @@
 
 ghost use Rattle.std.specs.Prelude.{◌≡◌, ◌≤◌, [], length};
 ghost use Rattle.dia_check.specs.Faults.{decl_fault, part_fault, task_faults, line_faults};
-ghost use Rattle.dbp_plan.specs.FirstFault.{faults_behind, first_fault};
+ghost use Rattle.dbp_plan.specs.FirstFault.{faults_after, first_fault};
 ghost use Rattle.dia_read.specs.Printable.{HasItemLines};
 
 use crate::fail::LineFault;
@@ -13,7 +13,7 @@ use dia_read::{Body, Doc, RawTask};
 /// Of the declarations, whose lines have these numbers.
 fn decls_fault(decls: &[Decl], lines: &[u32]) -> Option<(u32, LineFault)>
     requires { length decls.now ≤ length lines.now }
-    ensures { result ≡ first_fault (faults_behind decl_fault [] decls.now lines.now) }
+    ensures { result ≡ first_fault (faults_after decl_fault [] decls.now lines.now) }
 {
     for (place, decl) in decls.iter().enumerate() {
         if let Some(code) = decl_fault(&decls[..place], decl) {
@@ -27,7 +27,7 @@ fn decls_fault(decls: &[Decl], lines: &[u32]) -> Option<(u32, LineFault)>
 fn body_fault(body: &Body, task: &RawTask, lines: &[u32]) -> Option<(u32, LineFault)>
     requires { length task.now.parts ≤ length lines.now }
     ensures { result ≡ first_fault
-        (faults_behind (part_fault body.now task.now) [] task.now.parts lines.now) }
+        (faults_after (part_fault body.now task.now) [] task.now.parts lines.now) }
 {
     let parts = task.parts.items();
     for (place, part) in parts.iter().enumerate() {

@@ -3,7 +3,7 @@
 ghost use Rattle.std.specs.Prelude.{◌≡◌, ◌<◌, ◌≤◌, All, IfErr, IfOk, IfSome, IsErrOf, [], length, map};
 ghost use Rattle.dbp_plan.specs.Closed.{IsClosed};
 ghost use Rattle.dbp_plan.specs.Ranked.{IsRanked};
-ghost use Rattle.dbp_plan.specs.FirstFault.{faults_behind, first_fault};
+ghost use Rattle.dbp_plan.specs.FirstFault.{faults_after, first_fault};
 ghost use Rattle.dbp_plan.specs.Ranks.{ranks_of};
 ghost use Rattle.dia_check.specs.RankFaults.{task_rank_fault, link_rank_fault, read_rank_fault, rank_faults, HasNoRankFault, IsRankRefusal, rank_refusal, ranked_diagram};
 ghost use Rattle.dia_read.specs.declared.document.Doc.{Doc as AnyDoc};
@@ -31,7 +31,7 @@ fn task_rank_fault(policy: Policy, task: &Task) -> Option<RankFault>
 fn tasks_rank_fault(policy: Policy, tasks: &[Task], lines: &[u32]) -> Option<(u32, RankFault)>
     requires { length tasks.now ≤ length lines.now }
     ensures { result ≡ first_fault
-        (faults_behind (λ before t. task_rank_fault policy t) [] tasks.now lines.now) }
+        (faults_after (λ before t. task_rank_fault policy t) [] tasks.now lines.now) }
 {
     for (place, task) in tasks.iter().enumerate() {
         if let Some(fault) = task_rank_fault(policy, task) {

@@ -44,6 +44,6 @@ counted tokens index before most now r t c less at same a b up =
     let front : drop index tokens ≡ t ∷ rest = drop-cons tokens index t less ∙ ap (λ (u : Token). u ∷ rest) (sym at) in
     let one : deepest before (drop index tokens) ≡ max before (deepest now rest) =
     ap (deepest before) front ∙ ap (λ (k : ℕ). max before (deepest k rest)) (sym same) in
-    let behind : max r (deepest now rest) ≡ max most (max before (deepest now rest)) = joined_max r most before now (deepest now rest) a b up c.within (least now rest) in
+    let after : max r (deepest now rest) ≡ max most (max before (deepest now rest)) = joined_max r most before now (deepest now rest) a b up c.within (least now rest) in
     let place : index + 1 ≡ suc index = omega arith in
-    ap (λ (k : ℕ). max r (deepest now (drop k tokens))) place ∙ behind ∙ sym (ap (max most) one) ∙ c.so_far
+    ap (λ (k : ℕ). max r (deepest now (drop k tokens))) place ∙ after ∙ sym (ap (max most) one) ∙ c.so_far

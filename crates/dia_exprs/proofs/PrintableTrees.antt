@@ -43,14 +43,14 @@ printable-tree l ts x (a_choice a b c u v w s d e) f =
 one-node : (n : Node (List ℕ)) → IsPrintableNode n → All IsPrintableNode (n ∷ [])
 one-node n h = All-cons IsPrintableNode n [] h (All-nil IsPrintableNode)
 
-behind : (ns ms : List (Node (List ℕ))) → All IsPrintableNode ns → All IsPrintableNode ms → All IsPrintableNode (ns ++ ms)
-behind ns ms h k = All-append IsPrintableNode ns ms h k
+after : (ns ms : List (Node (List ℕ))) → All IsPrintableNode ns → All IsPrintableNode ms → All IsPrintableNode (ns ++ ms)
+after ns ms h k = All-append IsPrintableNode ns ms h k
 
 pub printable-nodes : (at : ℕ) (x : Tree (List ℕ)) → IsPrintableTree x → All IsPrintableNode (nodes_of at x)
 printable-nodes at (number z) f = one-node _ f
 printable-nodes at (variable n) f = one-node _ f
-printable-nodes at (unary op t) f = behind _ _ (printable-nodes at t f) (one-node (root_of at (unary op t)) tt)
-printable-nodes at (binary op l r) f = behind _ _ (behind _ _ (printable-nodes at l f.0) (printable-nodes (at + size_of l) r f.1)) (one-node (root_of at (binary op l r)) tt)
+printable-nodes at (unary op t) f = after _ _ (printable-nodes at t f) (one-node (root_of at (unary op t)) tt)
+printable-nodes at (binary op l r) f = after _ _ (after _ _ (printable-nodes at l f.0) (printable-nodes (at + size_of l) r f.1)) (one-node (root_of at (binary op l r)) tt)
 printable-nodes at (choice c y n) f =
-    behind _ _ (behind _ _ (behind _ _ (printable-nodes at c f.0) (printable-nodes (at + size_of c) y f.1)) (printable-nodes (at + size_of c + size_of y) n f.2))
+    after _ _ (after _ _ (after _ _ (printable-nodes at c f.0) (printable-nodes (at + size_of c) y f.1)) (printable-nodes (at + size_of c + size_of y) n f.2))
     (one-node (root_of at (choice c y n)) tt)

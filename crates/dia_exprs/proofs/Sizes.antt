@@ -57,10 +57,10 @@ one-node-a-token l ts x (a_number value) = refl
 one-node-a-token l ts x (a_name name) = refl
 one-node-a-token l ts x (in_parentheses us y s) = omega (arith, one-node-a-token Whole us y s, count-append us (token.Symbol symbol.Close ∷ []))
 one-node-a-token l ts x (a_call t o a b y z e s u) =
-    let behind = token.Symbol symbol.Comma ∷ (b ++ token.Symbol symbol.Close ∷ []) in
-    let first : node_count (t ∷ token.Symbol symbol.Open ∷ (a ++ behind)) ≡ node_count (a ++ behind) + 1 = counts-one t (token.Symbol symbol.Open ∷ (a ++ behind)) (called-node t o e) in
-    let last : node_count behind ≡ node_count b + 0 = count-append b (token.Symbol symbol.Close ∷ []) in
-    omega (arith, first, last, one-node-a-token Whole a y s, one-node-a-token Whole b z u, count-append a behind)
+    let after = token.Symbol symbol.Comma ∷ (b ++ token.Symbol symbol.Close ∷ []) in
+    let first : node_count (t ∷ token.Symbol symbol.Open ∷ (a ++ after)) ≡ node_count (a ++ after) + 1 = counts-one t (token.Symbol symbol.Open ∷ (a ++ after)) (called-node t o e) in
+    let last : node_count after ≡ node_count b + 0 = count-append b (token.Symbol symbol.Close ∷ []) in
+    omega (arith, first, last, one-node-a-token Whole a y s, one-node-a-token Whole b z u, count-append a after)
 one-node-a-token l ts x (as_tighter l' ts' x' s) = one-node-a-token _ ts' x' s
 one-node-a-token l ts x (prefixed t o us y e s) = omega (arith, counts-one t us (prefix-node t o e), one-node-a-token Prefixed us y s)
 one-node-a-token l ts x (joined l' a t b o y z s e u) =
@@ -68,8 +68,8 @@ one-node-a-token l ts x (joined l' a t b o y z s e u) =
 one-node-a-token l ts x (compared a t b o y z s e u) =
     omega (arith, count-append a (t ∷ b), counts-one t b (comparison-node t o e), one-node-a-token Sum a y s, one-node-a-token Sum b z u)
 one-node-a-token l ts x (a_choice a b c u v w s d e) =
-    let behind = token.Word word.Else ∷ c in
-    let one : node_count (a ++ token.Word word.Then ∷ (b ++ behind)) ≡ node_count a + node_count (b ++ behind) = count-append a (token.Word word.Then ∷ (b ++ behind)) in
-    let two : node_count (b ++ behind) ≡ node_count b + node_count c = count-append b behind in
-    let whole : node_count (token.Word word.If ∷ (a ++ token.Word word.Then ∷ (b ++ behind))) ≡ node_count (a ++ token.Word word.Then ∷ (b ++ behind)) + 1 = counts-one (token.Word word.If) (a ++ token.Word word.Then ∷ (b ++ behind)) refl in
+    let after = token.Word word.Else ∷ c in
+    let one : node_count (a ++ token.Word word.Then ∷ (b ++ after)) ≡ node_count a + node_count (b ++ after) = count-append a (token.Word word.Then ∷ (b ++ after)) in
+    let two : node_count (b ++ after) ≡ node_count b + node_count c = count-append b after in
+    let whole : node_count (token.Word word.If ∷ (a ++ token.Word word.Then ∷ (b ++ after))) ≡ node_count (a ++ token.Word word.Then ∷ (b ++ after)) + 1 = counts-one (token.Word word.If) (a ++ token.Word word.Then ∷ (b ++ after)) refl in
     omega (arith, one, two, whole, one-node-a-token Whole a u s, one-node-a-token Whole b v d, one-node-a-token Whole c w e)

@@ -128,8 +128,8 @@ refused r s ts us NoExpression f h = f h
 -- ---- what stands at the front
 
 module _ {O : Type 0} where
-  abbrev behind : O → List Token → Option (O × List Token)
-  behind o ts = Some (o, ts)
+  abbrev later : O → List Token → Option (O × List Token)
+  later o ts = Some (o, ts)
 
   abbrev pair : O × List Token → Option (O × List Token)
   pair p = Some p
@@ -138,13 +138,13 @@ module _ {O : Type 0} where
   pair_is p q e = cc
 
   -- a token with this meaning stands at the front
-  pub in_front : (m : Token → Option O) (t : Token) (ts : List Token) (o : O) (after : List Token) → (m t >>= λ o. behind o ts) ≡ behind o after → (m t ≡ Some o) × (ts ≡ after)
+  pub in_front : (m : Token → Option O) (t : Token) (ts : List Token) (o : O) (after : List Token) → (m t >>= λ o. later o ts) ≡ later o after → (m t ≡ Some o) × (ts ≡ after)
   in_front m t ts o after e =
-      let b = bind_some (m t) (λ o. behind o ts) (o, after) e in
+      let b = bind_some (m t) (λ o. later o ts) (o, after) e in
       let same = pair_is (b.0, ts) (o, after) b.2 in
       (b.1 ∙ ap (λ (p : O × List Token). Some p.0) same, ap (λ (p : O × List Token). p.1) same)
 
-  pub none_in_front : (m : Option O) (ts : List Token) → (m >>= λ o. behind o ts) ≡ None → m ≡ None
+  pub none_in_front : (m : Option O) (ts : List Token) → (m >>= λ o. later o ts) ≡ None → m ≡ None
   none_in_front None ts e = refl
   none_in_front (Some o) ts e = absurd cc
 
@@ -214,9 +214,9 @@ next-refused l next ts rest after x o e same so_far at le =
     let g = goes_on l (reader n (tighter l)) c.0 x rest o after c.1 at in
     c.2 ∙ g.2 ∙ rw (ap (λ (m : Level). reader n m after) (sym same) ∙ none n (omega arith)) refl)
 
-pub next-read : (l next : Level) (ts rest after behind : List Token) (x y : Expression) (o : BinOp) → next ≡ tighter l → GoesOn l ts x rest → Some (o, after) ≡ operator_at l rest
-    → length after + 1 ≡ length rest → length after ≤ length ts → length behind ≤ length after → Says (of_level next) after (Some (y, behind)) → GoesOn l ts (binary o x y) behind
-next-read l next ts rest after behind x y o same so_far at len le less read n h =
+pub next-read : (l next : Level) (ts rest after later : List Token) (x y : Expression) (o : BinOp) → next ≡ tighter l → GoesOn l ts x rest → Some (o, after) ≡ operator_at l rest
+    → length after + 1 ≡ length rest → length after ≤ length ts → length later ≤ length after → Says (of_level next) after (Some (y, later)) → GoesOn l ts (binary o x y) later
+next-read l next ts rest after later x y o same so_far at len le less read n h =
     let c = so_far n h in
     let g = goes_on l (reader n (tighter l)) c.0 x rest o after c.1 at in
     (g.0, omega (arith, c.1, g.1), c.2 ∙ g.2 ∙ rw (ap (λ (m : Level). reader n m after) (sym same) ∙ read n (omega arith)) refl)
@@ -256,9 +256,9 @@ pub compared-next-refused : (ts rest after : List Token) (x : Expression) (o : B
 compared-next-refused ts rest after x o e read at le =
     refused (of_level Sum) (of_level Comparison) after ts e (λ none n h. comparing n ts rest after x o (read n h) at ∙ rw (none n (omega arith)) refl)
 
-pub compared-read : (ts rest after behind : List Token) (x y : Expression) (o : BinOp) → Says (of_level Sum) ts (Some (x, rest)) → Some (o, after) ≡ comparison_at rest → length after ≤ length ts
-    → Says (of_level Sum) after (Some (y, behind)) → Says (of_level Comparison) ts (Some (binary o x y, behind))
-compared-read ts rest after behind x y o read at le second n h = comparing n ts rest after x o (read n h) at ∙ rw (second n (omega arith)) refl
+pub compared-read : (ts rest after later : List Token) (x y : Expression) (o : BinOp) → Says (of_level Sum) ts (Some (x, rest)) → Some (o, after) ≡ comparison_at rest → length after ≤ length ts
+    → Says (of_level Sum) after (Some (y, later)) → Says (of_level Comparison) ts (Some (binary o x y, later))
+compared-read ts rest after later x y o read at le second n h = comparing n ts rest after x o (read n h) at ∙ rw (second n (omega arith)) refl
 
 -- ---- prefixes
 

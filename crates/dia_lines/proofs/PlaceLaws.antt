@@ -10,7 +10,7 @@ use Rattle.dia_lines.specs.declared.place.Place.TheVariants.{Header, Policy, Unt
 use Rattle.dia_lines.specs.Statements.{Statement, nothing, header, policy, until, input, event, task, state, sense, read, a_let, a_next, out, trace, script, done}
 use Rattle.dia_lines.specs.Places.{is_body, is_declaration, leads}
 use Rattle.dia_lines.specs.Held.{IsKept, IsPart}
-use Rattle.dia_lines.specs.Moves.{place_behind_line}
+use Rattle.dia_lines.specs.Moves.{place_after_line}
 
 -- a statement that leads to one place wherever it may stand
 abbrev LeadsTo : Statement → Place → Type 0
@@ -83,7 +83,7 @@ leads-nothing Trace q e = same_Some q Trace (sym e)
 leads-nothing Script q e = same_Some q Script (sym e)
 leads-nothing Ended q e = same_Some q Ended (sym e)
 
-pub leads-line : (p q : Place) (s : Statement) (l : Line) → leads p s ≡ Some q → IsKept s l → q ≡ place_behind_line p l
+pub leads-line : (p q : Place) (s : Statement) (l : Line) → leads p s ≡ Some q → IsKept s l → q ≡ place_after_line p l
 leads-line p q nothing line.Nothing e k = leads-nothing p q e
 leads-line p q header line.Header e k = leads-header p q e
 leads-line p q (policy x) (line.Policy y) e k = leads-policy x p q e

@@ -49,8 +49,8 @@ printable-form ts s (st.a_task n cs ps ds clock prio deadline cost c p d) f =
 printable-form ts s (st.a_state n first) f = (f.1.0, f.1.1.1.0)
 printable-form ts s (st.a_sense n from) f = (f.1.0, f.1.1.1.0)
 printable-form ts s (st.a_read n writer port pre ats delay at d a) f =
-    let behind = all-parts IsPrintableToken pre (Name writer ∷ Symbol Point ∷ Name port ∷ ats) f.1.1.1 in
-    (f.1.0, behind.1.0, behind.1.1.1.0)
+    let after = all-parts IsPrintableToken pre (Name writer ∷ Symbol Point ∷ Name port ∷ ats) f.1.1.1 in
+    (f.1.0, after.1.0, after.1.1.1.0)
 printable-form ts s (st.a_let_line n us x d) f = (f.1.0, printable-tree Whole us x d f.1.1.1)
 printable-form ts s (st.a_next_line n us x d) f = (f.1.0, printable-tree Whole us x d f.1.1.1)
 printable-form ts s (st.an_out n first us x d) f = (f.1.0, f.1.1.1.0, printable-tree Whole us x d f.1.1.1.1.1)

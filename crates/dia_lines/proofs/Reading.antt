@@ -27,15 +27,15 @@ use Rattle.dia_lines.specs.declared.position.Position.{Position}
 use Rattle.dia_lines.specs.Answers.{error_of_text, error_of_expression, Refuses, RefusesText, RefusesInDiagram, RefusesStatement, RefusesExpression}
 use Rattle.dia_lines.specs.Counting.{Counted, with_line}
 use Rattle.dia_lines.specs.Limits.{numbers_fit}
-use Rattle.dia_lines.specs.Positions.{AreCounts, IsBehind}
+use Rattle.dia_lines.specs.Positions.{AreCounts, IsAfter}
 use Rattle.dia_lines.specs.Statements.{Statement, nothing, script, done}
-use Rattle.dia_lines.specs.Lines.{Said, says, step, place_behind, statements, keeps_lines, token_fault, limit_fault, MayStand, SaysStatement, SaysInTrace, an_empty_row, trace_ends, script_begins, a_row, SaysInScript, no_step, script_ends, a_step, Reads, of_the_diagram, of_the_trace, of_the_script, HasDiagramFault, of_the_text, of_the_tokens, no_statement, past_a_limit, HasFault, in_the_diagram, in_the_trace, in_the_script}
+use Rattle.dia_lines.specs.Lines.{Said, says, step, place_after, statements, keeps_lines, token_fault, limit_fault, MayStand, SaysStatement, SaysInTrace, an_empty_row, trace_ends, script_begins, a_row, SaysInScript, no_step, script_ends, a_step, Reads, of_the_diagram, of_the_trace, of_the_script, HasDiagramFault, of_the_text, of_the_tokens, no_statement, past_a_limit, HasFault, in_the_diagram, in_the_trace, in_the_script}
 use Rattle.dia_lines.specs.Places.{leads}
 use Rattle.dia_lines.specs.Sections.{is_trace_byte}
 use Rattle.dia_lines.proofs.CountLaws.{counted-line}
 use Rattle.dia_lines.proofs.PlaceLaws.{leads-line}
 use Rattle.dia_lines.specs.Held.{IsHeld, IsKept}
-use Rattle.dia_lines.specs.Moves.{place_behind_line}
+use Rattle.dia_lines.specs.Moves.{place_after_line}
 
 -- ---- refusals of other types
 
@@ -74,36 +74,36 @@ module _ (text kept : List ℕ) (ts : List Token) (spelled : SpellsTokens text t
 
 -- ---- lines of the diagram
 
-module _ (before : List Said) (position : Position) (behind : IsBehind before position) (text : List ℕ) (ts : List Token) (spelled : SpellsTokens text ts) where
+module _ (before : List Said) (position : Position) (after : IsAfter before position) (text : List ℕ) (ts : List Token) (spelled : SpellsTokens text ts) where
   -- if the tokens have no fault except in their form
   module _ (free : token_fault position.place ts ≡ None) where
-    faultless : token_fault (place_behind before) ts ≡ None
-    faultless = rw (← behind.place) free
+    faultless : token_fault (place_after before) ts ≡ None
+    faultless = rw (← after.place) free
 
     pub diagram-found : (l : Line) (counts : Counts) → (s : Statement) × MayStand position.place ts s × (numbers_fit s ≡ true) × IsKept s l → with_line position.counts l ≡ Ok counts
         → (s : Statement) × SaysStatement before text s × IsKept s l × AreCounts (s ∷ statements before) counts
     diagram-found l counts (s, stands, fits, kept) counted =
-        let answer : Counted (statements before) s (Ok counts) = subst (Counted (statements before) s) counted (counted-line (statements before) s l position.counts behind.counts kept) in
+        let answer : Counted (statements before) s (Ok counts) = subst (Counted (statements before) s) counted (counted-line (statements before) s l position.counts after.counts kept) in
         let within : limit_fault (statements before) s ≡ None = rw (fits, answer.0) refl in
-        (s, record { tokens = ts; spelled = spelled; faultless = faultless; stands = subst (λ p. MayStand p ts s) behind.place stands; within = within }, kept, answer.1)
+        (s, record { tokens = ts; spelled = spelled; faultless = faultless; stands = subst (λ p. MayStand p ts s) after.place stands; within = within }, kept, answer.1)
 
     pub diagram-passed : (l : Line) (limit : Limit) → (s : Statement) × MayStand position.place ts s × (numbers_fit s ≡ true) × IsKept s l → with_line position.counts l ≡ Err limit
         → HasDiagramFault before text (LimitHit limit)
     diagram-passed l limit (s, stands, fits, kept) counted =
-        let passed : Counted (statements before) s (Err limit) = subst (Counted (statements before) s) counted (counted-line (statements before) s l position.counts behind.counts kept) in
+        let passed : Counted (statements before) s (Err limit) = subst (Counted (statements before) s) counted (counted-line (statements before) s l position.counts after.counts kept) in
         let past : limit_fault (statements before) s ≡ Some (LimitHit limit) = rw (fits, passed) refl in
-        past_a_limit ts s (LimitHit limit) spelled faultless (subst (λ p. MayStand p ts s) behind.place stands) past
+        past_a_limit ts s (LimitHit limit) spelled faultless (subst (λ p. MayStand p ts s) after.place stands) past
 
     pub diagram-refused : (e : LineError) → RefusesStatement position.place ts e → RefusesInDiagram before text e
     diagram-refused NoMemory r = tt
-    diagram-refused (Refused BadLine) r = no_statement ts spelled faultless (λ s stands. r s (subst (λ p. MayStand p ts s) (sym behind.place) stands))
+    diagram-refused (Refused BadLine) r = no_statement ts spelled faultless (λ s stands. r s (subst (λ p. MayStand p ts s) (sym after.place) stands))
     diagram-refused (Refused (LimitHit Number)) (s, stands, over) =
         let past : limit_fault (statements before) s ≡ Some (LimitHit Number) = rw over refl in
-        past_a_limit ts s (LimitHit Number) spelled faultless (subst (λ p. MayStand p ts s) behind.place stands) past
+        past_a_limit ts s (LimitHit Number) spelled faultless (subst (λ p. MayStand p ts s) after.place stands) past
     diagram-refused (Refused _) r = absurd r
 
   pub diagram-faulty : (code : ReadCode) → token_fault position.place ts ≡ Some code → HasDiagramFault before text code
-  diagram-faulty code f = of_the_tokens ts code spelled (rw (← behind.place) f)
+  diagram-faulty code f = of_the_tokens ts code spelled (rw (← after.place) f)
 
 pub text-refused : (before : List Said) (text : List ℕ) (e : LineError) → RefusesText text e → RefusesInDiagram before text e
 text-refused before text NoMemory r = tt
@@ -126,17 +126,17 @@ counts-in-script before text said counts a (no_step t e) = kept-counts before no
 counts-in-script before text said counts a (script_ends t e) = kept-counts before done line.Done counts a tt refl
 counts-in-script before text said counts a (a_step t k ts s n o h) = a
 
-module _ (before : List Said) (position : Position) (behind : IsBehind before position) (text : List ℕ) where
+module _ (before : List Said) (position : Position) (after : IsAfter before position) (text : List ℕ) where
   pub trace-found : (l : Line) → position.place ≡ Trace → (said : Said) × SaysInTrace text said × IsHeld said l
       → (said : Said) × Reads before text said × IsHeld said l × AreCounts (statements (said ∷ before)) position.counts
-  trace-found l here (said, says_so, held) = (said, of_the_trace text said (sym behind.place ∙ here) says_so, held, counts-in-trace before text said position.counts behind.counts says_so)
+  trace-found l here (said, says_so, held) = (said, of_the_trace text said (sym after.place ∙ here) says_so, held, counts-in-trace before text said position.counts after.counts says_so)
 
   pub script-found : (l : Line) → position.place ≡ Script → (said : Said) × SaysInScript text said × IsHeld said l
       → (said : Said) × Reads before text said × IsHeld said l × AreCounts (statements (said ∷ before)) position.counts
-  script-found l here (said, says_so, held) = (said, of_the_script text said (sym behind.place ∙ here) says_so, held, counts-in-script before text said position.counts behind.counts says_so)
+  script-found l here (said, says_so, held) = (said, of_the_script text said (sym after.place ∙ here) says_so, held, counts-in-script before text said position.counts after.counts says_so)
 
-  in-the-diagram : (position.place ≡ Trace → ⊥) → (position.place ≡ Script → ⊥) → keeps_lines (place_behind before) ≡ false
-  in-the-diagram no_trace no_script = rw (← behind.place) (other position.place no_trace no_script)
+  in-the-diagram : (position.place ≡ Trace → ⊥) → (position.place ≡ Script → ⊥) → keeps_lines (place_after before) ≡ false
+  in-the-diagram no_trace no_script = rw (← after.place) (other position.place no_trace no_script)
     where
       other : (p : Place) → (p ≡ Trace → ⊥) → (p ≡ Script → ⊥) → keeps_lines p ≡ false
       other Trace n m = absurd (n refl)
@@ -157,28 +157,28 @@ module _ (before : List Said) (position : Position) (behind : IsBehind before po
 
   pub script-refused : (e : LineError) → position.place ≡ Script → RefusesText text e → Refuses before text e
   script-refused NoMemory here r = tt
-  script-refused (Refused code) here r = in_the_script code (sym behind.place ∙ here) r
+  script-refused (Refused code) here r = in_the_script code (sym after.place ∙ here) r
 
   pub trace-refused : (code : ReadCode) → position.place ≡ Trace → (code ≡ BadByte) × (list_all is_trace_byte text ≡ false) → HasFault before text code
-  trace-refused code here (is, bad) = rw is (in_the_trace (sym behind.place ∙ here) bad)
+  trace-refused code here (is, bad) = rw is (in_the_trace (sym after.place ∙ here) bad)
 
   -- the place after a line that was read
-  pub behind-found : (l : Line) (counts : Counts) (place : Place) → place ≡ place_behind_line position.place l
+  pub after-found : (l : Line) (counts : Counts) (place : Place) → place ≡ place_after_line position.place l
       → (said : Said) × Reads before text said × IsHeld said l × AreCounts (statements (said ∷ before)) counts
-      → (said : Said) × Reads before text said × IsHeld said l × IsBehind (said ∷ before) (record { place = place; counts = counts })
-  behind-found l counts place is (said, reads, held, right) = (said, reads, held, record { place = is ∙ led said l reads held; counts = right })
+      → (said : Said) × Reads before text said × IsHeld said l × IsAfter (said ∷ before) (record { place = place; counts = counts })
+  after-found l counts place is (said, reads, held, right) = (said, reads, held, record { place = is ∙ led said l reads held; counts = right })
     where
-      kept : (s : Statement) (l : Line) (q : Place) → leads (place_behind before) s ≡ Some q → IsKept s l → place_behind_line position.place l ≡ place_behind (says s ∷ before)
-      kept s l q e k = rw (e, behind.place) (sym (leads-line (place_behind before) q s l e k))
+      kept : (s : Statement) (l : Line) (q : Place) → leads (place_after before) s ≡ Some q → IsKept s l → place_after_line position.place l ≡ place_after (says s ∷ before)
+      kept s l q e k = rw (e, after.place) (sym (leads-line (place_after before) q s l e k))
 
-      led : (said : Said) (l : Line) → Reads before text said → IsHeld said l → place_behind_line position.place l ≡ place_behind (said ∷ before)
+      led : (said : Said) (l : Line) → Reads before text said → IsHeld said l → place_after_line position.place l ≡ place_after (said ∷ before)
       led said l (of_the_diagram t s e says_so) k = kept s l says_so.stands.next says_so.stands.stands k
       led said l (of_the_trace t s here (an_empty_row u e)) k = kept nothing l Trace (rw here refl) k
       led said l (of_the_trace t s here (trace_ends u e)) k = kept done l Ended (rw here refl) k
       led said l (of_the_trace t s here (script_begins u e)) k = kept script l Script (rw here refl) k
-      led said line.Row (of_the_trace t s here (a_row u e f)) k = behind.place
+      led said line.Row (of_the_trace t s here (a_row u e f)) k = after.place
       led said l (of_the_trace t s here (a_row u e f)) k = absurd k
       led said l (of_the_script t s here (no_step u e)) k = kept nothing l Script (rw here refl) k
       led said l (of_the_script t s here (script_ends u e)) k = kept done l Ended (rw here refl) k
-      led said (line.Step kept) (of_the_script t s here (a_step u v ts e n o h)) k = behind.place
+      led said (line.Step kept) (of_the_script t s here (a_step u v ts e n o h)) k = after.place
       led said l (of_the_script t s here (a_step u v ts e n o h)) k = absurd k

@@ -6,7 +6,7 @@ use Rattle.std.proofs.lemmas.List.Folds.{list_all-append}
 use Rattle.std.proofs.lemmas.List.Sums.{suffix_len-le-length}
 use Rattle.std.proofs.lemmas.Bool.{cases_Bool, and_parts, and_from}
 use Rattle.dia_lines.specs.Sections.{is_space, IsAlone}
-use Rattle.dia_lines.specs.Trimmed.{behind_spaces, before_spaces, trimmed}
+use Rattle.dia_lines.specs.Trimmed.{after_spaces, before_spaces, trimmed}
 
 passes_before : (p : ℕ → Bool) (xs : List ℕ) → list_all p (take (prefix_len p xs) xs) ≡ true
 passes_before p [] = refl
@@ -37,8 +37,8 @@ length_before p (x ∷ xs) ys h e =
     let both = and_parts (p x) (list_all p xs) h in
     rw both.0 (let r = length_before p xs ys both.1 e in omega arith)
 
-length_behind : (p : ℕ → Bool) (xs ys : List ℕ) → list_all p ys ≡ true → suffix_len p xs ≡ 0 → suffix_len p (xs ++ ys) ≡ length ys
-length_behind p xs ys h e = rw reverse-append (length_before p (reverse ys) (reverse xs) (passes_reversed p ys h) e ∙ length-reverse ys)
+length_after : (p : ℕ → Bool) (xs ys : List ℕ) → list_all p ys ≡ true → suffix_len p xs ≡ 0 → suffix_len p (xs ++ ys) ≡ length ys
+length_after p xs ys h e = rw reverse-append (length_before p (reverse ys) (reverse xs) (passes_reversed p ys h) e ∙ length-reverse ys)
 
 begins_so : (p : ℕ → Bool) (xs ys : List ℕ) → 0 < length xs → prefix_len p xs ≡ 0 → prefix_len p (xs ++ ys) ≡ 0
 begins_so p [] ys h e = absurd (omega arith)
@@ -48,8 +48,8 @@ begins_so p (x ∷ xs) ys h e =
       | inr n ↦ rw n refl
     ]
 
-passes_behind : (p : ℕ → Bool) (xs : List ℕ) → list_all p (drop (length xs - suffix_len p xs) xs) ≡ true
-passes_behind p xs =
+passes_after : (p : ℕ → Bool) (xs : List ℕ) → list_all p (drop (length xs - suffix_len p xs) xs) ≡ true
+passes_after p xs =
     let n : ℕ = length xs - suffix_len p xs in
     let le = suffix_len-le-length p xs in
     let whole : reverse xs ≡ reverse (drop n xs) ++ reverse (take n xs) = ap reverse (sym (take-append-drop n xs)) ∙ reverse-append (take n xs) (drop n xs) in
@@ -61,13 +61,13 @@ passes_behind p xs =
 pub trimmed-alone : (line : List ℕ) → IsAlone (trimmed line) line
 unfolding trimmed
 trimmed-alone line =
-    let text : List ℕ = behind_spaces line in
+    let text : List ℕ = after_spaces line in
     let n : ℕ = prefix_len is_space line in
     let m : ℕ = length text - suffix_len is_space text in (
       take n line,
       drop m text,
       passes_before is_space line,
-      passes_behind is_space text,
+      passes_after is_space text,
       sym (append_assoc (take n line) (take m text) (drop m text) ∙ ap (λ (ys : List ℕ). take n line ++ ys) (take-append-drop m text) ∙ take-append-drop n line),
     )
 
@@ -79,18 +79,18 @@ alone-trimmed text line some opens closes a =
     let after : List ℕ = a.1 in
     let whole : line ≡ before ++ (text ++ after) = a.4 ∙ append_assoc before text after in
     let start : prefix_len is_space (before ++ (text ++ after)) ≡ length before = length_before is_space before (text ++ after) a.2 (begins_so is_space text after some opens) in
-    let behind : behind_spaces line ≡ text ++ after = ap behind_spaces whole ∙ drop_at before (text ++ after) _ (sym start) in
-    let end : suffix_len is_space (text ++ after) ≡ length after = length_behind is_space text after a.3 closes in
+    let later : after_spaces line ≡ text ++ after = ap after_spaces whole ∙ drop_at before (text ++ after) _ (sym start) in
+    let end : suffix_len is_space (text ++ after) ≡ length after = length_after is_space text after a.3 closes in
     let len : length text ≡ length (text ++ after) - suffix_len is_space (text ++ after) = omega (arith, length-append text after, end) in
-    ap before_spaces behind ∙ take_at text after _ len
+    ap before_spaces later ∙ take_at text after _ len
 
 -- a line of spaces and tabs
 pub trimmed-nil : (line : List ℕ) → list_all is_space line ≡ true → trimmed line ≡ []
 unfolding trimmed
 trimmed-nil line h =
     let start : prefix_len is_space (line ++ []) ≡ length line = length_before is_space line [] h refl in
-    let behind : behind_spaces line ≡ [] = ap behind_spaces (sym (append-nil line)) ∙ drop_at line [] _ (sym start) in
-    ap before_spaces behind
+    let later : after_spaces line ≡ [] = ap after_spaces (sym (append-nil line)) ∙ drop_at line [] _ (sym start) in
+    ap before_spaces later
 
 alone_nil : (line : List ℕ) → IsAlone [] line → list_all is_space line ≡ true
 alone_nil line a =

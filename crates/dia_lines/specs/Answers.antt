@@ -11,7 +11,7 @@ use Rattle.dia_lines.specs.declared.item.Line.{Line}
 use Rattle.dia_lines.specs.declared.item.Line.TheVariants as line
 use Rattle.dia_lines.specs.Forms.{Shape, plain, of_let, of_next, of_out}
 use Rattle.dia_lines.specs.Held.{IsKept, IsHeld}
-use Rattle.dia_lines.specs.Positions.{IsBehind}
+use Rattle.dia_lines.specs.Positions.{IsAfter}
 use Rattle.dia_lines.specs.declared.position.Position.{Position}
 use Rattle.dia_lines.specs.declared.fault.LineError.{LineError}
 use Rattle.dia_lines.specs.declared.fault.LineError.TheVariants.{Refused, NoMemory}
@@ -44,12 +44,12 @@ Refuses before line NoMemory = Unit {0}
 -- after any lines that lead to the position, the line says something, this is held of it, and the next position is after it
 abbrev pub IsNextLine : Position → List ℕ → Line → Position → Type 0
 IsNextLine position line held next =
-    (before : List Said) → IsBehind before position
-    → (said : Said) × Reads before line said × IsHeld said held × IsBehind (said ∷ before) next
+    (before : List Said) → IsAfter before position
+    → (said : Said) × Reads before line said × IsHeld said held × IsAfter (said ∷ before) next
 
 -- after any lines that lead to the position, the line has the fault, as its first one
 abbrev pub RefusesAfter : Position → List ℕ → LineError → Type 0
-RefusesAfter position line e = (before : List Said) → IsBehind before position → Refuses before line e
+RefusesAfter position line e = (before : List Said) → IsAfter before position → Refuses before line e
 
 -- the line spells no tokens, and has the fault
 abbrev pub RefusesText : List ℕ → LineError → Type 0

@@ -36,10 +36,10 @@ led_to place None = place
 led_to place (Some next) = next
 
 -- where the lines lead, of which the latest is the first
-abbrev pub place_behind : List Said → Place
-place_behind [] = Header
-place_behind (says s ∷ before) = led_to (place_behind before) (leads (place_behind before) s)
-place_behind (_ ∷ before) = place_behind before
+abbrev pub place_after : List Said → Place
+place_after [] = Header
+place_after (says s ∷ before) = led_to (place_after before) (leads (place_after before) s)
+place_after (_ ∷ before) = place_after before
 
 -- the statements of the lines, the latest first
 abbrev pub statements : List Said → List Statement
@@ -64,22 +64,22 @@ lacks_header Header (t ∷ ts) = not (is_header (t ∷ ts))
 lacks_header _ _ = false
 
 -- the tokens after the first `=`
-abbrev pub behind_assign : List Token → List Token
-behind_assign [] = []
-behind_assign (token.Symbol symbol.Assign ∷ ts) = ts
-behind_assign (_ ∷ ts) = behind_assign ts
+abbrev pub after_assign : List Token → List Token
+after_assign [] = []
+after_assign (token.Symbol symbol.Assign ∷ ts) = ts
+after_assign (_ ∷ ts) = after_assign ts
 
 -- the tokens after the first `then`
-abbrev pub behind_then : List Token → List Token
-behind_then [] = []
-behind_then (token.Word word.Then ∷ ts) = ts
-behind_then (_ ∷ ts) = behind_then ts
+abbrev pub after_then : List Token → List Token
+after_then [] = []
+after_then (token.Word word.Then ∷ ts) = ts
+after_then (_ ∷ ts) = after_then ts
 
 -- where an expression stands on a line that begins as one with an expression does
 abbrev pub expression_of : List Token → List Token
-expression_of (token.Word word.Let ∷ ts) = behind_assign ts
-expression_of (token.Word word.Next ∷ ts) = behind_assign ts
-expression_of (token.Word word.Out ∷ ts) = behind_then ts
+expression_of (token.Word word.Let ∷ ts) = after_assign ts
+expression_of (token.Word word.Next ∷ ts) = after_assign ts
+expression_of (token.Word word.Out ∷ ts) = after_then ts
 expression_of _ = []
 
 -- the first fault of the tokens, except for their form
@@ -111,8 +111,8 @@ pub record MayStand (place : Place) (ts : List Token) (s : Statement) : Type 0 w
 pub record SaysStatement (before : List Said) (line : List ℕ) (s : Statement) : Type 0 where
   pub tokens : List Token
   pub spelled : SpellsTokens line tokens
-  pub faultless : token_fault (place_behind before) tokens ≡ None
-  pub stands : MayStand (place_behind before) tokens s
+  pub faultless : token_fault (place_after before) tokens ≡ None
+  pub stands : MayStand (place_after before) tokens s
   pub within : limit_fault (statements before) s ≡ None
 
 -- the line of the trace section is without fault, and says this
@@ -131,9 +131,9 @@ pub data SaysInScript : List ℕ → Said → Type 0 where
 
 -- after those before it the line is without fault, and says this
 pub data Reads (before : List Said) : List ℕ → Said → Type 0 where
-  of_the_diagram : (line : List ℕ) (s : Statement) → keeps_lines (place_behind before) ≡ false → SaysStatement before line s → Reads before line (says s)
-  of_the_trace : (line : List ℕ) (said : Said) → place_behind before ≡ Trace → SaysInTrace line said → Reads before line said
-  of_the_script : (line : List ℕ) (said : Said) → place_behind before ≡ Script → SaysInScript line said → Reads before line said
+  of_the_diagram : (line : List ℕ) (s : Statement) → keeps_lines (place_after before) ≡ false → SaysStatement before line s → Reads before line (says s)
+  of_the_trace : (line : List ℕ) (said : Said) → place_after before ≡ Trace → SaysInTrace line said → Reads before line said
+  of_the_script : (line : List ℕ) (said : Said) → place_after before ≡ Script → SaysInScript line said → Reads before line said
 
 -- the first fault of a line that spells no tokens
 abbrev pub HasTextFault : List ℕ → ReadCode → Type 0
@@ -142,14 +142,14 @@ HasTextFault line code = (fault : LineFail) × HasTokenFault line fault × (code
 -- the first fault of a line of the diagram after those before it
 pub data HasDiagramFault (before : List Said) (line : List ℕ) : ReadCode → Type 0 where
   of_the_text : (code : ReadCode) → HasTextFault line code → HasDiagramFault before line code
-  of_the_tokens : (ts : List Token) (code : ReadCode) → SpellsTokens line ts → token_fault (place_behind before) ts ≡ Some code → HasDiagramFault before line code
-  no_statement : (ts : List Token) → SpellsTokens line ts → token_fault (place_behind before) ts ≡ None
-      → ((s : Statement) → MayStand (place_behind before) ts s → ⊥) → HasDiagramFault before line BadLine
-  past_a_limit : (ts : List Token) (s : Statement) (code : ReadCode) → SpellsTokens line ts → token_fault (place_behind before) ts ≡ None
-      → MayStand (place_behind before) ts s → limit_fault (statements before) s ≡ Some code → HasDiagramFault before line code
+  of_the_tokens : (ts : List Token) (code : ReadCode) → SpellsTokens line ts → token_fault (place_after before) ts ≡ Some code → HasDiagramFault before line code
+  no_statement : (ts : List Token) → SpellsTokens line ts → token_fault (place_after before) ts ≡ None
+      → ((s : Statement) → MayStand (place_after before) ts s → ⊥) → HasDiagramFault before line BadLine
+  past_a_limit : (ts : List Token) (s : Statement) (code : ReadCode) → SpellsTokens line ts → token_fault (place_after before) ts ≡ None
+      → MayStand (place_after before) ts s → limit_fault (statements before) s ≡ Some code → HasDiagramFault before line code
 
 -- the first fault of a line after those before it
 pub data HasFault (before : List Said) (line : List ℕ) : ReadCode → Type 0 where
-  in_the_diagram : (code : ReadCode) → keeps_lines (place_behind before) ≡ false → HasDiagramFault before line code → HasFault before line code
-  in_the_trace : place_behind before ≡ Trace → list_all is_trace_byte line ≡ false → HasFault before line BadByte
-  in_the_script : (code : ReadCode) → place_behind before ≡ Script → HasTextFault line code → HasFault before line code
+  in_the_diagram : (code : ReadCode) → keeps_lines (place_after before) ≡ false → HasDiagramFault before line code → HasFault before line code
+  in_the_trace : place_after before ≡ Trace → list_all is_trace_byte line ≡ false → HasFault before line BadByte
+  in_the_script : (code : ReadCode) → place_after before ≡ Script → HasTextFault line code → HasFault before line code

@@ -5,14 +5,14 @@ use Rattle.dia_lines.specs.declared.place.Place.{Place}
 use Rattle.dia_lines.specs.declared.place.Place.TheVariants.{Policy, Until, Declarations, Body, Trace, Script, Ended}
 
 -- the place after a line that may stand at the place
-abbrev pub place_behind_line : Place → Line → Place
-place_behind_line place line.Header = Policy
-place_behind_line place (line.Policy p) = Until
-place_behind_line place (line.Until end) = Declarations
-place_behind_line place (line.Decl d) = Declarations
-place_behind_line place (line.Task t) = Body
-place_behind_line place (line.Part p) = Body
-place_behind_line place line.Trace = Trace
-place_behind_line place line.Script = Script
-place_behind_line place line.Done = Ended
-place_behind_line place _ = place
+abbrev pub place_after_line : Place → Line → Place
+place_after_line place line.Header = Policy
+place_after_line place (line.Policy p) = Until
+place_after_line place (line.Until end) = Declarations
+place_after_line place (line.Decl d) = Declarations
+place_after_line place (line.Task t) = Body
+place_after_line place (line.Part p) = Body
+place_after_line place line.Trace = Trace
+place_after_line place line.Script = Script
+place_after_line place line.Done = Ended
+place_after_line place _ = place

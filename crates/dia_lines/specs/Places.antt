@@ -21,12 +21,12 @@ is_declaration (event n) = true
 is_declaration _ = false
 
 -- where a line leads that may follow the declarations and likewise a task: a task, a section, the end
-abbrev pub behind_declarations : Statement → Option Place
-behind_declarations (task t) = Some Body
-behind_declarations trace = Some Trace
-behind_declarations script = Some Script
-behind_declarations done = Some Ended
-behind_declarations _ = None
+abbrev pub after_declarations : Statement → Option Place
+after_declarations (task t) = Some Body
+after_declarations trace = Some Trace
+after_declarations script = Some Script
+after_declarations done = Some Ended
+after_declarations _ = None
 
 -- where a line leads from a place, if it may stand there
 abbrev pub leads : Place → Statement → Option Place
@@ -34,8 +34,8 @@ leads place nothing = Some place
 leads Header header = Some Policy
 leads Policy (policy p) = Some Until
 leads Until (until n) = Some Declarations
-leads Declarations s = if is_declaration s then Some Declarations else behind_declarations s
-leads Body s = if is_body s then Some Body else behind_declarations s
+leads Declarations s = if is_declaration s then Some Declarations else after_declarations s
+leads Body s = if is_body s then Some Body else after_declarations s
 leads Trace script = Some Script
 leads Trace done = Some Ended
 leads Script done = Some Ended

@@ -1,7 +1,7 @@
 // What is tried on the tokens of a line of the diagram before their form.
 
 ghost use Rattle.std.specs.Prelude.{◌≡◌, ◌≤◌, length};
-ghost use Rattle.dia_lines.specs.Lines.{is_header, lacks_header, behind_assign as expression_behind_assign, behind_then as expression_behind_then, expression_of, token_fault};
+ghost use Rattle.dia_lines.specs.Lines.{is_header, lacks_header, after_assign as expression_after_assign, after_then as expression_after_then, expression_of, token_fault};
 
 use crate::{Limit, Place, ReadCode};
 use dbp_plan::MAX_NODES;
@@ -29,8 +29,8 @@ fn lacks_the_header(place: Place, tokens: &[Token]) -> bool
 }
 
 /// The tokens after the first `=`.
-fn behind_assign(tokens: &[Token]) -> &[Token]
-    ensures { result.now ≡ expression_behind_assign tokens.now }
+fn after_assign(tokens: &[Token]) -> &[Token]
+    ensures { result.now ≡ expression_after_assign tokens.now }
 {
     let mut rest = tokens;
     while let [first, after @ ..] = rest {
@@ -43,8 +43,8 @@ fn behind_assign(tokens: &[Token]) -> &[Token]
 }
 
 /// The tokens after the first `then`.
-fn behind_then(tokens: &[Token]) -> &[Token]
-    ensures { result.now ≡ expression_behind_then tokens.now }
+fn after_then(tokens: &[Token]) -> &[Token]
+    ensures { result.now ≡ expression_after_then tokens.now }
 {
     let mut rest = tokens;
     while let [first, after @ ..] = rest {
@@ -61,8 +61,8 @@ fn expression_tokens(tokens: &[Token]) -> &[Token]
     ensures { result.now ≡ expression_of tokens.now }
 {
     match tokens {
-        [Token::Word(Word::Let | Word::Next), rest @ ..] => behind_assign(rest),
-        [Token::Word(Word::Out), rest @ ..] => behind_then(rest),
+        [Token::Word(Word::Let | Word::Next), rest @ ..] => after_assign(rest),
+        [Token::Word(Word::Out), rest @ ..] => after_then(rest),
         _ => &[],
     }
 }

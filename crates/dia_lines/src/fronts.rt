@@ -45,8 +45,8 @@ pub(crate) fn clock(tokens: &[Token]) -> Option<(ClockForm, &[Token])>
     ensures { option_map (λ x. (clock_of x.0, x.1.now)) result ≡ clock_at tokens.now }
 {
     match tokens {
-        [Token::Word(Word::Every), Token::Number(period), behind @ ..] => {
-            let (offset, rest) = offset(behind);
+        [Token::Word(Word::Every), Token::Number(period), after @ ..] => {
+            let (offset, rest) = offset(after);
             Some((ClockForm::Every(*period, offset), rest))
         }
         [Token::Word(Word::On), Token::Name(name), rest @ ..] => Some((ClockForm::On(*name), rest)),

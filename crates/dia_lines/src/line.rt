@@ -7,8 +7,8 @@ ghost use Rattle.dia_tokens.specs.Line.{Spells as SpellsTokens, HasBadStart};
 ghost use Rattle.dia_lines.specs.Answers.{Refuses, RefusesText, RefusesInDiagram, IsNextLine, RefusesAfter};
 ghost use Rattle.dia_lines.specs.Held.{IsHeld, IsKept};
 ghost use Rattle.dia_lines.specs.Lines.{Said, SaysStatement, SaysInScript, Reads, statements};
-ghost use Rattle.dia_lines.specs.Moves.{place_behind_line};
-ghost use Rattle.dia_lines.specs.Positions.{AreCounts, IsBehind};
+ghost use Rattle.dia_lines.specs.Moves.{place_after_line};
+ghost use Rattle.dia_lines.specs.Positions.{AreCounts, IsAfter};
 ghost use Rattle.dia_lines.specs.Statements.{Statement};
 ghost use Rattle.dia_lines.specs.declared.fault.LineError.TheVariants.{Refused, NoMemory as OutOfMemory};
 ghost use Rattle.dia_lines.specs.declared.fault.ReadCode.TheVariants.{BadByte, BadToken};
@@ -33,10 +33,10 @@ fn line_tokens(alloc: Global, line: &[u8]) -> Result<Vec<Token>, LineError>
 
 /// A line of the diagram, and the counts after it.
 fn diagram_line(alloc: Global, position: Position, line: &[u8]) -> Result<(Line, Counts), LineError>
-    ensures found { (before : List Said) → IsBehind before position
+    ensures found { (before : List Said) → IsAfter before position
         → IfOk result (λ r. (s : Statement) × SaysStatement before line.now s × IsKept s r.0
         × AreCounts (s ∷ statements before) r.1) }
-    ensures fault { (before : List Said) → IsBehind before position
+    ensures fault { (before : List Said) → IsAfter before position
         → IfErr result (λ e. RefusesInDiagram before line.now e) }
     ensures bad_byte { list_all is_allowed line.now ≡ false → result ≡ Err (Refused BadByte) }
     ensures bad_token { HasBadStart line.now → result ≡ Err (Refused BadToken) }
@@ -69,8 +69,8 @@ fn script_line(alloc: Global, line: &[u8]) -> Result<Line, LineError>
 }
 
 /// The place after a line that may stand at the place.
-fn place_behind(place: Place, line: &Line) -> Place
-    ensures { result ≡ place_behind_line place line.now }
+fn place_after(place: Place, line: &Line) -> Place
+    ensures { result ≡ place_after_line place line.now }
 {
     match line {
         Line::Header => Place::Policy,
@@ -86,10 +86,10 @@ fn place_behind(place: Place, line: &Line) -> Place
 
 /// What the line says after those before it, and the counts after it.
 fn counted_line(alloc: Global, position: Position, line: &[u8]) -> Result<(Line, Counts), LineError>
-    ensures found { (before : List Said) → IsBehind before position
+    ensures found { (before : List Said) → IsAfter before position
         → IfOk result (λ r. (said : Said) × Reads before line.now said × IsHeld said r.0
         × AreCounts (statements (said ∷ before)) r.1) }
-    ensures fault { (before : List Said) → IsBehind before position
+    ensures fault { (before : List Said) → IsAfter before position
         → IfErr result (λ e. Refuses before line.now e) }
     ensures memory { position.place ≡ Trace → IfErr result (λ e. e ≢ OutOfMemory) }
     ensures bad_byte { list_all is_allowed line.now ≡ false → result ≡ Err (Refused BadByte) }
@@ -125,6 +125,6 @@ pub fn read_line(
         → result ≡ Err (Refused BadToken) }
 {
     let (line, counts) = counted_line(alloc, position, line)?;
-    let place = place_behind(position.place, &line);
+    let place = place_after(position.place, &line);
     Ok((line, Position { place, counts }))
 }

@@ -66,8 +66,8 @@ fn event<'t>(tokens: &'t [Token]) -> Option<Form<'t>>
 fn options<'t>(name: Name, clock: ClockForm, tokens: &'t [Token]) -> Option<Form<'t>>
     ensures { option_map shape_of result ≡ options_at name (clock_of clock) tokens.now }
 {
-    let (prio, behind) = prio(tokens);
-    let (deadline, rest) = deadline(behind);
+    let (prio, after) = prio(tokens);
+    let (deadline, rest) = deadline(after);
     let cost = cost_alone(rest)?;
     Some(Form::Task(TaskForm {
         name,
@@ -83,8 +83,8 @@ fn task<'t>(tokens: &'t [Token]) -> Option<Form<'t>>
     ensures { option_map shape_of result ≡ task_at tokens.now }
 {
     match tokens {
-        [Token::Name(name), behind @ ..] => {
-            let Some((clock, rest)) = clock(behind) else {
+        [Token::Name(name), after @ ..] => {
+            let Some((clock, rest)) = clock(after) else {
                 return None;
             };
             options(*name, clock, rest)
@@ -137,10 +137,10 @@ fn port_read<'t>(name: Name, delay: Option<i64>, tokens: &'t [Token]) -> Option<
 fn read<'t>(tokens: &'t [Token]) -> Option<Form<'t>>
     ensures { option_map shape_of result ≡ read_at tokens.now }
 {
-    let Some((name, behind)) = assigned(tokens) else {
+    let Some((name, after)) = assigned(tokens) else {
         return None;
     };
-    let (delay, rest) = delay_at(behind);
+    let (delay, rest) = delay_at(after);
     port_read(name, delay, rest)
 }
 
@@ -168,10 +168,10 @@ fn next_form<'t>(tokens: &'t [Token]) -> Option<Form<'t>>
 fn out<'t>(tokens: &'t [Token]) -> Option<Form<'t>>
     ensures { option_map shape_of result ≡ out_at tokens.now }
 {
-    let Some((name, behind)) = assigned(tokens) else {
+    let Some((name, after)) = assigned(tokens) else {
         return None;
     };
-    let Some((first, rest)) = first_value(behind) else {
+    let Some((first, rest)) = first_value(after) else {
         return None;
     };
     Some(Form::Out(name, first, rest))

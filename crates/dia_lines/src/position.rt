@@ -33,11 +33,11 @@ pub struct Position {
 impl Position {
     ghost use Rattle.std.specs.Prelude.{[], ◌↔◌, IsTrue};
     ghost use Rattle.dia_lines.specs.declared.place.Place.TheVariants.{Ended};
-    ghost use Rattle.dia_lines.specs.Positions.{IsBehind};
+    ghost use Rattle.dia_lines.specs.Positions.{IsAfter};
 
     /// Before the first line.
     pub fn start() -> Position
-        ensures { IsBehind [] result }
+        ensures { IsAfter [] result }
     {
         Position {
             place: Place::Header,

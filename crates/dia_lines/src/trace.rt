@@ -4,7 +4,7 @@ ghost use Rattle.std.specs.Prelude.{◌≡◌, ◌≤◌, false, length, IfOk, I
 ghost use Rattle.std.specs.List.{list_all, prefix_len, suffix_len};
 ghost use Rattle.dia_lines.specs.declared.fault.ReadCode.TheVariants.{BadByte};
 ghost use Rattle.dia_lines.specs.Sections.{is_space, is_trace_byte};
-ghost use Rattle.dia_lines.specs.Trimmed.{behind_spaces, before_spaces, trimmed};
+ghost use Rattle.dia_lines.specs.Trimmed.{after_spaces, before_spaces, trimmed};
 ghost use Rattle.dia_lines.specs.Lines.{Said, SaysInTrace};
 ghost use Rattle.dia_lines.specs.Held.{IsHeld};
 
@@ -35,7 +35,7 @@ fn spaces_before(line: &[u8]) -> usize
     line.iter().take_while(|byte| is_space_byte(**byte)).count()
 }
 
-fn spaces_behind(line: &[u8]) -> usize
+fn spaces_after(line: &[u8]) -> usize
     ensures value { result ≡ suffix_len is_space line.now }
     ensures within { result ≤ length line.now }
 {
@@ -46,7 +46,7 @@ fn spaces_behind(line: &[u8]) -> usize
 }
 
 fn trim_start(line: &[u8]) -> &[u8]
-    ensures { result.now ≡ behind_spaces line.now }
+    ensures { result.now ≡ after_spaces line.now }
 {
     let len = spaces_before(line);
     &line[len..]
@@ -55,7 +55,7 @@ fn trim_start(line: &[u8]) -> &[u8]
 fn trim_end(text: &[u8]) -> &[u8]
     ensures { result.now ≡ before_spaces text.now }
 {
-    let len = text.len() - spaces_behind(text);
+    let len = text.len() - spaces_after(text);
     &text[..len]
 }
 

@@ -184,11 +184,11 @@ operator-unsigned op.Or = tt
 operator-unsigned op.Min = tt
 operator-unsigned op.Max = tt
 
-behind-prefix : (o : UnOp) (rest : List Token) → KeepsSigns true rest → Follows (prefix_token o ∷ rest)
-behind-prefix o rest k s = (λ e. prefix-unsigned o, subst (λ b. KeepsSigns b rest) (sym (prefix-signs o)) k)
+after-prefix : (o : UnOp) (rest : List Token) → KeepsSigns true rest → Follows (prefix_token o ∷ rest)
+after-prefix o rest k s = (λ e. prefix-unsigned o, subst (λ b. KeepsSigns b rest) (sym (prefix-signs o)) k)
 
-behind-operator : (o : BinOp) (rest : List Token) → KeepsSigns true rest → Follows (operator_token o ∷ rest)
-behind-operator o rest k s = (λ e. operator-unsigned o, subst (λ b. KeepsSigns b rest) (sym (operator-signs o)) k)
+after-operator : (o : BinOp) (rest : List Token) → KeepsSigns true rest → Follows (operator_token o ∷ rest)
+after-operator o rest k s = (λ e. operator-unsigned o, subst (λ b. KeepsSigns b rest) (sym (operator-signs o)) k)
 
 abbrev KeepsAt : List Token → Type 0
 KeepsAt ts = (rest : List Token) → Follows rest → KeepsSigns true (ts ++ rest)
@@ -200,15 +200,15 @@ enclosed-keeps true ts k rest f =
 
 called-keeps : (o : BinOp) (xs ys : List Token) → KeepsAt xs → KeepsAt ys → KeepsAt (call_tokens o xs ys)
 called-keeps o xs ys k l rest f =
-    let behind_second : List Token = Symbol symbol.Close ∷ rest in
-    let behind_first : List Token = Symbol symbol.Comma ∷ ((ys ++ Symbol symbol.Close ∷ []) ++ rest) in
-    let second : KeepsSigns true ((ys ++ Symbol symbol.Close ∷ []) ++ rest) = subst (KeepsSigns true) (sym (append_assoc ys (Symbol symbol.Close ∷ []) rest)) (l behind_second (λ s. (λ e. tt, f false))) in
+    let after_second : List Token = Symbol symbol.Close ∷ rest in
+    let after_first : List Token = Symbol symbol.Comma ∷ ((ys ++ Symbol symbol.Close ∷ []) ++ rest) in
+    let second : KeepsSigns true ((ys ++ Symbol symbol.Close ∷ []) ++ rest) = subst (KeepsSigns true) (sym (append_assoc ys (Symbol symbol.Close ∷ []) rest)) (l after_second (λ s. (λ e. tt, f false))) in
     let first : KeepsSigns true ((xs ++ Symbol symbol.Comma ∷ (ys ++ Symbol symbol.Close ∷ [])) ++ rest) =
-    subst (KeepsSigns true) (sym (append_assoc xs (Symbol symbol.Comma ∷ (ys ++ Symbol symbol.Close ∷ [])) rest)) (k behind_first (λ s. (λ e. tt, second))) in
-    behind-operator o (Symbol symbol.Open ∷ ((xs ++ Symbol symbol.Comma ∷ (ys ++ Symbol symbol.Close ∷ [])) ++ rest)) (λ e. tt, first) true
+    subst (KeepsSigns true) (sym (append_assoc xs (Symbol symbol.Comma ∷ (ys ++ Symbol symbol.Close ∷ [])) rest)) (k after_first (λ s. (λ e. tt, second))) in
+    after-operator o (Symbol symbol.Open ∷ ((xs ++ Symbol symbol.Comma ∷ (ys ++ Symbol symbol.Close ∷ [])) ++ rest)) (λ e. tt, first) true
 
 between-keeps : (o : BinOp) (xs ys : List Token) → KeepsAt xs → KeepsAt ys → KeepsAt (xs ++ operator_token o ∷ ys)
-between-keeps o xs ys k l rest f = subst (KeepsSigns true) (sym (append_assoc xs (operator_token o ∷ ys) rest)) (k (operator_token o ∷ (ys ++ rest)) (behind-operator o (ys ++ rest) (l rest f)))
+between-keeps o xs ys k l rest f = subst (KeepsSigns true) (sym (append_assoc xs (operator_token o ∷ ys) rest)) (k (operator_token o ∷ (ys ++ rest)) (after-operator o (ys ++ rest) (l rest f)))
 
 chosen-keeps : (cs xs ys : List Token) → KeepsAt cs → KeepsAt xs → KeepsAt ys → KeepsAt (choice_tokens cs xs ys)
 chosen-keeps cs xs ys j k l rest f =
@@ -225,7 +225,7 @@ either-keeps false xs ys k l = l
 pub keeps-tokens : (x : Expression) (rest : List Token) → ((s : Bool) → KeepsSigns s rest) → KeepsSigns true (tokens_of x ++ rest)
 keeps-tokens (number z) rest f = (λ e. absurd cc, f false)
 keeps-tokens (variable n) rest f = (λ e. tt, f false)
-keeps-tokens (unary o x) rest f = behind-prefix o (operand_tokens x ++ rest) (enclosed-keeps (is_compound x) (tokens_of x) (keeps-tokens x) rest f) true
+keeps-tokens (unary o x) rest f = after-prefix o (operand_tokens x ++ rest) (enclosed-keeps (is_compound x) (tokens_of x) (keeps-tokens x) rest f) true
 keeps-tokens (binary o x y) rest f =
     either-keeps (is_call o) (call_tokens o (tokens_of x) (tokens_of y)) (operand_tokens x ++ operator_token o ∷ operand_tokens y)
     (called-keeps o (tokens_of x) (tokens_of y) (keeps-tokens x) (keeps-tokens y))
@@ -309,19 +309,19 @@ max-le : (a b m : ℕ) → a ≤ m → b ≤ m → max a b ≤ m
 max-le a b m h k = omega (arith, h, k)
 
 shallow-more : (a b : ℕ) (ts : List Token) → a ≤ b → Shallow a ts → Shallow b ts
-shallow-more a b ts le h k m rest fits behind = h k m rest (omega (arith, le, fits)) behind
+shallow-more a b ts le h k m rest fits after = h k m rest (omega (arith, le, fits)) after
 
 shallow-append : (n : ℕ) (xs ys : List Token) → Shallow n xs → Shallow n ys → Shallow n (xs ++ ys)
-shallow-append n xs ys h l k m rest fits behind = rw (append_assoc xs ys rest) (h k m (ys ++ rest) fits (l k m rest fits behind))
+shallow-append n xs ys h l k m rest fits after = rw (append_assoc xs ys rest) (h k m (ys ++ rest) fits (l k m rest fits after))
 
 shallow-level : (n : ℕ) (t : Token) (ts : List Token) → 1 ≤ n → IsLevel t → Shallow n ts → Shallow n (t ∷ ts)
-shallow-level n t ts some l h k m rest fits behind = max-le k (deepest (opened k t) (ts ++ rest)) m (omega (arith, some, fits)) (rw (l k) (h k m rest fits behind))
+shallow-level n t ts some l h k m rest fits after = max-le k (deepest (opened k t) (ts ++ rest)) m (omega (arith, some, fits)) (rw (l k) (h k m rest fits after))
 
 -- in parentheses
 shallow-inside : (n : ℕ) (ts : List Token) → 1 ≤ n → Shallow n ts → Shallow (n + 1) (Symbol symbol.Open ∷ (ts ++ Symbol symbol.Close ∷ []))
-shallow-inside n ts some h k m rest fits behind =
+shallow-inside n ts some h k m rest fits after =
     let back : k + 1 - 1 ≡ k = omega arith in
-    let last : deepest (k + 1) (Symbol symbol.Close ∷ rest) ≤ m = max-le (k + 1) (deepest (k + 1 - 1) rest) m (omega (arith, some, fits)) (rw back behind) in
+    let last : deepest (k + 1) (Symbol symbol.Close ∷ rest) ≤ m = max-le (k + 1) (deepest (k + 1 - 1) rest) m (omega (arith, some, fits)) (rw back after) in
     let inside : deepest (k + 1) (ts ++ Symbol symbol.Close ∷ rest) ≤ m = h (k + 1) m (Symbol symbol.Close ∷ rest) (omega (arith, fits)) last in
     max-le k (deepest (k + 1) ((ts ++ Symbol symbol.Close ∷ []) ++ rest)) m (omega (arith, some, fits)) (rw (append_assoc ts (Symbol symbol.Close ∷ []) rest) inside)
 
@@ -362,8 +362,8 @@ either-shallow true n xs ys h l = h
 either-shallow false n xs ys h l = l
 
 shallow-tokens : (x : Expression) → Shallow (size_of x) (tokens_of x)
-shallow-tokens (number z) = λ k m rest fits behind. max-le k (deepest k rest) m (omega (arith, fits)) behind
-shallow-tokens (variable n) = λ k m rest fits behind. max-le k (deepest k rest) m (omega (arith, fits)) behind
+shallow-tokens (number z) = λ k m rest fits after. max-le k (deepest k rest) m (omega (arith, fits)) after
+shallow-tokens (variable n) = λ k m rest fits after. max-le k (deepest k rest) m (omega (arith, fits)) after
 shallow-tokens (unary o x) =
     shallow-level (size_of x + 1) (prefix_token o) (operand_tokens x) (omega arith) (prefix-level o) (enclosed-shallow (is_compound x) (size_of x) (tokens_of x) (one_node x) (shallow-tokens x))
 shallow-tokens (binary o x y) =

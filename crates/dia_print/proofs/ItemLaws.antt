@@ -153,8 +153,8 @@ pub record IsLine (place : Place) (ts : List Token) (s : Statement) : Type 0 whe
   pub faultless : token_fault place ts ≡ None
 
 -- a place after the first line
-abbrev pub IsBehindHeader : Place → Type 0
-IsBehindHeader place = (ts : List Token) → lacks_header place ts ≡ false
+abbrev pub IsAfterHeader : Place → Type 0
+IsAfterHeader place = (ts : List Token) → lacks_header place ts ≡ false
 
 -- the tokens after are no number
 abbrev Follows : List Token → Type 0
@@ -262,10 +262,10 @@ printable-nodes at (choice c x y) h =
 expression-printable : (e : Expr (List ℕ)) → IsPrintableExpr e → AllByRecursion IsPrintableToken (tokens_of (tree_of e))
 expression-printable e h = each-printable (tree_of e) (printable-nodes 0 (tree_of e) (recursion_from_All IsPrintableNode (nodes_of 0 (tree_of e)) (subst (All IsPrintableNode) e.tree.1 h)))
 
-module _ (place : Place) (behind : IsBehindHeader place) where
+module _ (place : Place) (after : IsAfterHeader place) where
   plain-line : (ts : List Token) (s : Statement) → expression_of ts ≡ [] → AllByRecursion IsPlain ts → IsStatement ts s → AllByRecursion IsPrintableToken ts → KeepsSigns true ts → IsLine place ts s
   plain-line ts s e p form printable signs =
-      record { form = form; printable = All-from_recursion IsPrintableToken ts printable; signs = signs; faultless = plain-faultless place ts (behind ts) e p }
+      record { form = form; printable = All-from_recursion IsPrintableToken ts printable; signs = signs; faultless = plain-faultless place ts (after ts) e p }
 
   pub policy-line : (p : Policy) → IsLine place (policy_tokens p) (policy p)
   policy-line Fp = plain-line (policy_tokens Fp) (policy Fp) refl (λ k. refl, (λ k. refl, tt)) fixed_priorities (tt, (tt, tt)) (λ e. tt, (λ e. tt, tt))
@@ -298,7 +298,7 @@ module _ (place : Place) (behind : IsBehindHeader place) where
         form = part-says (part.Let n e) h;
         printable = All-from_recursion IsPrintableToken ts (tt, (h.0, (tt, expression-printable e h.1)));
         signs = (λ s. tt, (λ s. tt, (λ s. tt, expression-keeps (tree_of e))));
-        faultless = faultless place ts (behind ts) (expression-nodes e) (omega (arith, expression-depth e));
+        faultless = faultless place ts (after ts) (expression-nodes e) (omega (arith, expression-depth e));
       }
   part-line (part.Next n e) h =
       let ts = part_tokens (part.Next n e) in
@@ -306,7 +306,7 @@ module _ (place : Place) (behind : IsBehindHeader place) where
         form = part-says (part.Next n e) h;
         printable = All-from_recursion IsPrintableToken ts (tt, (h.0, (tt, expression-printable e h.1)));
         signs = (λ s. tt, (λ s. tt, (λ s. tt, expression-keeps (tree_of e))));
-        faultless = faultless place ts (behind ts) (expression-nodes e) (omega (arith, expression-depth e));
+        faultless = faultless place ts (after ts) (expression-nodes e) (omega (arith, expression-depth e));
       }
   part-line (part.Out n v e) h =
       let ts = part_tokens (part.Out n v e) in
@@ -314,7 +314,7 @@ module _ (place : Place) (behind : IsBehindHeader place) where
         form = part-says (part.Out n v e) h;
         printable = All-from_recursion IsPrintableToken ts (tt, (h.0, (tt, (h.1, (tt, expression-printable e h.2)))));
         signs = (λ s. tt, (λ s. tt, (λ s. tt, (λ s. absurd cc, (λ s. tt, expression-keeps (tree_of e))))));
-        faultless = faultless place ts (behind ts) (expression-nodes e) (omega (arith, expression-depth e));
+        faultless = faultless place ts (after ts) (expression-nodes e) (omega (arith, expression-depth e));
       }
 
   -- a line of one word

@@ -4,7 +4,7 @@ use Rattle.std.specs.Prelude.{Result, Ok, Err, OnOk}
 use Rattle.dia_tokens.specs.declared.token.Token.{Token}
 use Rattle.dia_tokens.specs.declared.edge.Edge.{Edge}
 use Rattle.dia_tokens.specs.declared.edge.Edge.TheVariants.{Tight}
-use Rattle.dia_tokens.specs.TokenText.{text_behind, line_of}
+use Rattle.dia_tokens.specs.TokenText.{text_after, line_of}
 use Rattle.dia_print.specs.Printed.{Printed, with_token, with_tokens, with_bytes, ended}
 
 pub with_tokens-append : (p : Printed) (ts us : List Token) → with_tokens p (ts ++ us) ≡ with_tokens (with_tokens p ts) us
@@ -12,8 +12,8 @@ with_tokens-append p [] us = refl
 with_tokens-append p (t ∷ ts) us = with_tokens-append (with_token p t) ts us
 
 -- tokens and then more
-pub behind : (p q r : Printed) (ts us : List Token) → q ≡ with_tokens p ts → r ≡ with_tokens q us → r ≡ with_tokens p (ts ++ us)
-behind p q r ts us e f = f ∙ ap (λ (k : Printed). with_tokens k us) e ∙ sym (with_tokens-append p ts us)
+pub after : (p q r : Printed) (ts us : List Token) → q ≡ with_tokens p ts → r ≡ with_tokens q us → r ≡ with_tokens p (ts ++ us)
+after p q r ts us e f = f ∙ ap (λ (k : Printed). with_tokens k us) e ∙ sym (with_tokens-append p ts us)
 
 abbrev tight : List ℕ → Printed
 tight text = record { text = text; edge = Tight }
@@ -22,13 +22,13 @@ tight text = record { text = text; edge = Tight }
 pub with-more : (p : Printed) (xs ys : List ℕ) → with_bytes (with_bytes p xs) ys ≡ with_bytes p (xs ++ ys)
 with-more p xs ys = ap tight (append_assoc p.text xs ys)
 
-ended-is : (p : Printed) (ts : List Token) → ended (with_tokens p ts) ≡ with_bytes p (text_behind p.edge ts ++ 10 ∷ [])
+ended-is : (p : Printed) (ts : List Token) → ended (with_tokens p ts) ≡ with_bytes p (text_after p.edge ts ++ 10 ∷ [])
 ended-is p [] = refl
 ended-is p (t ∷ ts) = ended-is (with_token p t) ts ∙ ap tight (simp append_assoc)
 
 -- tokens at the start of a line, and its end
 pub line-is : (p q : Printed) (ts : List Token) → p.edge ≡ Tight → q ≡ with_tokens p ts → ended q ≡ with_bytes p (line_of ts)
-line-is p q ts starts e = ap ended e ∙ ended-is p ts ∙ ap (λ (edge : Edge). with_bytes p (text_behind edge ts ++ 10 ∷ [])) starts
+line-is p q ts starts e = ap ended e ∙ ended-is p ts ∙ ap (λ (edge : Edge). with_bytes p (text_after edge ts ++ 10 ∷ [])) starts
 
 -- two spaces before a line
 pub indented : (p q r : Printed) (ts : List Token) → q ≡ with_bytes p (codes "  ") → r ≡ with_tokens q ts → ended r ≡ with_bytes p (codes "  " ++ line_of ts)

@@ -7,7 +7,7 @@ use Rattle.dbp_plan.specs.declared.node.Node.{Node}
 use Rattle.dbp_plan.specs.declared.node.Node.TheVariants.{Num, Var, Un, Bin, Pick}
 use Rattle.dbp_plan.specs.Tree.{Tree, number, variable, unary, binary, choice, size_of, root_of, nodes_of}
 use Rattle.dbp_plan.specs.TreeLaws.{length-nodes_of, one_node}
-use Rattle.dbp_plan.specs.Places.{read_place, front_place, behind_place}
+use Rattle.dbp_plan.specs.Places.{read_place, front_place, after_place}
 use Rattle.dia_print.specs.ExpressionTokens.{is_compound}
 use Rattle.dia_print.specs.Stands.{Stands, is_compound_node}
 
@@ -108,10 +108,10 @@ Holds {X} all at xs = (k : ℕ) (x : X) → slice_get xs k ≡ Some x → slice_
 holds-front : {X : Type 0} (all : List X) (at : ℕ) (xs ys : List X) → Holds all at (xs ++ ys) → Holds all at xs
 holds-front all at xs ys h k x e = h k x (front_place xs ys k (slice_get_within xs k x e) ∙ e)
 
-holds-behind : {X : Type 0} (all : List X) (at n : ℕ) (xs ys : List X) → n ≡ length xs → Holds all at (xs ++ ys) → Holds all (at + n) ys
-holds-behind all at n xs ys size h k x e =
+holds-after : {X : Type 0} (all : List X) (at n : ℕ) (xs ys : List X) → n ≡ length xs → Holds all at (xs ++ ys) → Holds all (at + n) ys
+holds-after all at n xs ys size h k x e =
     let place : at + n + k ≡ at + (length xs + k) = omega (arith, size) in
-    ap (λ j. slice_get all j) place ∙ h (length xs + k) x (behind_place xs ys k ∙ e)
+    ap (λ j. slice_get all j) place ∙ h (length xs + k) x (after_place xs ys k ∙ e)
 
 holds-one : {X : Type 0} (all : List X) (at place : ℕ) (x : X) → place ≡ at → Holds all at (x ∷ []) → slice_get all place ≡ Some x
 holds-one all at place x e h = let same : place ≡ at + 0 = omega (arith, e) in ap (λ j. slice_get all j) same ∙ h 0 x refl
@@ -124,7 +124,7 @@ stands nodes at (unary op t) h =
     let ts = nodes_of at t in
     let root = root_of at (unary op t) in
     let size : size_of t ≡ length ts = sym (length-nodes_of at t) in
-    let root_holds = holds-behind nodes at (size_of t) ts (root ∷ []) size h in
+    let root_holds = holds-after nodes at (size_of t) ts (root ∷ []) size h in
     (at + size_of t - 1, holds-one nodes (at + size_of t) (at + (size_of t + 1) - 1) root (omega arith) root_holds, omega (arith, one_node t), stands nodes at t (holds-front nodes at ts (root ∷ []) h))
 stands nodes at (binary op l r) h =
     let ls = nodes_of at l in
@@ -134,14 +134,14 @@ stands nodes at (binary op l r) h =
     let first = sym (length-nodes_of at l) in
     let second = sym (length-nodes_of (at + size_of l) r) in
     let size : size_of l + size_of r ≡ length (ls ++ rs) = omega (arith, first, second, length-append ls rs) in
-    let root_holds = holds-behind nodes at (size_of l + size_of r) (ls ++ rs) (root ∷ []) size h in (
+    let root_holds = holds-after nodes at (size_of l + size_of r) (ls ++ rs) (root ∷ []) size h in (
       at + size_of l - 1,
       at + size_of l + size_of r - 1,
       holds-one nodes (at + (size_of l + size_of r)) (at + (size_of l + size_of r + 1) - 1) root (omega arith) root_holds,
       omega (arith, one_node l, one_node r),
       omega (arith, one_node l, one_node r),
       stands nodes at l (holds-front nodes at ls rs both),
-      stands nodes (at + size_of l) r (holds-behind nodes at (size_of l) ls rs first both),
+      stands nodes (at + size_of l) r (holds-after nodes at (size_of l) ls rs first both),
     )
 stands nodes at (choice c y n) h =
     let cs = nodes_of at c in
@@ -155,8 +155,8 @@ stands nodes at (choice c y n) h =
     let third = sym (length-nodes_of (at + size_of c + size_of y) n) in
     let two : size_of c + size_of y ≡ length (cs ++ ys) = omega (arith, first, second, length-append cs ys) in
     let size : size_of c + size_of y + size_of n ≡ length (cs ++ ys ++ ns) = omega (arith, two, third, length-append (cs ++ ys) ns) in
-    let root_holds = holds-behind nodes at (size_of c + size_of y + size_of n) (cs ++ ys ++ ns) (root ∷ []) size h in
-    let last_holds = holds-behind nodes at (size_of c + size_of y) (cs ++ ys) ns two all in
+    let root_holds = holds-after nodes at (size_of c + size_of y + size_of n) (cs ++ ys ++ ns) (root ∷ []) size h in
+    let last_holds = holds-after nodes at (size_of c + size_of y) (cs ++ ys) ns two all in
     let moved : at + (size_of c + size_of y) ≡ at + size_of c + size_of y = omega arith in (
       at + size_of c - 1,
       at + size_of c + size_of y - 1,
@@ -166,7 +166,7 @@ stands nodes at (choice c y n) h =
       omega (arith, one_node c, one_node y, one_node n),
       omega (arith, one_node c, one_node y, one_node n),
       stands nodes at c (holds-front nodes at cs ys both),
-      stands nodes (at + size_of c) y (holds-behind nodes at (size_of c) cs ys first both),
+      stands nodes (at + size_of c) y (holds-after nodes at (size_of c) cs ys first both),
       stands nodes (at + size_of c + size_of y) n (subst (λ k. Holds nodes k ns) moved last_holds),
     )
 

@@ -8,7 +8,7 @@ use Rattle.dia_lines.specs.declared.fault.ReadCode.TheVariants.{MissingDone}
 use Rattle.dia_lines.specs.declared.place.Place.TheVariants.{Ended}
 use Rattle.dia_lines.specs.declared.position.Position.{Position}
 use Rattle.dia_lines.specs.Answers.{Refuses as RefusesLine}
-use Rattle.dia_lines.specs.Lines.{Said, place_behind, HasFault}
+use Rattle.dia_lines.specs.Lines.{Said, place_after, HasFault}
 use Rattle.dia_lines.specs.Text.{lines_of}
 use Rattle.dia_lines.proofs.TextLaws.{lines_of-nil}
 use Rattle.dia_read.specs.declared.draft.Draft.{Draft}
@@ -39,7 +39,7 @@ module _ (bytes : List ℕ) (number : ℕ) (position : Position) (draft : Draft)
 
   pub ended : position.place ≡ Ended → Spells bytes (finished draft)
   ended end =
-      let here : place_behind reached.before ≡ Ended = sym reached.behind.place ∙ end in
+      let here : place_after reached.before ≡ Ended = sym reached.after.place ∙ end in
       let h = reached.holds in
       let o = reached.once in
       let most : length (lines_with (is_statement_of is_trace) (reverse reached.before)) ≤ 1 = subst (λ p. length (lines_with (is_statement_of is_trace) (reverse reached.before)) ≤ traces_before p) here o.trace_line in
@@ -70,7 +70,7 @@ module _ (bytes : List ℕ) (number : ℕ) (position : Position) (draft : Draft)
   pub unended : is_blank_text bytes ≡ false → position.place ≢ Ended → IsFirstFault bytes (number + 1) MissingDone
   unended full open_end =
       let count : length (lines_of bytes) ≡ number = sym (ap length whole) ∙ reached.lines in
-      rw (← count) (no_end reached.before full run (λ end. open_end (reached.behind.place ∙ end)))
+      rw (← count) (no_end reached.before full run (λ end. open_end (reached.after.place ∙ end)))
 
 pub refused : (bytes : List ℕ) (number : ℕ) (before : List Said) (line : List ℕ) (error : LineError) → is_blank_text bytes ≡ false → RefusesLine before line error
     → ((code : ReadCode) → HasFault before line code → IsFirstLine (lines_of bytes) number code) → Refuses bytes (refused_at (number + 1) error)

@@ -18,9 +18,9 @@ use Rattle.dia_lines.specs.declared.position.Position.{Position}
 use Rattle.dia_lines.specs.Statements.{Statement}
 use Rattle.dia_lines.specs.Places.{is_body, leads}
 use Rattle.dia_lines.specs.Limits.{numbers_fit, is_input, is_event, is_task, is_read, is_out, of_this_task, passed_count}
-use Rattle.dia_lines.specs.Lines.{Said, says, statements, place_behind, keeps_lines, Reads, of_the_diagram}
+use Rattle.dia_lines.specs.Lines.{Said, says, statements, place_after, keeps_lines, Reads, of_the_diagram}
 use Rattle.dia_lines.specs.Held.{IsKept, IsHeld}
-use Rattle.dia_lines.specs.Positions.{IsBehind}
+use Rattle.dia_lines.specs.Positions.{IsAfter}
 use Rattle.dia_lines.specs.Sections.{is_trace_byte}
 use Rattle.dia_lines.specs.Text.{is_inside}
 use Rattle.dia_lines.proofs.TextLaws.{lines_of-line}
@@ -70,7 +70,7 @@ bare-drafted d n text (line.Step kept) = refl
 
 abbrev position_at : List Said → Position
 position_at before = record {
-  place = place_behind before;
+  place = place_after before;
   counts = record {
     inputs = length (filter is_input (statements before));
     events = length (filter is_event (statements before));
@@ -82,8 +82,8 @@ position_at before = record {
   };
 }
 
-behind-there : (before : List Said) → IsBehind before (position_at before)
-behind-there before = record { place = refl; counts = record { inputs = refl; events = refl; tasks = refl; links = refl; body = refl; reads = refl; outs = refl } }
+after-there : (before : List Said) → IsAfter before (position_at before)
+after-there before = record { place = refl; counts = record { inputs = refl; events = refl; tasks = refl; links = refl; body = refl; reads = refl; outs = refl } }
 
 -- ---- where a reader stands
 
@@ -96,20 +96,20 @@ pub record At (bytes rest : List ℕ) (place : Place) (content : Draft) : Type 0
   pub here : position.place ≡ place
   pub holds : bare draft ≡ content
 
-pub at-start : (bytes : List ℕ) → At bytes bytes (place_behind []) (bare empty_draft)
-at-start bytes = record { number = 0; position = position_at []; draft = empty_draft; reached = reached-start bytes (position_at []) (behind-there []); here = refl; holds = refl }
+pub at-start : (bytes : List ℕ) → At bytes bytes (place_after []) (bare empty_draft)
+at-start bytes = record { number = 0; position = position_at []; draft = empty_draft; reached = reached-start bytes (position_at []) (after-there []); here = refl; holds = refl }
 
 pub at-same : (bytes xs ys : List ℕ) (place : Place) (content : Draft) → xs ≡ ys → At bytes xs place content → At bytes ys place content
 at-same bytes xs ys place content e at = subst (λ rest. At bytes rest place content) e at
 
 -- after a line
 pub next-line : (bytes text rest : List ℕ) (place q : Place) (content : Draft) (said : Said) (l : Line) → list_all is_inside text ≡ true → IsHeld said l
-    → ((before : List Said) → place_behind before ≡ place → place_behind (said ∷ before) ≡ q)
-    → ((before : List Said) (d : Draft) → place_behind before ≡ place → bare d ≡ content → PrintsAll (statements before) d → Reads before text said)
+    → ((before : List Said) → place_after before ≡ place → place_after (said ∷ before) ≡ q)
+    → ((before : List Said) (d : Draft) → place_after before ≡ place → bare d ≡ content → PrintsAll (statements before) d → Reads before text said)
     → At bytes (text ++ 10 ∷ rest) place content → At bytes rest q (bare (drafted content 0 (kept_text said) l))
 next-line bytes text rest place q content said l inside held stands reads at =
     let r = at.reached in
-    let there : place_behind r.before ≡ place = sym r.behind.place ∙ at.here in
+    let there : place_after r.before ≡ place = sym r.after.place ∙ at.here in
     let next = position_at (said ∷ r.before) in
     let size = length-append text (10 ∷ rest) in
     record {
@@ -117,7 +117,7 @@ next-line bytes text rest place q content said l inside held stands reads at =
       position = next;
       draft = drafted at.draft (at.number + 1) (kept_text said) l;
       reached = reached-more bytes (text ++ 10 ∷ rest) at.number at.position at.draft r text rest (lines_of-line text rest inside) (omega (arith, size)) (omega (arith, size)) l next
-          (said, reads r.before at.draft there at.holds r.printing, held, behind-there (said ∷ r.before));
+          (said, reads r.before at.draft there at.holds r.printing, held, after-there (said ∷ r.before));
       here = stands r.before there;
       holds = bare-drafted at.draft (at.number + 1) (kept_text said) l ∙ ap (λ (d : Draft). bare (drafted d 0 (kept_text said) l)) at.holds;
     }

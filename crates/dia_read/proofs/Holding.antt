@@ -224,7 +224,7 @@ module _ (said : List Said) (d : Draft) (h : Holds said d) where
   task-line-more : (s : Statement) (t : TaskLine) → IsTaskLine s t → Holds (said ++ says s ∷ []) (drafted d n [] (line.Task t))
   task-line-more (task x) t i =
       let e = drafted d n [] (line.Task t) in
-      let behind : all_tasks d.tasks ++ task_of t ∷ [] ≡ all_tasks e.tasks = refl in
+      let after : all_tasks d.tasks ++ task_of t ∷ [] ≡ all_tasks e.tasks = refl in
       record {
         ends = ends-with said (says (task x)) d e h.ends refl refl refl refl refl;
         sections = sections-same said (says (task x)) d e h.sections refl refl refl refl refl refl refl refl;
@@ -243,14 +243,14 @@ module _ (said : List Said) (d : Draft) (h : Holds said d) where
       let found = h.items.latest some in
       let before : AreTasks (filter is_of_task (statements said)) (d.tasks.earlier ++ found.0 ∷ []) =
       subst (λ (l : Option RawTask). AreTasks (filter is_of_task (statements said)) (d.tasks.earlier ++ option_to_list l)) found.1 h.items.tasks in
-      let behind : AreTasks (filter is_of_task (statements said) ++ s ∷ []) (all_tasks (added d.tasks p)) =
+      let after : AreTasks (filter is_of_task (statements said) ++ s ∷ []) (all_tasks (added d.tasks p)) =
       rw found.1 (part-more (filter is_of_task (statements said)) (d.tasks.earlier ++ found.0 ∷ []) d.tasks.earlier found.0 s p refl before i) in
       record {
         ends = ends-with said (says s) d e h.ends (rw k.no_policy refl) (rw k.no_end refl) (rw k.no_until refl) (rw k.no_done refl) (rw k.no_trace refl);
         sections = sections-same said (says s) d e h.sections k.no_trace refl k.no_script refl refl refl refl refl;
         items = items-with said (says s) d e h.items
             (rw (k.no_declaration, append-nil (filter is_declaration (statements said))) h.items.decls)
-            (rw (k.no_task, k.body) behind)
+            (rw (k.no_task, k.body) after)
             (λ _. (with_part p found.0, rw found.1 refl))
             (rw k.no_declaration (append-nil d.lines.decls)) (rw k.no_task (append-nil d.lines.tasks)) (rw k.body refl);
       }

@@ -18,7 +18,7 @@ use Rattle.dia_lines.specs.Statements.{Statement, task, state, sense, read, a_le
 use Rattle.dia_lines.specs.Places.{is_body, is_declaration}
 use Rattle.dia_lines.specs.Limits.{is_task}
 use Rattle.dia_lines.specs.Held.{IsDecl, IsTaskLine, IsPart}
-use Rattle.dia_lines.specs.Lines.{Said, says, row, step, statements, place_behind, Reads, of_the_diagram, of_the_trace, of_the_script, an_empty_row, trace_ends, script_begins, a_row, no_step, script_ends, a_step, SaysInTrace}
+use Rattle.dia_lines.specs.Lines.{Said, says, row, step, statements, place_after, Reads, of_the_diagram, of_the_trace, of_the_script, an_empty_row, trace_ends, script_begins, a_row, no_step, script_ends, a_step, SaysInTrace}
 use Rattle.dia_read.specs.declared.document.Doc.{Doc}
 use Rattle.dia_read.specs.declared.document.RawTask.{RawTask}
 use Rattle.dia_read.specs.Documents.{Run, no_line, a_line, Fit, none, another, AreTasks, no_task, a_task, first_line, is_of_task, is_statement_of, is_trace, is_script, is_row, is_step, kept, section, lines_from, lines_with, Spells}
@@ -147,7 +147,7 @@ begun-there begins before here there =
 nothing-more : (kind : Said → Bool) (said : List Said) (x : Said) → kept kind (x ∷ []) ≡ [] → kept kind (said ++ x ∷ []) ≡ kept kind said
 nothing-more kind said x e = kept-more kind said x ∙ rw e (append-nil (kept kind said))
 
-module _ (before : List Said) (line : List ℕ) (begun : Begun (place_behind before) before) (k : Keeps (reverse before)) where
+module _ (before : List Said) (line : List ℕ) (begun : Begun (place_after before) before) (k : Keeps (reverse before)) where
   keeps-statement : (s : Statement) → Keeps (reverse before ++ says s ∷ [])
   keeps-statement s = record {
     trace = subst (KeepsItself SaysInTrace row) (sym (nothing-more is_row (reverse before) (says s) refl)) k.trace;
@@ -157,7 +157,7 @@ module _ (before : List Said) (line : List ℕ) (begun : Begun (place_behind bef
     no_steps = still-none is_script is_step (reverse before) (says s) k.no_steps (λ _. refl);
   }
 
-  keeps-row : (text : List ℕ) → place_behind before ≡ Trace → SaysInTrace text (row text) → feeds text ≡ 0 → Keeps (reverse before ++ row text ∷ [])
+  keeps-row : (text : List ℕ) → place_after before ≡ Trace → SaysInTrace text (row text) → feeds text ≡ 0 → Keeps (reverse before ++ row text ∷ [])
   keeps-row text here says_so no_feed = record {
     trace = subst (KeepsItself SaysInTrace row) (append_assoc (kept is_row (reverse before)) text (10 ∷ []) ∙ sym (kept-more is_row (reverse before) (row text))) (keeps-more SaysInTrace row (kept is_row (reverse before)) text k.trace says_so);
     rows = lines-fed is_row (reverse before) (row text) k.rows (λ n. one-feed text no_feed);
@@ -167,7 +167,7 @@ module _ (before : List Said) (line : List ℕ) (begun : Begun (place_behind bef
     no_steps = still-none is_script is_step (reverse before) (row text) k.no_steps (λ _. refl);
   }
 
-  keeps-step : (text : List ℕ) → place_behind before ≡ Script → feeds text ≡ 0 → Keeps (reverse before ++ step text ∷ [])
+  keeps-step : (text : List ℕ) → place_after before ≡ Script → feeds text ≡ 0 → Keeps (reverse before ++ step text ∷ [])
   keeps-step text here no_feed = record {
     trace = subst (KeepsItself SaysInTrace row) (sym (nothing-more is_row (reverse before) (step text) refl)) k.trace;
     rows = lines-fed is_row (reverse before) (step text) k.rows (λ n. refl);
@@ -187,7 +187,7 @@ module _ (before : List Said) (line : List ℕ) (begun : Begun (place_behind bef
   one-more x (of_the_script t s here (script_ends u h)) = keeps-statement _
   one-more x (of_the_script t s here (a_step u v ts e n o h)) = keeps-step v here (no-feed u v ts e h)
 
-keeps-run : (before after : List Said) (lines : List (List ℕ)) → Run before lines after → Begun (place_behind before) before → Keeps (reverse before) → Keeps (reverse after)
+keeps-run : (before after : List Said) (lines : List (List ℕ)) → Run before lines after → Begun (place_after before) before → Keeps (reverse before) → Keeps (reverse after)
 keeps-run before after lines (no_line c) b k = k
 keeps-run before after lines (a_line c a line ls said r run) b k =
     keeps-run (said ∷ c) a ls run (begun-more c line said b r) (subst Keeps (sym (reverse-more said c)) (one-more c line b k said r))

@@ -13,7 +13,7 @@ use Rattle.dia_lines.specs.declared.item.Line.TheVariants as line
 use Rattle.dia_lines.specs.declared.place.Place.TheVariants.{Body}
 use Rattle.dia_lines.specs.Held.{IsPart, IsKept, IsHeld}
 use Rattle.dia_lines.specs.Statements.{Statement, nothing}
-use Rattle.dia_lines.specs.Lines.{Said, says, row, step, place_behind, statements, Reads, of_the_diagram, of_the_trace, of_the_script, an_empty_row, trace_ends, script_begins, a_row, no_step, script_ends, a_step}
+use Rattle.dia_lines.specs.Lines.{Said, says, row, step, place_after, statements, Reads, of_the_diagram, of_the_trace, of_the_script, an_empty_row, trace_ends, script_begins, a_row, no_step, script_ends, a_step}
 use Rattle.dia_lines.specs.Limits.{is_task}
 use Rattle.dia_lines.proofs.PlaceLaws.{part-stands}
 use Rattle.dia_lines.proofs.TraceLaws.{row_is_line}
@@ -84,10 +84,10 @@ kept-part nothing p h = h
 kept-part s p h = h
 
 -- a line of a body stands after a task
-pub in-body : (before : List Said) (bytes : List ℕ) (said : Said) (p : Part) → Once (reverse before) (place_behind before) → Reads before bytes said → IsHeld said (line.Part p)
+pub in-body : (before : List Said) (bytes : List ℕ) (said : Said) (p : Part) → Once (reverse before) (place_after before) → Reads before bytes said → IsHeld said (line.Part p)
     → 1 ≤ length (filter is_task (statements (reverse before)))
 in-body before bytes (says s) p o (of_the_diagram b t e i) h =
-    let here : place_behind before ≡ Body = part-stands (place_behind before) i.stands.next s p i.stands.stands (kept-part s p h) in
+    let here : place_after before ≡ Body = part-stands (place_after before) i.stands.next s p i.stands.stands (kept-part s p h) in
     subst (λ q. tasks_before q ≤ length (filter is_task (statements (reverse before)))) here o.task_line
 in-body before bytes x p o (of_the_trace b t e (an_empty_row c i)) h = absurd h
 in-body before bytes x p o (of_the_trace b t e (trace_ends c i)) h = absurd h

@@ -6,7 +6,7 @@ use Rattle.dia_lines.specs.declared.place.Place.TheVariants.{Header, Policy, Unt
 use Rattle.dia_lines.specs.Statements.{Statement, nothing, header, policy, until, input, event, task, state, sense, read, a_let, a_next, out, trace, script, done}
 use Rattle.dia_lines.specs.Places.{leads}
 use Rattle.dia_lines.specs.Limits.{is_task}
-use Rattle.dia_lines.specs.Lines.{Said, says, row, step, statements, place_behind, Reads, of_the_diagram, of_the_trace, of_the_script, an_empty_row, trace_ends, script_begins, a_row, no_step, script_ends, a_step}
+use Rattle.dia_lines.specs.Lines.{Said, says, row, step, statements, place_after, Reads, of_the_diagram, of_the_trace, of_the_script, an_empty_row, trace_ends, script_begins, a_row, no_step, script_ends, a_step}
 use Rattle.dia_read.specs.Documents.{policies, ends, lines_from, lines_with, is_statement_of, is_until, is_done, is_trace, Run, no_line, a_line}
 use Rattle.dia_read.proofs.OneMore.{reverse-more, policies-more, ends-more, lines-more, filter-more}
 
@@ -113,23 +113,23 @@ once-kept : (said : List Said) (x : Said) (p : Place) → statements (x ∷ []) 
 once-kept said x p e l o =
     one_more said x p p o (rw e (omega arith)) (rw e (omega arith)) (λ n. rw (l n is_until) (omega arith)) (λ n. rw (l n is_done) (omega arith)) (λ n. rw (l n is_trace) (omega arith)) (rw e (omega arith))
 
-pub once-more : (before : List Said) (line : List ℕ) (x : Said) → Once (reverse before) (place_behind before) → Reads before line x → Once (reverse (x ∷ before)) (place_behind (x ∷ before))
+pub once-more : (before : List Said) (line : List ℕ) (x : Said) → Once (reverse before) (place_after before) → Reads before line x → Once (reverse (x ∷ before)) (place_after (x ∷ before))
 once-more before line x o r = rw (reverse-more x before) (go x r)
   where
-    stated : (s : Statement) (q : Place) → leads (place_behind before) s ≡ Some q → Once (reverse before ++ says s ∷ []) (place_behind (says s ∷ before))
-    stated s q e = rw e (once-led (reverse before) (place_behind before) q s o e)
+    stated : (s : Statement) (q : Place) → leads (place_after before) s ≡ Some q → Once (reverse before ++ says s ∷ []) (place_after (says s ∷ before))
+    stated s q e = rw e (once-led (reverse before) (place_after before) q s o e)
 
-    go : (x : Said) → Reads before line x → Once (reverse before ++ x ∷ []) (place_behind (x ∷ before))
+    go : (x : Said) → Reads before line x → Once (reverse before ++ x ∷ []) (place_after (x ∷ before))
     go x (of_the_diagram t s e says_so) = stated s says_so.stands.next says_so.stands.stands
     go x (of_the_trace t s here (an_empty_row u e)) = stated nothing Trace (rw here refl)
     go x (of_the_trace t s here (trace_ends u e)) = stated done Ended (rw here refl)
     go x (of_the_trace t s here (script_begins u e)) = stated script Script (rw here refl)
-    go x (of_the_trace t s here (a_row u e f)) = once-kept (reverse before) (row u) (place_behind before) refl (λ n kind. refl) o
+    go x (of_the_trace t s here (a_row u e f)) = once-kept (reverse before) (row u) (place_after before) refl (λ n kind. refl) o
     go x (of_the_script t s here (no_step u e)) = stated nothing Script (rw here refl)
     go x (of_the_script t s here (script_ends u e)) = stated done Ended (rw here refl)
-    go x (of_the_script t s here (a_step u v ts e n m h)) = once-kept (reverse before) (step v) (place_behind before) refl (λ n kind. refl) o
+    go x (of_the_script t s here (a_step u v ts e n m h)) = once-kept (reverse before) (step v) (place_after before) refl (λ n kind. refl) o
 
-pub once-run : (before after : List Said) (lines : List (List ℕ)) → Run before lines after → Once (reverse before) (place_behind before) → Once (reverse after) (place_behind after)
+pub once-run : (before after : List Said) (lines : List (List ℕ)) → Run before lines after → Once (reverse before) (place_after before) → Once (reverse after) (place_after after)
 once-run before after lines (no_line b) o = o
 once-run before after lines (a_line b a line ls said r run) o = once-run (said ∷ b) a ls run (once-more b line said o r)
 

@@ -15,7 +15,7 @@ use Rattle.dia_lines.specs.declared.place.Place.TheVariants.{Header, Policy, Unt
 use Rattle.dia_lines.specs.Statements.{Statement, nothing, trace, script, done}
 use Rattle.dia_lines.specs.Places.{leads}
 use Rattle.dia_lines.specs.Sections.{is_trace_byte}
-use Rattle.dia_lines.specs.Lines.{Said, says, place_behind, Reads, of_the_diagram, of_the_trace, of_the_script, an_empty_row, trace_ends, script_begins, a_row, no_step, script_ends, a_step}
+use Rattle.dia_lines.specs.Lines.{Said, says, place_after, Reads, of_the_diagram, of_the_trace, of_the_script, an_empty_row, trace_ends, script_begins, a_row, no_step, script_ends, a_step}
 use Rattle.dia_read.specs.declared.document.RawTask.{RawTask}
 use Rattle.dia_read.specs.declared.draft.Draft.{Draft}
 use Rattle.dia_read.specs.Documents.{Run, no_line, a_line, is_statement_of, is_trace, is_script}
@@ -131,13 +131,13 @@ begun-at Until nothing before b = tt
 begun-at Ended nothing before b = tt
 begun-at p s before b = tt
 
-pub begun-more : (before : List Said) (line : List ℕ) (x : Said) → Begun (place_behind before) before → Reads before line x → Begun (place_behind (x ∷ before)) (x ∷ before)
+pub begun-more : (before : List Said) (line : List ℕ) (x : Said) → Begun (place_after before) before → Reads before line x → Begun (place_after (x ∷ before)) (x ∷ before)
 begun-more before line x b r = go x r
   where
-    stated : (s : Statement) (q : Place) → leads (place_behind before) s ≡ Some q → Begun (place_behind (says s ∷ before)) (says s ∷ before)
-    stated s q e = rw e (subst (λ r. IfSome r (λ place. Begun place (says s ∷ before))) e (begun-at (place_behind before) s before b))
+    stated : (s : Statement) (q : Place) → leads (place_after before) s ≡ Some q → Begun (place_after (says s ∷ before)) (says s ∷ before)
+    stated s q e = rw e (subst (λ r. IfSome r (λ place. Begun place (says s ∷ before))) e (begun-at (place_after before) s before b))
 
-    go : (x : Said) → Reads before line x → Begun (place_behind (x ∷ before)) (x ∷ before)
+    go : (x : Said) → Reads before line x → Begun (place_after (x ∷ before)) (x ∷ before)
     go x (of_the_diagram t s e says_so) = stated s says_so.stands.next says_so.stands.stands
     go x (of_the_trace t s here (an_empty_row u e)) = stated nothing Trace (rw here refl)
     go x (of_the_trace t s here (trace_ends u e)) = stated done Ended (rw here refl)
@@ -147,14 +147,14 @@ begun-more before line x b r = go x r
     go x (of_the_script t s here (script_ends u e)) = stated done Ended (rw here refl)
     go x (of_the_script t s here (a_step u v ts e n m h)) = rw here (subst (λ p. Begun p before) here b)
 
-begun-run : (before after : List Said) (lines : List (List ℕ)) → Run before lines after → Begun (place_behind before) before → Begun (place_behind after) after
+begun-run : (before after : List Said) (lines : List (List ℕ)) → Run before lines after → Begun (place_after before) before → Begun (place_after after) after
 begun-run before after lines (no_line c) b = b
 begun-run before after lines (a_line c a line ls said r run) b = begun-run (said ∷ c) a ls run (begun-more c line said b r)
 
-pub trace-begun : (before after : List Said) (lines : List (List ℕ)) → Run before lines after → Begun (place_behind before) before → place_behind after ≡ Trace → list_any (is_statement_of is_trace) (reverse after) ≡ true
+pub trace-begun : (before after : List Said) (lines : List (List ℕ)) → Run before lines after → Begun (place_after before) before → place_after after ≡ Trace → list_any (is_statement_of is_trace) (reverse after) ≡ true
 trace-begun before after lines run b here =
     sym (list_any-IsPermutation (is_statement_of is_trace) after (reverse after) (IsPermutation-reverse after)) ∙ subst (λ p. Begun p after) here (begun-run before after lines run b)
 
-pub script-begun : (before after : List Said) (lines : List (List ℕ)) → Run before lines after → Begun (place_behind before) before → place_behind after ≡ Script → list_any (is_statement_of is_script) (reverse after) ≡ true
+pub script-begun : (before after : List Said) (lines : List (List ℕ)) → Run before lines after → Begun (place_after before) before → place_after after ≡ Script → list_any (is_statement_of is_script) (reverse after) ≡ true
 script-begun before after lines run b here =
     sym (list_any-IsPermutation (is_statement_of is_script) after (reverse after) (IsPermutation-reverse after)) ∙ subst (λ p. Begun p after) here (begun-run before after lines run b)

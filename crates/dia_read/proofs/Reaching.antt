@@ -2,7 +2,7 @@
 use Rattle.std.proofs.Common.{◌≡◌, ℕ, ◌+◌, ◌-◌, ◌*◌, ◌^◌, ◌<◌, ◌≤◌, true, List, [], ◌∷◌, ◌++◌, length, reverse, slice_get, Some, refl, sym, ap, subst, ◌∙◌, append_assoc, arith, length-append}
 use Rattle.std.proofs.lemmas.List.{take_at, length-reverse}
 use Rattle.dbp_plan.specs.declared.limits.TheConstants.{MAX_TEXT}
-use Rattle.dbp_plan.specs.Places.{behind_place}
+use Rattle.dbp_plan.specs.Places.{after_place}
 use Rattle.dia_tokens.proofs.SpellingLaws.{no-feed}
 use Rattle.dia_lines.specs.declared.fault.ReadCode.{ReadCode}
 use Rattle.dia_lines.specs.declared.item.Line.{Line}
@@ -10,8 +10,8 @@ use Rattle.dia_lines.specs.declared.item.Line.TheVariants as line
 use Rattle.dia_lines.specs.declared.place.Place.TheVariants.{Trace, Script}
 use Rattle.dia_lines.specs.declared.position.Position.{Position}
 use Rattle.dia_lines.specs.Held.{IsHeld}
-use Rattle.dia_lines.specs.Lines.{Said, says, row, step, place_behind, statements, Reads, of_the_trace, of_the_script, a_row, a_step, HasFault}
-use Rattle.dia_lines.specs.Positions.{IsBehind}
+use Rattle.dia_lines.specs.Lines.{Said, says, row, step, place_after, statements, Reads, of_the_trace, of_the_script, a_row, a_step, HasFault}
+use Rattle.dia_lines.specs.Positions.{IsAfter}
 use Rattle.dia_lines.specs.Text.{lines_of}
 use Rattle.dia_read.specs.declared.draft.Draft.{Draft}
 use Rattle.dia_read.specs.Documents.{Run, no_line, kept_text, IsFirstLine}
@@ -34,8 +34,8 @@ pub record Reached (bytes rest : List ℕ) (number : ℕ) (position : Position) 
   pub run : Run [] seen before
   pub count : length before ≡ number
   pub lines : length seen ≡ number
-  pub behind : IsBehind before position
-  pub once : Once (reverse before) (place_behind before)
+  pub after : IsAfter before position
+  pub once : Once (reverse before) (place_after before)
   pub holds : Holds (reverse before) draft
   pub bounded : Bounded draft number (2 * used)
   pub paired : Paired draft
@@ -43,7 +43,7 @@ pub record Reached (bytes rest : List ℕ) (number : ℕ) (position : Position) 
   pub few : number ≤ used
   pub within : used + length rest ≤ length bytes
 
-pub reached-start : (bytes : List ℕ) (position : Position) → IsBehind [] position → Reached bytes bytes 0 position empty_draft
+pub reached-start : (bytes : List ℕ) (position : Position) → IsAfter [] position → Reached bytes bytes 0 position empty_draft
 reached-start bytes position b = record {
   before = [];
   seen = [];
@@ -52,7 +52,7 @@ reached-start bytes position b = record {
   run = no_line [];
   count = refl;
   lines = refl;
-  behind = b;
+  after = b;
   once = once-start;
   holds = holds-start;
   bounded = bounded-start;
@@ -66,12 +66,12 @@ module _ (bytes rest : List ℕ) (number : ℕ) (position : Position) (draft : D
     (first : lines_of rest ≡ text ∷ lines_of after) (shorter : length after < length rest) (fits : length text + length after ≤ length rest) where
   -- the line says this, and it is held
   abbrev pub Next : Line → Position → Type 0
-  Next l next = (said : Said) × Reads reached.before text said × IsHeld said l × IsBehind (said ∷ reached.before) next
+  Next l next = (said : Said) × Reads reached.before text said × IsHeld said l × IsAfter (said ∷ reached.before) next
 
   abbrev pub text_in : (l : Line) (next : Position) → Next l next → List ℕ
   text_in l next n = kept_text n.0
 
-  has-task : (before : List Said) (said : Said) (l : Line) → Once (reverse before) (place_behind before) → Reads before text said → IsHeld said l → HasItsTask (reverse before) l
+  has-task : (before : List Said) (said : Said) (l : Line) → Once (reverse before) (place_after before) → Reads before text said → IsHeld said l → HasItsTask (reverse before) l
   has-task before said (line.Part p) o r h = in-body before text said p o r h
   has-task before said l o r h = tt
 
@@ -79,10 +79,10 @@ module _ (bytes rest : List ℕ) (number : ℕ) (position : Position) (draft : D
   latest (line.Part p) said r h = reached.holds.items.latest (in-body reached.before text said p reached.once r h)
   latest l said r h = tt
 
-  begun-trace : place_behind reached.before ≡ Trace → draft.trace.begun ≡ true
+  begun-trace : place_after reached.before ≡ Trace → draft.trace.begun ≡ true
   begun-trace here = sym reached.holds.sections.trace_begun ∙ trace-begun [] reached.before reached.seen reached.run tt here
 
-  begun-script : place_behind reached.before ≡ Script → draft.script.begun ≡ true
+  begun-script : place_after reached.before ≡ Script → draft.script.begun ≡ true
   begun-script here = sym reached.holds.sections.script_begun ∙ script-begun [] reached.before reached.seen reached.run tt here
 
   pairs : (l : Line) (said : Said) → Reads reached.before text said → IsHeld said l → PairsWith draft (kept_text said) l
@@ -98,7 +98,7 @@ module _ (bytes rest : List ℕ) (number : ℕ) (position : Position) (draft : D
   pairs l said r h = tt
 
   pub reached-more : (l : Line) (next : Position) (n : Next l next) → Reached bytes after (number + 1) next (drafted draft (number + 1) (text_in l next n) l)
-  reached-more l next (said, reads, held, behind) =
+  reached-more l next (said, reads, held, later) =
       let size : length (reverse reached.before) + 1 ≡ number + 1 = omega (arith, reached.count, length-reverse reached.before) in
       let add : ℕ = length rest - length after in
       record {
@@ -109,7 +109,7 @@ module _ (bytes rest : List ℕ) (number : ℕ) (position : Position) (draft : D
         run = run-more [] reached.before reached.seen text said reached.run reads;
         count = omega (arith, reached.count);
         lines = omega (arith, length-append reached.seen (text ∷ []), reached.lines);
-        behind = behind;
+        after = later;
         once = once-more reached.before text said reached.once reads;
         holds =
             let more = holds-more (reverse reached.before) draft reached.holds said l held (has-task reached.before said l reached.once reads held) in
@@ -134,7 +134,7 @@ module _ (bytes rest : List ℕ) (number : ℕ) (position : Position) (draft : D
   first-line code fault = record {
     line = text;
     stands =
-        let here : slice_get (reached.seen ++ lines_of rest) (length reached.seen + 0) ≡ slice_get (lines_of rest) 0 = behind_place reached.seen (lines_of rest) 0 in
+        let here : slice_get (reached.seen ++ lines_of rest) (length reached.seen + 0) ≡ slice_get (lines_of rest) 0 = after_place reached.seen (lines_of rest) 0 in
         let at : length reached.seen + 0 ≡ number = omega (arith, reached.lines) in
         rw reached.split (subst (λ (k : ℕ). slice_get (reached.seen ++ lines_of rest) k ≡ Some text) at (here ∙ ap (λ (ls : List (List ℕ)). slice_get ls 0) first));
     before = reached.before;

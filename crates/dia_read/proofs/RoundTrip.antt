@@ -34,7 +34,7 @@ use Rattle.dia_lines.specs.Sections.{IsAlone}
 use Rattle.dia_lines.specs.Text.{is_inside}
 use Rattle.dia_print.specs.ItemTokens.{header_tokens, policy_tokens, until_tokens, decl_tokens, task_tokens, part_tokens}
 use Rattle.dia_print.proofs.ItemStatements.{decl_statement, clock_of, task_statement, part_statement}
-use Rattle.dia_print.proofs.ItemLaws.{IsBehindHeader, header-line, policy-line, until-line, decl-line, task-line, part-line, trace-line, script-line, done-line}
+use Rattle.dia_print.proofs.ItemLaws.{IsAfterHeader, header-line, policy-line, until-line, decl-line, task-line, part-line, trace-line, script-line, done-line}
 use Rattle.dia_lines.proofs.DelayLaws.{given_delay, delay-given, short-given}
 use Rattle.dia_lines.proofs.RangeLaws.{fits}
 use Rattle.dia_lines.proofs.TraceLaws.{all_allowed}
@@ -116,30 +116,30 @@ part-kept (part.Out n v e) = (refl, refl, e.tree.1)
 
 -- ---- places
 
-policy-behind : IsBehindHeader PolicyPlace
-policy-behind [] = refl
-policy-behind (t ∷ ts) = refl
+policy-after : IsAfterHeader PolicyPlace
+policy-after [] = refl
+policy-after (t ∷ ts) = refl
 
-until-behind : IsBehindHeader Until
-until-behind [] = refl
-until-behind (t ∷ ts) = refl
+until-after : IsAfterHeader Until
+until-after [] = refl
+until-after (t ∷ ts) = refl
 
-declarations-behind : IsBehindHeader Declarations
-declarations-behind [] = refl
-declarations-behind (t ∷ ts) = refl
+declarations-after : IsAfterHeader Declarations
+declarations-after [] = refl
+declarations-after (t ∷ ts) = refl
 
-body-behind : IsBehindHeader BodyPlace
-body-behind [] = refl
-body-behind (t ∷ ts) = refl
+body-after : IsAfterHeader BodyPlace
+body-after [] = refl
+body-after (t ∷ ts) = refl
 
 -- where a task, a section or the end may stand
 data IsOpen : Place → Type 0 where
   in_declarations : IsOpen Declarations
   in_body : IsOpen BodyPlace
 
-open-behind : (place : Place) → IsOpen place → IsBehindHeader place
-open-behind place in_declarations = declarations-behind
-open-behind place in_body = body-behind
+open-after : (place : Place) → IsOpen place → IsAfterHeader place
+open-after place in_declarations = declarations-after
+open-after place in_body = body-after
 
 open-diagram : (place : Place) → IsOpen place → keeps_lines place ≡ false
 open-diagram place in_declarations = refl
@@ -199,7 +199,7 @@ decls-follow bytes rest p end ts tr sc pre (d ∷ ds) h few_inputs few_events at
     λ ss e is prints.
     let decls : e.decls ≡ pre = ap (λ (k : Draft). k.decls) is in
     decl-room ss e d prints (rw decls inputs) (rw decls events) in
-    let next = token-line bytes (flat_map decl_text ds ++ rest) Declarations Declarations (content p end pre ts tr sc) (decl_tokens d) (decl_statement d) (line.Decl d) (decl-line Declarations declarations-behind d h.0)
+    let next = token-line bytes (flat_map decl_text ds ++ rest) Declarations Declarations (content p end pre ts tr sc) (decl_tokens d) (decl_statement d) (line.Decl d) (decl-line Declarations declarations-after d h.0)
     refl (to-decl d) (decl-fits d) room (decl-kept d) (at-same bytes _ _ Declarations _ (append_assoc (decl_text d) (flat_map decl_text ds) rest) at) in
     subst (λ all. At bytes rest Declarations (content p end all ts tr sc)) same
     (decls-follow bytes rest p end ts tr sc (pre ++ d ∷ []) ds h.1 (rw same few_inputs) (rw same few_events) next)
@@ -225,7 +225,7 @@ parts-follow bytes rest p end ds tr sc es t pre (x ∷ ps) h body reads outs lin
     part-room ss e (with_parts t pre) x prints (ap (λ (k : Tasks). k.latest) tasks) (omega (arith, body, length-append pre (x ∷ ps)))
     (λ is_read. (omega (arith, reads, count-here is_read_part pre x ps is_read), omega (arith, links, count-here is_read_part pre x ps is_read, all, ap (λ (k : Tasks). sum_by reads_of (all_tasks k)) tasks)))
     (λ is_out. omega (arith, outs, count-here is_out_part pre x ps is_out)) in
-    let next = indented-line bytes (flat_map part_text ps ++ rest) BodyPlace BodyPlace now (part_tokens x) (part_statement x) (line.Part x) (part-line BodyPlace body-behind x h.0)
+    let next = indented-line bytes (flat_map part_text ps ++ rest) BodyPlace BodyPlace now (part_tokens x) (part_statement x) (line.Part x) (part-line BodyPlace body-after x h.0)
     refl (to-part x) (part-fits x h.0) room (part-kept x) (at-same bytes _ _ BodyPlace _ (append_assoc (part_text x) (flat_map part_text ps) rest) at) in
     subst (λ qs. At bytes rest BodyPlace (content p end ds (record { earlier = es; latest = Some (with_parts t qs) }) tr sc)) same
     (parts-follow bytes rest p end ds tr sc es t (pre ++ x ∷ []) ps h.1 (rw same body) (rw same reads) (rw same outs) (rw same links) next)
@@ -240,12 +240,12 @@ task-follows bytes rest p end ds tr sc ts place t o h few links at =
     let tasks : e.tasks ≡ ts = ap (λ (k : Draft). k.tasks) is in
     task-room ss e (first_line t) prints (rw tasks few) in
     let next = token-line bytes (flat_map part_text t.parts ++ rest) place BodyPlace (content p end ds ts tr sc) (task_tokens (first_line t)) (task_statement (first_line t)) (line.Task (first_line t))
-    (task-line place (open-behind place o) (first_line t) h.line) (open-diagram place o) (to-task place (first_line t) o) (task-fits (first_line t) h.line) room (task-kept (first_line t))
+    (task-line place (open-after place o) (first_line t) h.line) (open-diagram place o) (to-task place (first_line t) o) (task-fits (first_line t) h.line) room (task-kept (first_line t))
     (at-same bytes _ _ place _ (append_assoc (line_of (task_tokens (first_line t))) (flat_map part_text t.parts) rest) at) in
     parts-follow bytes rest p end ds tr sc (all_tasks ts) t [] t.parts (recursion_from_All IsPrintablePart t.parts h.parts) h.body h.reads h.outs links next
 
 -- after tasks
-record BehindTasks (bytes rest : List ℕ) (p : Policy) (end : ℕ) (ds : List Decl) (tr sc : Section) (all : List RawTask) : Type 0 where
+record AfterTasks (bytes rest : List ℕ) (p : Policy) (end : ℕ) (ds : List Decl) (tr sc : Section) (all : List RawTask) : Type 0 where
   place : Place
   open_there : IsOpen place
   tasks : Tasks
@@ -254,7 +254,7 @@ record BehindTasks (bytes rest : List ℕ) (p : Policy) (end : ℕ) (ds : List D
 
 tasks-follow : (bytes rest : List ℕ) (p : Policy) (end : ℕ) (ds : List Decl) (tr sc : Section) (ts : Tasks) (place : Place) (us : List RawTask) → IsOpen place → AllByRecursion IsPrintableTask us
     → length (all_tasks ts ++ us) ≤ MAX_TASKS → sum_by reads_of (all_tasks ts ++ us) ≤ MAX_READ_LINES
-    → At bytes (flat_map task_text us ++ rest) place (content p end ds ts tr sc) → BehindTasks bytes rest p end ds tr sc (all_tasks ts ++ us)
+    → At bytes (flat_map task_text us ++ rest) place (content p end ds ts tr sc) → AfterTasks bytes rest p end ds tr sc (all_tasks ts ++ us)
 tasks-follow bytes rest p end ds tr sc ts place [] o h few links at = record { place = place; open_there = o; tasks = ts; are = sym (append-nil (all_tasks ts)); at = at }
 tasks-follow bytes rest p end ds tr sc ts place (u ∷ us) o h few links at =
     let same : (all_tasks ts ++ u ∷ []) ++ us ≡ all_tasks ts ++ u ∷ us = append_assoc (all_tasks ts) (u ∷ []) us in
@@ -305,7 +305,7 @@ data IsBeforeScript : Place → Type 0 where
   no_trace : (place : Place) → IsOpen place → IsBeforeScript place
   in_trace : IsBeforeScript Trace
 
-record BehindTrace (bytes rest : List ℕ) (p : Policy) (end : ℕ) (ds : List Decl) (ts : Tasks) (tr sc : Section) : Type 0 where
+record AfterTrace (bytes rest : List ℕ) (p : Policy) (end : ℕ) (ds : List Decl) (ts : Tasks) (tr sc : Section) : Type 0 where
   place : Place
   before_script : IsBeforeScript place
   at : At bytes rest place (content p end ds ts tr sc)
@@ -314,12 +314,12 @@ no-room : (ss : List Statement) (d : Draft) → Prints ss d → (s : Statement) 
 no-room ss d p s e = e
 
 trace-follows : (bytes rest : List ℕ) (p : Policy) (end : ℕ) (ds : List Decl) (ts : Tasks) (sc : Section) (place : Place) (text : Option (List ℕ)) → IsOpen place → IfSome text (KeepsItself SaysInTrace row)
-    → At bytes (section_lines word.Trace text ++ rest) place (content p end ds ts empty_section sc) → BehindTrace bytes rest p end ds ts (section_of text) sc
+    → At bytes (section_lines word.Trace text ++ rest) place (content p end ds ts empty_section sc) → AfterTrace bytes rest p end ds ts (section_of text) sc
 trace-follows bytes rest p end ds ts sc place None o h at = record { place = place; before_script = no_trace place o; at = at }
 trace-follows bytes rest p end ds ts sc place (Some text) o h at =
     let lines = h.0 in
     let begun : Section = record { begun = true; text = [] } in
-    let next = token-line bytes (text ++ rest) place Trace (content p end ds ts empty_section sc) (token.Word word.Trace ∷ []) trace line.Trace (trace-line place (open-behind place o))
+    let next = token-line bytes (text ++ rest) place Trace (content p end ds ts empty_section sc) (token.Word word.Trace ∷ []) trace line.Trace (trace-line place (open-after place o))
     (open-diagram place o) (to-trace place o) refl (λ ss d is prints. refl) tt (at-same bytes _ _ place _ (append_assoc (line_of (token.Word word.Trace ∷ [])) text rest) at) in
     let rows = rows-follow bytes rest p end ds ts begun sc lines (recursion_from_All (λ l. SaysInTrace l (row l)) lines h.2) (subst (λ t. At bytes (t ++ rest) Trace (content p end ds ts begun sc)) h.1 next) in
     record { place = Trace; before_script = in_trace; at = subst (λ t. At bytes rest Trace (content p end ds ts (record { begun = true; text = t }) sc)) (sym h.1) rows }
@@ -332,7 +332,7 @@ data IsBeforeEnd : Place → Type 0 where
   no_script : (place : Place) → IsBeforeScript place → IsBeforeEnd place
   in_script : IsBeforeEnd Script
 
-record BehindScript (bytes rest : List ℕ) (p : Policy) (end : ℕ) (ds : List Decl) (ts : Tasks) (tr sc : Section) : Type 0 where
+record AfterScript (bytes rest : List ℕ) (p : Policy) (end : ℕ) (ds : List Decl) (ts : Tasks) (tr sc : Section) : Type 0 where
   place : Place
   before_end : IsBeforeEnd place
   at : At bytes rest place (content p end ds ts tr sc)
@@ -340,13 +340,13 @@ record BehindScript (bytes rest : List ℕ) (p : Policy) (end : ℕ) (ds : List 
 script-begins : (bytes rest : List ℕ) (p : Policy) (end : ℕ) (ds : List Decl) (ts : Tasks) (tr : Section) (place : Place) → IsBeforeScript place
     → At bytes (line_of (token.Word word.Script ∷ []) ++ rest) place (content p end ds ts tr empty_section) → At bytes rest Script (content p end ds ts tr (record { begun = true; text = [] }))
 script-begins bytes rest p end ds ts tr place (no_trace q o) at =
-    token-line bytes rest q Script (content p end ds ts tr empty_section) (token.Word word.Script ∷ []) script line.Script (script-line q (open-behind q o)) (open-diagram q o) (to-script q o) refl (λ ss d is prints. refl) tt at
+    token-line bytes rest q Script (content p end ds ts tr empty_section) (token.Word word.Script ∷ []) script line.Script (script-line q (open-after q o)) (open-diagram q o) (to-script q o) refl (λ ss d is prints. refl) tt at
 script-begins bytes rest p end ds ts tr place in_trace at =
     next-line bytes (codes "script") rest Trace Script (content p end ds ts tr empty_section) (says script) line.Script refl tt (λ before here. rw here refl)
     (λ before d here holds prints. of_the_trace (codes "script") (says script) here (script_begins (codes "script") (word-alone (codes "script")))) at
 
 script-follows : (bytes rest : List ℕ) (p : Policy) (end : ℕ) (ds : List Decl) (ts : Tasks) (tr : Section) (place : Place) (text : Option (List ℕ)) → IsBeforeScript place → IfSome text (KeepsItself SaysInScript step)
-    → At bytes (section_lines word.Script text ++ rest) place (content p end ds ts tr empty_section) → BehindScript bytes rest p end ds ts tr (section_of text)
+    → At bytes (section_lines word.Script text ++ rest) place (content p end ds ts tr empty_section) → AfterScript bytes rest p end ds ts tr (section_of text)
 script-follows bytes rest p end ds ts tr place None b h at = record { place = place; before_end = no_script place b; at = at }
 script-follows bytes rest p end ds ts tr place (Some text) b h at =
     let lines = h.0 in
@@ -358,12 +358,12 @@ script-follows bytes rest p end ds ts tr place (Some text) b h at =
 -- ---- the end
 
 done-spelled : SpellsTokens (line_text (token.Word word.Done ∷ [])) (token.Word word.Done ∷ [])
-done-spelled = let is = done-line BodyPlace body-behind in line-spells (token.Word word.Done ∷ []) is.printable is.signs
+done-spelled = let is = done-line BodyPlace body-after in line-spells (token.Word word.Done ∷ []) is.printable is.signs
 
 end-follows : (bytes : List ℕ) (p : Policy) (end : ℕ) (ds : List Decl) (ts : Tasks) (tr sc : Section) (place : Place) → IsBeforeEnd place
     → At bytes (line_of (token.Word word.Done ∷ []) ++ []) place (content p end ds ts tr sc) → At bytes [] Ended (content p end ds ts tr sc)
 end-follows bytes p end ds ts tr sc place (no_script q (no_trace r o)) at =
-    token-line bytes [] r Ended (content p end ds ts tr sc) (token.Word word.Done ∷ []) done line.Done (done-line r (open-behind r o)) (open-diagram r o) (to-end r o) refl (λ ss d is prints. refl) tt at
+    token-line bytes [] r Ended (content p end ds ts tr sc) (token.Word word.Done ∷ []) done line.Done (done-line r (open-after r o)) (open-diagram r o) (to-end r o) refl (λ ss d is prints. refl) tt at
 end-follows bytes p end ds ts tr sc place (no_script q in_trace) at =
     next-line bytes (codes "done") [] Trace Ended (content p end ds ts tr sc) (says done) line.Done refl tt (λ before here. rw here refl)
     (λ before d here holds prints. of_the_trace (codes "done") (says done) here (trace_ends (codes "done") (word-alone (codes "done")))) at
@@ -403,9 +403,9 @@ round-trip body h =
     let one = token-line bytes (line_of (policy_tokens body.policy) ++ (line_of (until_tokens body.until) ++ decls)) Header PolicyPlace (content Fp 0 [] none empty empty) header_tokens header line.Header header-line
     refl refl refl (λ ss d is prints. refl) tt start in
     let two = token-line bytes (line_of (until_tokens body.until) ++ decls) PolicyPlace Until (content Fp 0 [] none empty empty) (policy_tokens body.policy) (policy body.policy) (line.Policy body.policy)
-    (policy-line PolicyPlace policy-behind body.policy) refl refl refl (λ ss d is prints. refl) refl one in
+    (policy-line PolicyPlace policy-after body.policy) refl refl refl (λ ss d is prints. refl) refl one in
     let three = token-line bytes decls Until Declarations (content body.policy 0 [] none empty empty) (until_tokens body.until) (until (pos body.until)) (line.Until body.until)
-    (until-line Until until-behind body.until h.until) refl refl (fits body.until 0 MAX_TIME (omega arith) h.until) (λ ss d is prints. refl) refl two in
+    (until-line Until until-after body.until h.until) refl refl (fits body.until 0 MAX_TIME (omega arith) h.until) (λ ss d is prints. refl) refl two in
     let four = decls-follow bytes tasks body.policy body.until none empty empty [] body.decls (recursion_from_All IsPrintableDecl body.decls h.decls) h.inputs h.events three in
     let five = tasks-follow bytes sections body.policy body.until body.decls empty empty none Declarations body.tasks in_declarations (recursion_from_All IsPrintableTask body.tasks h.tasks) h.few h.links four in
     let six = trace-follows bytes script_and_last body.policy body.until body.decls five.tasks empty five.place body.trace five.open_there h.trace five.at in

@@ -22,7 +22,7 @@ use Rattle.dia_tokens.specs.declared.token.Symbol as symbols
 use Rattle.dia_tokens.specs.declared.token.Symbol.TheVariants as symbol
 use Rattle.dia_tokens.specs.Printable.{IsPrintableNumber, IsPrintableToken}
 use Rattle.dia_tokens.specs.Spelling.{symbol_text}
-use Rattle.dia_tokens.specs.TokenText.{edge_of, gap, is_apart, line_of, line_text, text_behind, token_text}
+use Rattle.dia_tokens.specs.TokenText.{edge_of, gap, is_apart, line_of, line_text, text_after, token_text}
 use Rattle.dia_tokens.specs.Words.{word_text}
 use Rattle.dia_exprs.specs.Grammar.{Expression}
 use Rattle.dia_lines.specs.Delays.{delay_tokens}
@@ -36,7 +36,7 @@ use Rattle.dia_lines.specs.declared.item.TaskLine.{TaskLine}
 use Rattle.dia_lines.specs.declared.place.Place.TheVariants as place
 use Rattle.dia_print.specs.ExpressionTokens.{call_tokens, enclosed, is_call, is_compound, operand_tokens, operator_token, tokens_of}
 use Rattle.dia_print.specs.ItemTokens.{clock_tokens, decl_tokens, header_tokens, option_tokens, part_tokens, policy_tokens, source_tokens, task_tokens, until_tokens}
-use Rattle.dia_print.proofs.ItemLaws.{IsBehindHeader, decl-line, done-line, header-line, part-line, size-fits, task-line, until-line}
+use Rattle.dia_print.proofs.ItemLaws.{IsAfterHeader, decl-line, done-line, header-line, part-line, size-fits, task-line, until-line}
 use Rattle.dia_print.specs.Printable.{IsPrintableDecl, IsPrintablePart}
 use Rattle.dia_read.specs.Canonical.{canonical_text, decl_text, part_text, section_lines, task_text}
 use Rattle.dia_read.specs.Documents.{first_line}
@@ -121,10 +121,10 @@ gap-short edge t = space (is_apart edge t)
     space true = omega arith
     space false = omega arith
 
-text-short : (edge : Edge) (ts : List Token) → AllByRecursion IsPrintableToken ts → length (text_behind edge ts) ≤ 25 * length ts
+text-short : (edge : Edge) (ts : List Token) → AllByRecursion IsPrintableToken ts → length (text_after edge ts) ≤ 25 * length ts
 text-short edge [] prints = omega arith
 text-short edge (t ∷ ts) prints =
-    omega (arith, length-append (gap edge t ++ token_text t) (text_behind (edge_of t) ts), length-append (gap edge t) (token_text t), gap-short edge t, token-short t prints.0, text-short (edge_of t) ts prints.1)
+    omega (arith, length-append (gap edge t ++ token_text t) (text_after (edge_of t) ts), length-append (gap edge t) (token_text t), gap-short edge t, token-short t prints.0, text-short (edge_of t) ts prints.1)
 
 -- the line of tokens that can be printed
 line-short : (ts : List Token) → All IsPrintableToken ts → length (line_of ts) ≤ 25 * length ts + 1
@@ -219,7 +219,7 @@ part-few (part.Out n v e) = omega (arith, expression-few e)
 
 -- ---- how long a text is
 
-after-end : IsBehindHeader place.Ended
+after-end : IsAfterHeader place.Ended
 after-end [] = refl
 after-end (t ∷ ts) = refl
 

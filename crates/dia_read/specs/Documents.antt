@@ -14,7 +14,7 @@ use Rattle.dia_lines.specs.declared.fault.ReadCode.TheVariants.{MissingDone, Mis
 use Rattle.dia_lines.specs.Statements.{Statement, policy, until, trace, script, done}
 use Rattle.dia_lines.specs.Places.{is_body, is_declaration}
 use Rattle.dia_lines.specs.Limits.{is_task}
-use Rattle.dia_lines.specs.Lines.{Said, says, row, step, Reads, HasFault, place_behind, statements}
+use Rattle.dia_lines.specs.Lines.{Said, says, row, step, Reads, HasFault, place_after, statements}
 use Rattle.dia_lines.specs.Held.{IsDecl, IsTaskLine, IsPart}
 use Rattle.dia_lines.specs.Text.{lines_of}
 
@@ -132,7 +132,7 @@ pub record AreItemLines (lines : List Said) (numbers : DocLines) : Type 0 where
 pub record Spells (bytes : List ℕ) (doc : Doc) : Type 0 where
   pub said : List Said
   pub run : Run [] (lines_of bytes) said
-  pub ended : place_behind said ≡ Ended
+  pub ended : place_after said ≡ Ended
   pub body : IsBody (reverse said) doc.body
   pub lines : AreItemLines (reverse said) doc.lines
 
@@ -157,7 +157,7 @@ pub data IsFirstFault (bytes : List ℕ) : ℕ → ReadCode → Type 0 where
       → IsFirstFault bytes (index + 1) code
   in_the_first_line : (code : ReadCode) → is_blank_text bytes ≡ true → IsFirstLine (lines_of bytes) 0 code → IsFirstFault bytes 1 code
   no_header : is_blank_text bytes ≡ true → ((code : ReadCode) → IsFirstLine (lines_of bytes) 0 code → ⊥) → IsFirstFault bytes 1 MissingHeader
-  no_end : (said : List Said) → is_blank_text bytes ≡ false → Run [] (lines_of bytes) said → place_behind said ≢ Ended
+  no_end : (said : List Said) → is_blank_text bytes ≡ false → Run [] (lines_of bytes) said → place_after said ≢ Ended
       → IsFirstFault bytes (length (lines_of bytes) + 1) MissingDone
 
 -- ---- another script

@@ -47,8 +47,8 @@ blank-first b bs e =
 not-first : (b : ℕ) (bs : List ℕ) (k : Kind) → kind_of b ≡ k → k ≢ Hash → k ≢ Blank → is_blank_line (b ∷ bs) ≡ true → ⊥
 not-first b bs k e no_hash no_blank h = elim (blank-first b bs h) [ inl is ↦ no_hash (sym e ∙ is) | inr is ↦ no_blank (sym e ∙ is.0) ]
 
-blank-behind : (b : ℕ) (bs : List ℕ) → kind_of b ≡ Blank → is_blank_line (b ∷ bs) ≡ true → is_blank_line bs ≡ true
-blank-behind b bs e h = elim (blank-first b bs h) [ inl is ↦ absurd (let no : Blank ≡ Hash = sym e ∙ is in cc) | inr is ↦ is.1 ]
+blank-after : (b : ℕ) (bs : List ℕ) → kind_of b ≡ Blank → is_blank_line (b ∷ bs) ≡ true → is_blank_line bs ≡ true
+blank-after b bs e h = elim (blank-first b bs h) [ inl is ↦ absurd (let no : Blank ≡ Hash = sym e ∙ is in cc) | inr is ↦ is.1 ]
 
 pub blank-lexes : (s : Bool) (line : List ℕ) → is_blank_line line ≡ true → Lexes s line []
 blank-lexes s [] h = ends s
@@ -57,7 +57,7 @@ blank-lexes s (b ∷ bs) h = elim (blank-first b bs h) [ inl is ↦ a_comment s 
 pub blank-texts : (s : Bool) (line : List ℕ) (ps : List Piece) → Lexes s line ps → is_blank_line line ≡ true → ps ≡ []
 blank-texts s line ps (ends t) h = refl
 blank-texts s line ps (a_comment t b bs e) h = refl
-blank-texts s line ps (a_blank t b bs us e d) h = blank-texts t bs us d (blank-behind b bs e h)
+blank-texts s line ps (a_blank t b bs us e d) h = blank-texts t bs us d (blank-after b bs e h)
 blank-texts s line ps (a_name t b text rest us e p q d) h = absurd (not-first b (text ++ rest) Letter e (λ x. cc) (λ x. cc) h)
 blank-texts s line ps (a_number t b text rest us e p q d) h = absurd (not-first b (text ++ rest) Digit e (λ x. cc) (λ x. cc) h)
 blank-texts s line ps (a_signed_number b c text rest us e f p q d) h = absurd (not-first b (c ∷ (text ++ rest)) Dash e (λ x. cc) (λ x. cc) h)

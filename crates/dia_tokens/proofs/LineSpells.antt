@@ -25,7 +25,7 @@ use Rattle.dia_tokens.proofs.LexLaws.{digit_is}
 use Rattle.dia_tokens.proofs.SpellingLaws.{word-again}
 use Rattle.dia_tokens.specs.declared.edge.Edge.{Edge}
 use Rattle.dia_tokens.specs.declared.edge.Edge.TheVariants.{Tight, Call, Loose}
-use Rattle.dia_tokens.specs.TokenText.{piece_of, token_text, edge_of, is_apart, gap, text_behind, line_text}
+use Rattle.dia_tokens.specs.TokenText.{piece_of, token_text, edge_of, is_apart, gap, text_after, line_text}
 use Rattle.dia_tokens.specs.KeepsSigns.{IsUnsigned, KeepsSigns}
 use Rattle.dia_tokens.proofs.TokenTexts.{word-shape, name-shape, digits, some-digit, token-value, token-allowed}
 
@@ -65,25 +65,25 @@ point-breaks : (bs : List ℕ) → Breaks (46 ∷ bs)
 unfolding kind_of symbol_kind_of
 point-breaks bs = broken 46 bs refl refl refl
 
-behind-loose : (ts : List Token) → Breaks (text_behind Loose ts)
-behind-loose [] = record { names = tt; numbers = tt; equals = tt }
-behind-loose (token.Symbol symbols.Close ∷ ts) = close-breaks _
-behind-loose (token.Symbol symbols.Comma ∷ ts) = comma-breaks _
-behind-loose (token.Symbol symbols.Point ∷ ts) = point-breaks _
-behind-loose (t ∷ ts) = space-breaks _
+after-loose : (ts : List Token) → Breaks (text_after Loose ts)
+after-loose [] = record { names = tt; numbers = tt; equals = tt }
+after-loose (token.Symbol symbols.Close ∷ ts) = close-breaks _
+after-loose (token.Symbol symbols.Comma ∷ ts) = comma-breaks _
+after-loose (token.Symbol symbols.Point ∷ ts) = point-breaks _
+after-loose (t ∷ ts) = space-breaks _
 
-behind-call : (ts : List Token) → Breaks (text_behind Call ts)
-behind-call [] = record { names = tt; numbers = tt; equals = tt }
-behind-call (token.Symbol symbols.Open ∷ ts) = open-breaks _
-behind-call (token.Symbol symbols.Close ∷ ts) = close-breaks _
-behind-call (token.Symbol symbols.Comma ∷ ts) = comma-breaks _
-behind-call (token.Symbol symbols.Point ∷ ts) = point-breaks _
-behind-call (t ∷ ts) = space-breaks _
+after-call : (ts : List Token) → Breaks (text_after Call ts)
+after-call [] = record { names = tt; numbers = tt; equals = tt }
+after-call (token.Symbol symbols.Open ∷ ts) = open-breaks _
+after-call (token.Symbol symbols.Close ∷ ts) = close-breaks _
+after-call (token.Symbol symbols.Comma ∷ ts) = comma-breaks _
+after-call (token.Symbol symbols.Point ∷ ts) = point-breaks _
+after-call (t ∷ ts) = space-breaks _
 
-ends-there : (edge : Edge) (ts : List Token) → Ends edge (text_behind edge ts)
+ends-there : (edge : Edge) (ts : List Token) → Ends edge (text_after edge ts)
 ends-there Tight ts = tt
-ends-there Call ts = behind-call ts
-ends-there Loose ts = behind-loose ts
+ends-there Call ts = after-call ts
+ends-there Loose ts = after-loose ts
 
 -- ---- one token
 
@@ -183,12 +183,12 @@ spaced : (s apart : Bool) (text : List ℕ) (ps : List Piece) → Lexes s text p
 spaced s true text ps d = a_blank s 32 text ps space d
 spaced s false text ps d = d
 
-line-lexes : (s : Bool) (edge : Edge) (ts : List Token) → AllByRecursion IsPrintableToken ts → KeepsSigns s ts → Lexes s (text_behind edge ts) (map piece_of ts)
+line-lexes : (s : Bool) (edge : Edge) (ts : List Token) → AllByRecursion IsPrintableToken ts → KeepsSigns s ts → Lexes s (text_after edge ts) (map piece_of ts)
 line-lexes s edge [] h k = ends s
 line-lexes s edge (t ∷ ts) h k =
-    let rest = text_behind (edge_of t) ts in
-    let behind = line-lexes (signs (piece_of t)) (edge_of t) ts h.1 k.1 in
-    let whole = spaced s (is_apart edge t) (token_text t ++ rest) (map piece_of (t ∷ ts)) (token-lexes s t rest (map piece_of ts) h.0 k.0 (ends-there (edge_of t) ts) behind) in
+    let rest = text_after (edge_of t) ts in
+    let after = line-lexes (signs (piece_of t)) (edge_of t) ts h.1 k.1 in
+    let whole = spaced s (is_apart edge t) (token_text t ++ rest) (map piece_of (t ∷ ts)) (token-lexes s t rest (map piece_of ts) h.0 k.0 (ends-there (edge_of t) ts) after) in
     subst (λ (l : List ℕ). Lexes s l (map piece_of (t ∷ ts))) (sym (append_assoc (gap edge t) (token_text t) rest)) whole
 
 line-values : (ts : List Token) → AllByRecursion IsPrintableToken ts → HaveValues (map piece_of ts) ts
@@ -202,9 +202,9 @@ gap-allowed false = refl
 both-allowed : (xs ys : List ℕ) → list_all is_allowed xs ≡ true → list_all is_allowed ys ≡ true → list_all is_allowed (xs ++ ys) ≡ true
 both-allowed xs ys e f = list_all-append is_allowed xs ys ∙ and_from _ _ e f
 
-line-allowed : (edge : Edge) (ts : List Token) → AllByRecursion IsPrintableToken ts → list_all is_allowed (text_behind edge ts) ≡ true
+line-allowed : (edge : Edge) (ts : List Token) → AllByRecursion IsPrintableToken ts → list_all is_allowed (text_after edge ts) ≡ true
 line-allowed edge [] h = refl
-line-allowed edge (t ∷ ts) h = both-allowed (gap edge t ++ token_text t) (text_behind (edge_of t) ts) (both-allowed (gap edge t) (token_text t) (gap-allowed (is_apart edge t)) (token-allowed t h.0)) (line-allowed (edge_of t) ts h.1)
+line-allowed edge (t ∷ ts) h = both-allowed (gap edge t ++ token_text t) (text_after (edge_of t) ts) (both-allowed (gap edge t) (token_text t) (gap-allowed (is_apart edge t)) (token-allowed t h.0)) (line-allowed (edge_of t) ts h.1)
 
 pub line-spells : (ts : List Token) → All IsPrintableToken ts → KeepsSigns true ts → Spells (line_text ts) ts
 line-spells ts h k =

@@ -178,9 +178,9 @@ space-is_digit : is_digit 32 ≡ false
 unfolding kind_of
 space-is_digit = refl
 
-behind : (s : Bool) (ps : List Piece) → Lexes s (joined ps) ps → Lexes s (left false ps) ps
-behind s [] d = d
-behind s (p ∷ ps) d = a_blank s 32 (joined (p ∷ ps)) (p ∷ ps) space d
+later : (s : Bool) (ps : List Piece) → Lexes s (joined ps) ps → Lexes s (left false ps) ps
+later s [] d = d
+later s (p ∷ ps) d = a_blank s 32 (joined (p ∷ ps)) (p ∷ ps) space d
 
 first : (s : Bool) (p : Piece) (ps : List Piece) (text : List ℕ) → text_of p ≡ text → Lexes s (text ++ left false ps) (p ∷ ps) → Lexes s (joined (p ∷ ps)) (p ∷ ps)
 first s p ps text e d = subst (λ (l : List ℕ). Lexes s l (p ∷ ps)) (sym (joined-next p ps ∙ ap (λ (t : List ℕ). t ++ left false ps) e)) d
@@ -190,23 +190,23 @@ relexed s line ps (ends t) = ends t
 relexed s line ps (a_comment t b bs e) = ends t
 relexed s line ps (a_blank t b bs us e d) = relexed t bs us d
 relexed s line ps (a_name t b text rest us e p q d) =
-    first t (word_of (b ∷ text)) us (b ∷ text) (word-spelled (b ∷ text)) (a_name t b text (left false us) us e p (Stops-space is_name us space-is_name) (behind _ us (relexed _ rest us d)))
+    first t (word_of (b ∷ text)) us (b ∷ text) (word-spelled (b ∷ text)) (a_name t b text (left false us) us e p (Stops-space is_name us space-is_name) (later _ us (relexed _ rest us d)))
 relexed s line ps (a_number t b text rest us e p q d) =
-    first t (number (b ∷ text)) us (b ∷ text) refl (a_number t b text (left false us) us e p (Stops-space is_name us space-is_name) (behind false us (relexed false rest us d)))
+    first t (number (b ∷ text)) us (b ∷ text) refl (a_number t b text (left false us) us e p (Stops-space is_name us space-is_name) (later false us (relexed false rest us d)))
 relexed s line ps (a_signed_number dash b text rest us e f p q d) =
     first true (number (dash ∷ b ∷ text)) us (dash ∷ b ∷ text) refl
-    (a_signed_number dash b text (left false us) us e f p (Stops-space is_name us space-is_name) (behind false us (relexed false rest us d)))
+    (a_signed_number dash b text (left false us) us e f p (Stops-space is_name us space-is_name) (later false us (relexed false rest us d)))
 relexed s line ps (a_minus t dash rest us e n d) =
     first t (symbol Minus) us (dash ∷ []) (minus-is dash e)
-    (a_minus t dash (left false us) us e (λ _. Stops-space is_digit us space-is_digit) (behind true us (relexed true rest us d)))
+    (a_minus t dash (left false us) us e (λ _. Stops-space is_digit us space-is_digit) (later true us (relexed true rest us d)))
 relexed s line ps (an_unequal t b c rest us e f d) =
-    first t (symbol Unequal) us (b ∷ c ∷ []) (unequal-is b c e f) (an_unequal t b c (left false us) us e f (behind true us (relexed true rest us d)))
+    first t (symbol Unequal) us (b ∷ c ∷ []) (unequal-is b c e f) (an_unequal t b c (left false us) us e f (later true us (relexed true rest us d)))
 relexed s line ps (a_short t b short long rest us e n d) =
-    first t (symbol short) us (b ∷ []) (symbol-says b (Pair short long) e).0 (a_short t b short long (left false us) us e (Stops-space is_equals us refl) (behind _ us (relexed _ rest us d)))
+    first t (symbol short) us (b ∷ []) (symbol-says b (Pair short long) e).0 (a_short t b short long (left false us) us e (Stops-space is_equals us refl) (later _ us (relexed _ rest us d)))
 relexed s line ps (a_long t b c short long rest us e f d) =
-    first t (symbol long) us (b ∷ c ∷ []) (long-is b c short long e f) (a_long t b c short long (left false us) us e f (behind _ us (relexed _ rest us d)))
+    first t (symbol long) us (b ∷ c ∷ []) (long-is b c short long e f) (a_long t b c short long (left false us) us e f (later _ us (relexed _ rest us d)))
 relexed s line ps (a_plain t b x rest us e d) =
-    first t (symbol x) us (b ∷ []) (symbol-says b (Plain x) e) (a_plain t b x (left false us) us e (behind _ us (relexed _ rest us d)))
+    first t (symbol x) us (b ∷ []) (symbol-says b (Plain x) e) (a_plain t b x (left false us) us e (later _ us (relexed _ rest us d)))
 
 pub one-spelling : (line a b : List ℕ) → IsSpelling line a → IsSpelling line b → a ≡ b
 one-spelling line a b s t = s.2 ∙ ap joined (Lexes-one true line s.0 t.0 s.1 t.1) ∙ sym t.2

@@ -22,7 +22,7 @@ use Rattle.dia_tokens.specs.Lexes.{Passes}
 use Rattle.dia_tokens.specs.Pieces.{Piece, name, number, symbol}
 use Rattle.dia_tokens.specs.Reading.{Front, bad, found, begins, number_in, front_of, token_in, token_at}
 use Rattle.dia_tokens.specs.Shapes.{IsNameText, letters, IsNumberText, plain, negative, IsShaped}
-use Rattle.dia_tokens.specs.Values.{digits_behind, digits_value, is_negative, number_of, is_in_range, HasValue, HaveValues, none, another}
+use Rattle.dia_tokens.specs.Values.{digits_after, digits_value, is_negative, number_of, is_in_range, HasValue, HaveValues, none, another}
 use Rattle.dia_tokens.specs.Words.{or_else, all_words, word_among, word_of}
 use Rattle.dia_tokens.proofs.LexLaws.{run_yes, run_passes, digit_is}
 use Rattle.dia_tokens.proofs.ByteLaws.{digit-bounds, digit-at, dash-is, letter-begins, name-byte}
@@ -49,7 +49,7 @@ tells : IsDigitsTest (Passes is_digit)
 tells = record { empty = tt; parts = λ c cs p. (digit-bounds c p.0, p.1); more = λ c cs k p. (digit-at c k, p) }
 
 pub own : IsNumeralModel (Passes is_digit) digits_value
-own = numerals_by_fold (Passes is_digit) tells digits_behind (search rules)
+own = numerals_by_fold (Passes is_digit) tells digits_after (search rules)
 
 digits-ascii : (bs : List ℕ) → Passes is_digit bs → IsAscii bs
 digits-ascii [] p i = omega arith

@@ -49,13 +49,13 @@ abbrev pub gap : Edge → Token → List ℕ
 gap edge t = if is_apart edge t then 32 ∷ [] else []
 
 -- the tokens after a line's end: one space stands between two, with these exceptions
-abbrev pub text_behind : Edge → List Token → List ℕ
-text_behind edge [] = []
-text_behind edge (t ∷ ts) = gap edge t ++ token_text t ++ text_behind (edge_of t) ts
+abbrev pub text_after : Edge → List Token → List ℕ
+text_after edge [] = []
+text_after edge (t ∷ ts) = gap edge t ++ token_text t ++ text_after (edge_of t) ts
 
 -- the line of the tokens
 abbrev pub line_text : List Token → List ℕ
-line_text ts = text_behind Tight ts
+line_text ts = text_after Tight ts
 
 -- the tokens on a line of their own
 abbrev pub line_of : List Token → List ℕ

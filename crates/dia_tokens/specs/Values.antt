@@ -8,13 +8,13 @@ use Rattle.dia_tokens.specs.declared.token.Token.TheVariants as value
 use Rattle.dia_tokens.specs.Pieces.{Piece, word, name, number, symbol}
 
 -- the number that decimal digits make, after the number so far
-abbrev pub digits_behind : ℕ → List ℕ → ℕ
-digits_behind n [] = n
-digits_behind n (d ∷ ds) = digits_behind (n * 10 + (d - 48)) ds
+abbrev pub digits_after : ℕ → List ℕ → ℕ
+digits_after n [] = n
+digits_after n (d ∷ ds) = digits_after (n * 10 + (d - 48)) ds
 
 -- the number that decimal digits make
 abbrev pub digits_value : List ℕ → ℕ
-digits_value ds = digits_behind 0 ds
+digits_value ds = digits_after 0 ds
 
 -- whether the text begins with `-`
 abbrev pub is_negative : List ℕ → Bool

@@ -82,16 +82,16 @@ path_more base lets path last next is used fresh =
     record {
       some = omega (arith, size);
       distinct = once_push path next is.distinct fresh;
-      linked = λ p i j at behind.
-          let inside : p + 1 < length (path ++ next ∷ []) = slice_get_within (path ++ next ∷ []) (p + 1) j behind in
+      linked = λ p i j at later.
+          let inside : p + 1 < length (path ++ next ∷ []) = slice_get_within (path ++ next ∷ []) (p + 1) j later in
           let before : p < length path = omega (arith, size, inside) in
           let here : slice_get path p ≡ Some i = sym (front_place path (next ∷ []) p before) ∙ at in
           elim (cases_lt (p + 1) (length path)) [
-            | inl more ↦ is.linked p i j here (sym (front_place path (next ∷ []) (p + 1) more) ∙ behind)
+            | inl more ↦ is.linked p i j here (sym (front_place path (next ∷ []) (p + 1) more) ∙ later)
             | inr end ↦
                 let all : p + 1 ≡ length path = omega arith in
                 let is_last : last ≡ i = same_Some last i (sym (is.ends p all) ∙ here) in
-                let is_next : next ≡ j = same_Some next j (sym (last_place path next (p + 1) all) ∙ behind) in
+                let is_next : next ≡ j = same_Some next j (sym (last_place path next (p + 1) all) ∙ later) in
                 subst (λ (z : ℕ). Uses base lets z j) is_last (subst (λ (z : ℕ). Uses base lets last z) is_next used)
           ];
       ends = λ p end. last_place path next p (omega (arith, size));

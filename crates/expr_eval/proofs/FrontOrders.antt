@@ -30,7 +30,7 @@ to_variables base j xs among =
 -- each let of an order stands after those that it uses
 pub order_ready : (base : ℕ) (lets : List Let) (order : List ℕ) → IsLetOrder base lets order → (p i : ℕ) → slice_get order p ≡ Some i → IsReady base lets (take p order) i
 order_ready base lets order is p i at j used =
-    from_variables base j (take p order) (is.behind p i used.place (base + j) used.user at used.is used.variable (omega arith))
+    from_variables base j (take p order) (is.after p i used.place (base + j) used.user at used.is used.variable (omega arith))
 
 pub ready_order : (base : ℕ) (lets : List Let) (order : List ℕ) → AreListed (length lets) order → length order ≡ length lets
     → ((p i : ℕ) → slice_get order p ≡ Some i → IsReady base lets (take p order) i) → IsLetOrder base lets order
@@ -38,7 +38,7 @@ ready_order base lets order listed full ready = record {
   size = full;
   named = listed.named;
   once = listed.once;
-  behind = λ p i k v l at there here above.
+  after = λ p i k v l at there here above.
       let number : base + (v - base) ≡ v = omega arith in
       let used : Uses base lets i (v - base) = record { user = l; place = k; is = there; variable = here ∙ ap (λ (z : ℕ). Some (Var z)) (sym number) } in
       subst (λ (z : ℕ). IsTrue (list_any (λ j. eqb (base + j) z) (take p order))) number (to_variables base (v - base) (take p order) (ready p i at (v - base) used));
@@ -65,7 +65,7 @@ push_places P xs y each last p x at = elim (cases_lt p (length xs)) [
       let here : slice_get xs p ≡ Some x = sym (front_place xs (y ∷ []) p before) ∙ at in
       let order : p ≤ length xs = omega arith in
       subst (λ (l : List ℕ). P l x) (sym (take-append-le p xs (y ∷ []) order)) (each p x here)
-  | inr behind ↦
+  | inr later ↦
       let end : p ≡ length xs = omega (arith, slice_get_within (xs ++ y ∷ []) p x at, length-append xs (y ∷ [])) in
       let same : y ≡ x = same_Some y x (sym (last_place xs y p end) ∙ at) in
       let front : take p (xs ++ y ∷ []) ≡ xs = ap (λ (n : ℕ). take n (xs ++ y ∷ [])) end ∙ take-append_seam xs (y ∷ []) in

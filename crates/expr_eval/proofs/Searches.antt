@@ -30,7 +30,7 @@ lead_more base lets target found user lead below fresh uses_one =
             let step = lead.linked k i after (sym (front_place found (user ∷ []) k before) ∙ at) in
             let inside : step.0 < length found = omega (arith, step.2) in
             (step.0, step.1, step.2, front_place found (user ∷ []) step.0 inside ∙ step.3, step.4)
-        | inr behind ↦
+        | inr later ↦
             let end : k ≡ length found = omega (arith, slice_get_within (found ++ user ∷ []) k i at, length-append found (user ∷ [])) in
             let same : user ≡ i = same_Some user i (sym (last_place found user k end) ∙ at) in
             let place = place_of found uses_one.0 uses_one.1 in
@@ -70,7 +70,7 @@ descent_more base lets target found bound path last place next lead descent afte
     let fresh : Contains path next → ⊥ = λ inside.
     let there = descent.among next inside in
     let same : there.0 ≡ place = one_place found lead.listed.once there.0 place next there.1 at in
-    elim there.2 [ inl first ↦ absurd (omega arith) | inr behind ↦ absurd (omega arith) ] in
+    elim there.2 [ inl first ↦ absurd (omega arith) | inr later ↦ absurd (omega arith) ] in
     let some : 0 < length path = descent.is.some in
     let step = lead.linked place next after at in
     record {
@@ -80,7 +80,7 @@ descent_more base lets target found bound path last place next lead descent afte
       among = λ x inside. elim (Contains-push_cases path next x inside) [
         | inl old ↦
             let there = descent.among x old in
-            (there.0, there.1, elim there.2 [ inl first ↦ inl first | inr behind ↦ inr (omega arith) ])
+            (there.0, there.1, elim there.2 [ inl first ↦ inl first | inr later ↦ inr (omega arith) ])
         | inr same ↦ (place, at ∙ ap (λ (z : ℕ). Some z) same, inr (omega arith))
       ];
       within = omega (arith, descent.within);

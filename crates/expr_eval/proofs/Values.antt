@@ -73,71 +73,71 @@ settled_more nodes env values i node tree settled here room k other below there 
           get_or-set_other values i k v (pos 0) apart ∙ settled k other before there ∙ sym (keeps env values i v other operands)
     ]
 
-slice_seam : {X : Type 0} (front : List X) (x : X) (behind : List X) → slice_get (front ++ x ∷ behind) (length front) ≡ Some x
-slice_seam [] x behind = refl
-slice_seam (y ∷ front) x behind = slice_seam front x behind
+slice_seam : {X : Type 0} (front : List X) (x : X) (after : List X) → slice_get (front ++ x ∷ after) (length front) ≡ Some x
+slice_seam [] x after = refl
+slice_seam (y ∷ front) x after = slice_seam front x after
 
 -- the node that stands there has its value
 stands : (nodes : List (Node ℕ)) (env values : List ℤ) → Settled nodes env values (length nodes)
-    → (front behind : List (Node ℕ)) (node : Node ℕ) (at : ℕ) → at ≡ length front → nodes ≡ front ++ node ∷ behind
+    → (front after : List (Node ℕ)) (node : Node ℕ) (at : ℕ) → at ≡ length front → nodes ≡ front ++ node ∷ after
     → get_or values at (pos 0) ≡ value_of_node env values node
-stands nodes env values settled front behind node at size is =
-    let within : at < length nodes = omega (arith, ap length is, length-append front (node ∷ behind)) in
-    let here : slice_get nodes at ≡ Some node = ap (λ (j : ℕ). slice_get nodes j) size ∙ ap (λ (l : List (Node ℕ)). slice_get l (length front)) is ∙ slice_seam front node behind in
+stands nodes env values settled front after node at size is =
+    let within : at < length nodes = omega (arith, ap length is, length-append front (node ∷ after)) in
+    let here : slice_get nodes at ≡ Some node = ap (λ (j : ℕ). slice_get nodes j) size ∙ ap (λ (l : List (Node ℕ)). slice_get l (length front)) is ∙ slice_seam front node after in
     settled at node within here
 
 -- the nodes of a tree that stand in the list have its value at their last
 pub tree_settled : (nodes : List (Node ℕ)) (env values : List ℤ) → Settled nodes env values (length nodes)
-    → (t : Tree ℕ) (front behind : List (Node ℕ)) (at : ℕ) → at ≡ length front → nodes ≡ front ++ (nodes_of at t ++ behind)
+    → (t : Tree ℕ) (front after : List (Node ℕ)) (at : ℕ) → at ≡ length front → nodes ≡ front ++ (nodes_of at t ++ after)
     → get_or values (at + size_of t - 1) (pos 0) ≡ tree_value env t
-tree_settled nodes env values settled (number z) front behind at size is =
+tree_settled nodes env values settled (number z) front after at size is =
     let last : at + 1 - 1 ≡ at = omega arith in
-    rw last (stands nodes env values settled front behind (Num z) at size is)
-tree_settled nodes env values settled (variable v) front behind at size is =
+    rw last (stands nodes env values settled front after (Num z) at size is)
+tree_settled nodes env values settled (variable v) front after at size is =
     let last : at + 1 - 1 ≡ at = omega arith in
-    rw last (stands nodes env values settled front behind (Var v) at size is)
-tree_settled nodes env values settled (unary op t) front behind at size is =
+    rw last (stands nodes env values settled front after (Var v) at size is)
+tree_settled nodes env values settled (unary op t) front after at size is =
     let ts = nodes_of at t in
     let root : Node ℕ = Un op (at + size_of t - 1) in
-    let operand_is : nodes ≡ front ++ (ts ++ (root ∷ behind)) = is ∙ ap (λ (x : List (Node ℕ)). front ++ x) (append_assoc ts (root ∷ []) behind) in
-    let root_is : nodes ≡ (front ++ ts) ++ root ∷ behind = operand_is ∙ sym (append_assoc front ts (root ∷ behind)) in
+    let operand_is : nodes ≡ front ++ (ts ++ (root ∷ after)) = is ∙ ap (λ (x : List (Node ℕ)). front ++ x) (append_assoc ts (root ∷ []) after) in
+    let root_is : nodes ≡ (front ++ ts) ++ root ∷ after = operand_is ∙ sym (append_assoc front ts (root ∷ after)) in
     let root_at : at + size_of t ≡ length (front ++ ts) = omega (arith, size, length-append front ts, length-nodes_of at t) in
-    let operand = tree_settled nodes env values settled t front (root ∷ behind) at size operand_is in
-    let here = stands nodes env values settled (front ++ ts) behind root (at + size_of t) root_at root_is in
+    let operand = tree_settled nodes env values settled t front (root ∷ after) at size operand_is in
+    let here = stands nodes env values settled (front ++ ts) after root (at + size_of t) root_at root_is in
     let last : at + (size_of t + 1) - 1 ≡ at + size_of t = omega arith in
     rw last (here ∙ ap (λ (x : ℤ). value_of_unary op x) operand)
-tree_settled nodes env values settled (binary op l r) front behind at size is =
+tree_settled nodes env values settled (binary op l r) front after at size is =
     let ls = nodes_of at l in
     let rs = nodes_of (at + size_of l) r in
     let root : Node ℕ = Bin op (at + size_of l - 1) (at + size_of l + size_of r - 1) in
-    let left_is : nodes ≡ front ++ (ls ++ (rs ++ root ∷ behind)) =
-    is ∙ ap (λ (x : List (Node ℕ)). front ++ x) (append_assoc (ls ++ rs) (root ∷ []) behind ∙ append_assoc ls rs (root ∷ behind)) in
-    let right_is : nodes ≡ (front ++ ls) ++ (rs ++ root ∷ behind) = left_is ∙ sym (append_assoc front ls (rs ++ root ∷ behind)) in
-    let root_is : nodes ≡ ((front ++ ls) ++ rs) ++ root ∷ behind = right_is ∙ sym (append_assoc (front ++ ls) rs (root ∷ behind)) in
+    let left_is : nodes ≡ front ++ (ls ++ (rs ++ root ∷ after)) =
+    is ∙ ap (λ (x : List (Node ℕ)). front ++ x) (append_assoc (ls ++ rs) (root ∷ []) after ∙ append_assoc ls rs (root ∷ after)) in
+    let right_is : nodes ≡ (front ++ ls) ++ (rs ++ root ∷ after) = left_is ∙ sym (append_assoc front ls (rs ++ root ∷ after)) in
+    let root_is : nodes ≡ ((front ++ ls) ++ rs) ++ root ∷ after = right_is ∙ sym (append_assoc (front ++ ls) rs (root ∷ after)) in
     let right_at : at + size_of l ≡ length (front ++ ls) = omega (arith, size, length-append front ls, length-nodes_of at l) in
     let root_at : at + size_of l + size_of r ≡ length ((front ++ ls) ++ rs) = omega (arith, right_at, length-append (front ++ ls) rs, length-nodes_of (at + size_of l) r) in
-    let left = tree_settled nodes env values settled l front (rs ++ root ∷ behind) at size left_is in
-    let right = tree_settled nodes env values settled r (front ++ ls) (root ∷ behind) (at + size_of l) right_at right_is in
-    let here = stands nodes env values settled ((front ++ ls) ++ rs) behind root (at + size_of l + size_of r) root_at root_is in
+    let left = tree_settled nodes env values settled l front (rs ++ root ∷ after) at size left_is in
+    let right = tree_settled nodes env values settled r (front ++ ls) (root ∷ after) (at + size_of l) right_at right_is in
+    let here = stands nodes env values settled ((front ++ ls) ++ rs) after root (at + size_of l + size_of r) root_at root_is in
     let last : at + (size_of l + size_of r + 1) - 1 ≡ at + size_of l + size_of r = omega arith in
     rw last (here ∙ ap (λ (x : ℤ). value_of_binary op x (get_or values (at + size_of l + size_of r - 1) (pos 0))) left ∙ ap (λ (x : ℤ). value_of_binary op (tree_value env l) x) right)
-tree_settled nodes env values settled (choice c y n) front behind at size is =
+tree_settled nodes env values settled (choice c y n) front after at size is =
     let cs = nodes_of at c in
     let ys = nodes_of (at + size_of c) y in
     let ns = nodes_of (at + size_of c + size_of y) n in
     let root : Node ℕ = Pick (at + size_of c - 1) (at + size_of c + size_of y - 1) (at + size_of c + size_of y + size_of n - 1) in
-    let first_is : nodes ≡ front ++ (cs ++ (ys ++ (ns ++ root ∷ behind))) =
-    is ∙ ap (λ (x : List (Node ℕ)). front ++ x) (append_assoc ((cs ++ ys) ++ ns) (root ∷ []) behind ∙ append_assoc (cs ++ ys) ns (root ∷ behind) ∙ append_assoc cs ys (ns ++ root ∷ behind)) in
-    let second_is : nodes ≡ (front ++ cs) ++ (ys ++ (ns ++ root ∷ behind)) = first_is ∙ sym (append_assoc front cs (ys ++ (ns ++ root ∷ behind))) in
-    let third_is : nodes ≡ ((front ++ cs) ++ ys) ++ (ns ++ root ∷ behind) = second_is ∙ sym (append_assoc (front ++ cs) ys (ns ++ root ∷ behind)) in
-    let root_is : nodes ≡ (((front ++ cs) ++ ys) ++ ns) ++ root ∷ behind = third_is ∙ sym (append_assoc ((front ++ cs) ++ ys) ns (root ∷ behind)) in
+    let first_is : nodes ≡ front ++ (cs ++ (ys ++ (ns ++ root ∷ after))) =
+    is ∙ ap (λ (x : List (Node ℕ)). front ++ x) (append_assoc ((cs ++ ys) ++ ns) (root ∷ []) after ∙ append_assoc (cs ++ ys) ns (root ∷ after) ∙ append_assoc cs ys (ns ++ root ∷ after)) in
+    let second_is : nodes ≡ (front ++ cs) ++ (ys ++ (ns ++ root ∷ after)) = first_is ∙ sym (append_assoc front cs (ys ++ (ns ++ root ∷ after))) in
+    let third_is : nodes ≡ ((front ++ cs) ++ ys) ++ (ns ++ root ∷ after) = second_is ∙ sym (append_assoc (front ++ cs) ys (ns ++ root ∷ after)) in
+    let root_is : nodes ≡ (((front ++ cs) ++ ys) ++ ns) ++ root ∷ after = third_is ∙ sym (append_assoc ((front ++ cs) ++ ys) ns (root ∷ after)) in
     let second_at : at + size_of c ≡ length (front ++ cs) = omega (arith, size, length-append front cs, length-nodes_of at c) in
     let third_at : at + size_of c + size_of y ≡ length ((front ++ cs) ++ ys) = omega (arith, second_at, length-append (front ++ cs) ys, length-nodes_of (at + size_of c) y) in
     let root_at : at + size_of c + size_of y + size_of n ≡ length (((front ++ cs) ++ ys) ++ ns) = omega (arith, third_at, length-append ((front ++ cs) ++ ys) ns, length-nodes_of (at + size_of c + size_of y) n) in
-    let first = tree_settled nodes env values settled c front (ys ++ (ns ++ root ∷ behind)) at size first_is in
-    let second = tree_settled nodes env values settled y (front ++ cs) (ns ++ root ∷ behind) (at + size_of c) second_at second_is in
-    let third = tree_settled nodes env values settled n ((front ++ cs) ++ ys) (root ∷ behind) (at + size_of c + size_of y) third_at third_is in
-    let here = stands nodes env values settled (((front ++ cs) ++ ys) ++ ns) behind root (at + size_of c + size_of y + size_of n) root_at root_is in
+    let first = tree_settled nodes env values settled c front (ys ++ (ns ++ root ∷ after)) at size first_is in
+    let second = tree_settled nodes env values settled y (front ++ cs) (ns ++ root ∷ after) (at + size_of c) second_at second_is in
+    let third = tree_settled nodes env values settled n ((front ++ cs) ++ ys) (root ∷ after) (at + size_of c + size_of y) third_at third_is in
+    let here = stands nodes env values settled (((front ++ cs) ++ ys) ++ ns) after root (at + size_of c + size_of y + size_of n) root_at root_is in
     let last : at + (size_of c + size_of y + size_of n + 1) - 1 ≡ at + size_of c + size_of y + size_of n = omega arith in
     rw last (here
     ∙ ap (λ (x : ℤ). value_of_choice x (get_or values (at + size_of c + size_of y - 1) (pos 0)) (get_or values (at + size_of c + size_of y + size_of n - 1) (pos 0))) first

@@ -4,8 +4,8 @@ use Rattle.std.specs.Option.{option_map}
 use Rattle.std.proofs.Common.{◌≡◌, ℕ, ◌+◌, ◌<◌, ◌≤◌, Option, Some, None, List, [], ◌∷◌, ◌++◌, length, refl, sym, ap, ◌∙◌, subst, arith, append_assoc, length-append, Result, Ok, Err, OnOk}
 use Rattle.std.proofs.lemmas.List.{append-nil}
 use Rattle.dbp_plan.specs.declared.plan.Plan.{Plan}
-use Rattle.dbp_plan.specs.Lookups.{declared}
-use Rattle.dbp_rules.specs.Places.{task, wired}
+use Rattle.dbp_plan.specs.Lookups.{declared_task}
+use Rattle.dbp_rules.specs.Places.{task, wired_task}
 use Rattle.dbp_rules.specs.Rules.{next}
 use Rattle.dbp_rules.specs.Wired.{task_wiring}
 use Rattle.dbp_rules.specs.declared.parts.Place.{Place}
@@ -28,8 +28,8 @@ use Rattle.instance_steps.proofs.TaskMoves.{changes_on, may_step_on}
 pub own_in : (r : Recorder) → IsOwn (plan_in r) (wiring_in r)
 own_in r = subst (λ (w : Wiring). IsOwn (plan_in r) w) (sym r.core.wired) (own_wiring (plan_in r) (count_in r))
 
-pub wired_in : (r : Recorder) (i : ℕ) → i < length (plan_in r).diagram.tasks → wired (wiring_in r) i ≡ task_wiring (plan_in r) (count_in r) (i, declared (plan_in r) i)
-wired_in r i named = ap (λ (w : Wiring). wired w i) r.core.wired ∙ wired_is (plan_in r) (count_in r) i named
+pub wired_in : (r : Recorder) (i : ℕ) → i < length (plan_in r).diagram.tasks → wired_task (wiring_in r) i ≡ task_wiring (plan_in r) (count_in r) (i, declared_task (plan_in r) i)
+wired_in r i named = ap (λ (w : Wiring). wired_task w i) r.core.wired ∙ wired_is (plan_in r) (count_in r) i named
 
 pub wired_there : (r : Recorder) (i : ℕ) → i < length (plan_in r).diagram.tasks → i < length (wiring_in r).tasks
 wired_there r i named = omega (arith, named, r.core.shape.wiring.tasks)

@@ -7,7 +7,7 @@ use Rattle.std.proofs.lemmas.Bool.{cases_Bool, eq-eqb, ne_eqb}
 use Rattle.dbp_plan.specs.declared.plan.Plan.{Plan}
 use Rattle.dbp_plan.specs.Occurrences.{time_of, times_of}
 use Rattle.release_list.specs.declared.release.Release.TheVariants as release
-use Rattle.dbp_rules.specs.Places.{task, task_entry, wired}
+use Rattle.dbp_rules.specs.Places.{task, task_entry, wired_task}
 use Rattle.dbp_rules.specs.Promises.{IsLeastAim}
 use Rattle.dbp_rules.specs.declared.parts.TaskEntry.{TaskEntry}
 use Rattle.dbp_rules.specs.declared.state.State.{State}
@@ -96,6 +96,6 @@ module _ (a : Recorder) (i : ℕ) (next_ : slice_get (wiring_in a).releases (sta
         aim_keeps before j other = ap (λ (s : State). task_entry s j) step.state ∙ aim_others (plan_in b) (wiring_in b) (state_in b) i slot j other ∙ before j other
 
 -- the times that the code looks at
-pub times_are : (a : Recorder) (i : ℕ) (w : Wiring) (t : TaskWiring) (items : List ℕ) → i < length (plan_in a).diagram.tasks → w ≡ wiring_in a → t ≡ wired w i → items ≡ t.times → items ≡ times_of (plan_in a).batches i
+pub times_are : (a : Recorder) (i : ℕ) (w : Wiring) (t : TaskWiring) (items : List ℕ) → i < length (plan_in a).diagram.tasks → w ≡ wiring_in a → t ≡ wired_task w i → items ≡ t.times → items ≡ times_of (plan_in a).batches i
 times_are a i w t items named same there list =
-    list ∙ ap (λ (x : TaskWiring). x.times) there ∙ ap (λ (x : Wiring). (wired x i).times) same ∙ ((own_in a).whole.each_task i (wired_there a i named)).times
+    list ∙ ap (λ (x : TaskWiring). x.times) there ∙ ap (λ (x : Wiring). (wired_task x i).times) same ∙ ((own_in a).whole.each_task i (wired_there a i named)).times

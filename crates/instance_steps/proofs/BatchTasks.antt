@@ -13,7 +13,7 @@ use Rattle.std.proofs.Math.ListN.{get_or-map}
 use Rattle.dbp_plan.specs.declared.diagram.Link.{Link}
 use Rattle.dbp_plan.specs.declared.schedule.Batch.{Batch}
 use Rattle.dbp_plan.specs.Occurrences.{names, time_of, times_of}
-use Rattle.dbp_plan.specs.Places.{behind_place, front_place}
+use Rattle.dbp_plan.specs.Places.{after_place, front_place}
 use Rattle.release_list.specs.declared.release.Release.{Release}
 use Rattle.release_list.specs.declared.release.Release.TheVariants as release
 use Rattle.release_list.specs.Releases.{batch_start, claims_into, claims_of, links_into, releases_at}
@@ -123,7 +123,7 @@ module _ (a : Recorder) (number : ℕ) (there : number < length (plan_in a).batc
       let size : length (claims_into (plan_in a).diagram.links (get_or tasks n 0)) ≡ length (links_into (plan_in a).diagram.links (get_or tasks n 0)) = length-map (links_into links i) release.Claim in
       let item : slice_get (links_into (plan_in a).diagram.links (get_or tasks n 0)) j ≡ Some (get_or (links_into (plan_in a).diagram.links (get_or tasks n 0)) j 0) = slice_get-get_or (links_into links i) j 0 inside in
       ap (λ (l : List Release). slice_get l (length before + j)) cut
-      ∙ behind_place before (own ++ rest) j
+      ∙ after_place before (own ++ rest) j
       ∙ front_place own rest j (omega (arith, size, inside))
       ∙ slice_get-map release.Claim (links_into links i) j
       ∙ rw item refl

@@ -5,11 +5,11 @@ use Rattle.std.proofs.lemmas.Bool.{eq-eqb, lt-ltb, le-ltb}
 use Rattle.std.proofs.lemmas.List.{replicate_more}
 use Rattle.dbp_plan.specs.declared.diagram.Read.{Read}
 use Rattle.dbp_plan.specs.declared.plan.Plan.{Plan}
-use Rattle.dbp_plan.specs.Lookups.{declared}
+use Rattle.dbp_plan.specs.Lookups.{declared_task}
 use Rattle.dbp_plan.proofs.Counts.{count-cons}
 use Rattle.release_list.specs.Releases.{links_into}
 use Rattle.dbp_rules.specs.Moves.{hear_place, read_place}
-use Rattle.dbp_rules.specs.Places.{task, wired}
+use Rattle.dbp_rules.specs.Places.{task, wired_task}
 use Rattle.dbp_rules.specs.Rules.{is_open}
 use Rattle.dbp_rules.specs.declared.parts.Place.{Place}
 use Rattle.dbp_rules.specs.declared.parts.Place.TheVariants as place
@@ -28,7 +28,7 @@ use Rattle.instance_steps.proofs.TaskMoves as moves
 abbrev pub links_of : Recorder → ℕ → ℕ
 links_of r i = length (links_into (plan_in r).diagram.links i)
 
-pub links_in : (r : Recorder) (i : ℕ) → i < length (plan_in r).diagram.tasks → length (wired (wiring_in r) i).links ≡ links_of r i
+pub links_in : (r : Recorder) (i : ℕ) → i < length (plan_in r).diagram.tasks → length (wired_task (wiring_in r) i).links ≡ links_of r i
 links_in r i named = ap (λ (t : TaskWiring). length t.links) (wired_in r i named)
 
 hear_below : (t : TaskWiring) (n : ℕ) → n < 1 + length t.links → hear_place t n ≡ place.Hear n
@@ -45,10 +45,10 @@ none_before (r ∷ reads) =
     let first : cond {A = ℕ} (nat_lt r.at 0) 1 0 ≡ 0 = rw not_ refl in
     omega (arith, count-cons (λ (q : Read). nat_lt q.at 0) r reads, first, none_before reads)
 
-pub at_first_read : (r : Recorder) (i : ℕ) → i < length (plan_in r).diagram.tasks → read_place (length (wired (wiring_in r) i).reads) 0 ≡ place_after (plan_in r) i 0
+pub at_first_read : (r : Recorder) (i : ℕ) → i < length (plan_in r).diagram.tasks → read_place (length (wired_task (wiring_in r) i).reads) 0 ≡ place_after (plan_in r) i 0
 at_first_read r i named =
     ap (λ (n : ℕ). read_place n 0) ((own_in r).whole.each_task i (wired_there r i named)).reads
-    ∙ ap (λ (n : ℕ). read_place (length (declared (plan_in r) i).reads) n) (sym (none_before (declared (plan_in r) i).reads))
+    ∙ ap (λ (n : ℕ). read_place (length (declared_task (plan_in r) i).reads) n) (sym (none_before (declared_task (plan_in r) i).reads))
 
 -- ---- the hears
 
@@ -57,19 +57,19 @@ module _ (a : Recorder) (i : ℕ) (named : i < length (plan_in a).diagram.tasks)
   hears n = replicate n (step_of (Hear i))
 
   abbrev pub heard_place : ℕ → Place
-  heard_place n = hear_place (wired (wiring_in a) i) n
+  heard_place n = hear_place (wired_task (wiring_in a) i) n
 
-  pub hears_none : (task (state_in a) i).part.place ≡ place.Hear 0 → AddsPiece a a (replicate 0 (step_of (Hear i))) i (task (state_in a) i).part.ended (hear_place (wired (wiring_in a) i) 0)
-  hears_none at = piece_as a a [] i _ _ _ _ refl (at ∙ sym (hear_below (wired (wiring_in a) i) 0 (omega arith))) (piece_none a i)
+  pub hears_none : (task (state_in a) i).part.place ≡ place.Hear 0 → AddsPiece a a (replicate 0 (step_of (Hear i))) i (task (state_in a) i).part.ended (hear_place (wired_task (wiring_in a) i) 0)
+  hears_none at = piece_as a a [] i _ _ _ _ refl (at ∙ sym (hear_below (wired_task (wiring_in a) i) 0 (omega arith))) (piece_none a i)
 
-  pub hears_all : (b : Recorder) (n : ℕ) → n ≡ 1 + links_of a i → AddsPiece a b (replicate n (step_of (Hear i))) i (task (state_in a) i).part.ended (hear_place (wired (wiring_in a) i) n)
+  pub hears_all : (b : Recorder) (n : ℕ) → n ≡ 1 + links_of a i → AddsPiece a b (replicate n (step_of (Hear i))) i (task (state_in a) i).part.ended (hear_place (wired_task (wiring_in a) i) n)
       → AddsPiece a b (replicate (1 + links_of a i) (step_of (Hear i))) i (task (state_in a) i).part.ended (place_after (plan_in a) i 0)
   hears_all b n is piece =
-      let last : n ≡ 1 + length (wired (wiring_in a) i).links = omega (arith, is, links_in a i named) in
+      let last : n ≡ 1 + length (wired_task (wiring_in a) i).links = omega (arith, is, links_in a i named) in
       subst (λ (k : ℕ). AddsPiece a b (replicate k (step_of (Hear i))) i (task (state_in a) i).part.ended (place_after (plan_in a) i 0)) is
-      (piece_as a b _ i _ _ _ _ refl (hear_all (wired (wiring_in a) i) n last ∙ at_first_read a i named) piece)
+      (piece_as a b _ i _ _ _ _ refl (hear_all (wired_task (wiring_in a) i) n last ∙ at_first_read a i named) piece)
 
-  module _ (b : Recorder) (n : ℕ) (below : n < 1 + links_of a i) (so_far : AddsPiece a b (replicate n (step_of (Hear i))) i (task (state_in a) i).part.ended (hear_place (wired (wiring_in a) i) n)) where
+  module _ (b : Recorder) (n : ℕ) (below : n < 1 + links_of a i) (so_far : AddsPiece a b (replicate n (step_of (Hear i))) i (task (state_in a) i).part.ended (hear_place (wired_task (wiring_in a) i) n)) where
     named_b : i < length (plan_in b).diagram.tasks
     named_b = still_named a b _ i _ so_far named
 
@@ -77,19 +77,19 @@ module _ (a : Recorder) (i : ℕ) (named : i < length (plan_in a).diagram.tasks)
     may_b = still_free a b _ i _ so_far may
 
     here : (task (state_in b) i).part.place ≡ place.Hear n
-    here = so_far.changes.place ∙ hear_below (wired (wiring_in a) i) n (omega (arith, below, links_in a i named))
+    here = so_far.changes.place ∙ hear_below (wired_task (wiring_in a) i) n (omega (arith, below, links_in a i named))
 
     pub hear_may : Moves (plan_in b) (wiring_in b) (state_in b) (Hear i)
     hear_may = moves.hear_moves (plan_in b) (wiring_in b) (state_in b) i named_b (task_there b i named_b) may_b n here
 
-    pub hear_more : (c : Recorder) → AddsStep b c (Hear i) → AddsPiece a c (replicate (n + 1) (step_of (Hear i))) i (task (state_in a) i).part.ended (hear_place (wired (wiring_in a) i) (n + 1))
+    pub hear_more : (c : Recorder) → AddsStep b c (Hear i) → AddsPiece a c (replicate (n + 1) (step_of (Hear i))) i (task (state_in a) i).part.ended (hear_place (wired_task (wiring_in a) i) (n + 1))
     hear_more c step =
-        let one : AddsPiece b c (step_of (Hear i) ∷ []) i (task (state_in b) i).part.ended (hear_place (wired (wiring_in b) i) (n + 1)) =
+        let one : AddsPiece b c (step_of (Hear i) ∷ []) i (task (state_in b) i).part.ended (hear_place (wired_task (wiring_in b) i) (n + 1)) =
         piece_step b c (Hear i) i _ _ step hear_may (moves.hear_changes (plan_in b) (wiring_in b) (state_in b) i named_b (task_there b i named_b) may_b n here) in
-        let whole : AddsPiece a c (replicate n (step_of (Hear i)) ++ step_of (Hear i) ∷ []) i (task (state_in a) i).part.ended (hear_place (wired (wiring_in a) i) (n + 1)) =
+        let whole : AddsPiece a c (replicate n (step_of (Hear i)) ++ step_of (Hear i) ∷ []) i (task (state_in a) i).part.ended (hear_place (wired_task (wiring_in a) i) (n + 1)) =
         piece_on a b c (replicate n (step_of (Hear i))) (step_of (Hear i) ∷ []) i _ _ _ _ so_far
-        (piece_as b c (step_of (Hear i) ∷ []) i _ _ _ _ so_far.changes.ended (ap (λ (w : Wiring). hear_place (wired w i) (n + 1)) so_far.steps.wiring) one) in
-        subst (λ (vs : List Event). AddsPiece a c vs i (task (state_in a) i).part.ended (hear_place (wired (wiring_in a) i) (n + 1))) (replicate_more n (step_of (Hear i))) whole
+        (piece_as b c (step_of (Hear i) ∷ []) i _ _ _ _ so_far.changes.ended (ap (λ (w : Wiring). hear_place (wired_task w i) (n + 1)) so_far.steps.wiring) one) in
+        subst (λ (vs : List Event). AddsPiece a c vs i (task (state_in a) i).part.ended (hear_place (wired_task (wiring_in a) i) (n + 1))) (replicate_more n (step_of (Hear i))) whole
 
 -- ---- the whole begin
 

@@ -6,7 +6,7 @@ use Rattle.dbp_plan.specs.declared.diagram.Link.{Link}
 use Rattle.dbp_plan.specs.declared.plan.Plan.{Plan}
 use Rattle.release_list.specs.declared.release.Release.TheVariants as release
 use Rattle.release_list.specs.Releases.{batch_start, claims_into, claims_of, links_into}
-use Rattle.dbp_rules.specs.Places.{wired}
+use Rattle.dbp_rules.specs.Places.{wired_task}
 use Rattle.dbp_rules.specs.declared.state.State.{State}
 use Rattle.dbp_rules.specs.declared.step.Step.TheVariants.{Claim}
 use Rattle.dbp_rules.specs.declared.wiring.TaskWiring.{TaskWiring}
@@ -28,8 +28,8 @@ abbrev pub HasClaimed : Recorder → ℕ → Recorder → ℕ → Type 0
 HasClaimed a i b n = AddsRelease a b (map (λ k. step_of (Claim k)) (take n (into_of a i))) ((state_in a).releaser.place + n)
 
 -- the links that the code goes over
-pub into_is : (a : Recorder) (i : ℕ) (w : Wiring) (t : TaskWiring) → i < length (plan_in a).diagram.tasks → w ≡ wiring_in a → t ≡ wired w i → t.links ≡ into_of a i
-into_is a i w t named same there = ap (λ (x : TaskWiring). x.links) there ∙ ap (λ (x : Wiring). (wired x i).links) same ∙ ap (λ (x : TaskWiring). x.links) (wired_in a i named)
+pub into_is : (a : Recorder) (i : ℕ) (w : Wiring) (t : TaskWiring) → i < length (plan_in a).diagram.tasks → w ≡ wiring_in a → t ≡ wired_task w i → t.links ≡ into_of a i
+into_is a i w t named same there = ap (λ (x : TaskWiring). x.links) there ∙ ap (λ (x : Wiring). (wired_task x i).links) same ∙ ap (λ (x : TaskWiring). x.links) (wired_in a i named)
 
 module _ (a : Recorder) (i : ℕ) (named : i < length (plan_in a).diagram.tasks)
     (next_ : (n : ℕ) → n < length (into_of a i) → slice_get (wiring_in a).releases ((state_in a).releaser.place + n) ≡ Some (release.Claim (get_or (into_of a i) n 0))) where

@@ -3,9 +3,9 @@ use Rattle.std.proofs.Common.{◌≡◌, ℕ, ◌+◌, ◌<◌, List, [], ◌∷
 use Rattle.std.proofs.lemmas.Bool.{lt-ltb, le-ltb}
 use Rattle.std.proofs.lemmas.List.FromFn.{length-map-range_with_len, map-range_with_len_more}
 use Rattle.dbp_plan.specs.declared.plan.Plan.{Plan}
-use Rattle.dbp_plan.specs.Lookups.{declared}
+use Rattle.dbp_plan.specs.Lookups.{declared_task}
 use Rattle.dbp_rules.specs.Moves.{put_place}
-use Rattle.dbp_rules.specs.Places.{task, wired}
+use Rattle.dbp_rules.specs.Places.{task, wired_task}
 use Rattle.dbp_rules.specs.declared.parts.Place.TheVariants as place
 use Rattle.dbp_rules.specs.declared.step.Step.TheVariants.{Shut, Put, Done, End}
 use Rattle.instance_steps.specs.Events.{Event, end_events, put_events, step_of}
@@ -18,9 +18,9 @@ use Rattle.instance_steps.proofs.TaskMoves as moves
 
 -- so many outs are put
 abbrev pub outs_of : Recorder → ℕ → ℕ
-outs_of r i = length (declared (plan_in r) i).outs
+outs_of r i = length (declared_task (plan_in r) i).outs
 
-ports_in : (r : Recorder) (i : ℕ) → i < length (plan_in r).diagram.tasks → (wired (wiring_in r) i).ports ≡ outs_of r i
+ports_in : (r : Recorder) (i : ℕ) → i < length (plan_in r).diagram.tasks → (wired_task (wiring_in r) i).ports ≡ outs_of r i
 ports_in r i named = ((own_in r).whole.each_task i (wired_there r i named)).ports
 
 some_outs : (r : Recorder) (i : ℕ) → i < length (plan_in r).diagram.tasks → 0 < outs_of r i
@@ -60,8 +60,8 @@ module _ (a : Recorder) (i : ℕ) (named : i < length (plan_in a).diagram.tasks)
 
     pub put_more : (c : Recorder) → AddsStep b c (Put i port) → AddsPiece a c (put_events i (port + 1)) i (task (state_in a) i).part.ended (put_place (outs_of a i) (port + 1))
     put_more c step =
-        let ports : (wired (wiring_in b) i).ports ≡ outs_of a i = ports_in b i named_b ∙ ap (λ (p : Plan). length (declared p i).outs) so_far.steps.plan in
-        let one : AddsPiece b c (step_of (Put i port) ∷ []) i (task (state_in b) i).part.ended (put_place (wired (wiring_in b) i).ports (port + 1)) =
+        let ports : (wired_task (wiring_in b) i).ports ≡ outs_of a i = ports_in b i named_b ∙ ap (λ (p : Plan). length (declared_task p i).outs) so_far.steps.plan in
+        let one : AddsPiece b c (step_of (Put i port) ∷ []) i (task (state_in b) i).part.ended (put_place (wired_task (wiring_in b) i).ports (port + 1)) =
         piece_step b c (Put i port) i _ _ step put_may (moves.put_changes (plan_in b) (wiring_in b) (state_in b) i named_b (task_there b i named_b) may_b port) in
         let whole : AddsPiece a c (put_events i port ++ step_of (Put i port) ∷ []) i (task (state_in a) i).part.ended (put_place (outs_of a i) (port + 1)) =
         piece_on a b c (put_events i port) (step_of (Put i port) ∷ []) i _ _ _ _ so_far
@@ -88,7 +88,7 @@ module _ (a : Recorder) (i : ℕ) (named : i < length (plan_in a).diagram.tasks)
     shut_place = shut_piece.changes.place
 
     pub shut_outs : outs_of b i ≡ outs_of a i
-    shut_outs = ap (λ (p : Plan). length (declared p i).outs) shut.plan
+    shut_outs = ap (λ (p : Plan). length (declared_task p i).outs) shut.plan
 
     module _ (c : Recorder) (puts : AddsPiece b c (put_events i (outs_of b i)) i (task (state_in b) i).part.ended place.Done) where
       put_named : i < length (plan_in c).diagram.tasks

@@ -14,9 +14,9 @@ use Rattle.dbp_plan.specs.Table.{table_row}
 use Rattle.dbp_plan.specs.declared.diagram.Read.{Read}
 use Rattle.dbp_plan.specs.declared.diagram.Task.{Task}
 use Rattle.dbp_plan.specs.declared.plan.Plan.{Plan}
-use Rattle.dbp_plan.specs.Lookups.{declared, no_read}
+use Rattle.dbp_plan.specs.Lookups.{declared_task, no_read}
 use Rattle.dbp_rules.specs.Moves.{read_place}
-use Rattle.dbp_rules.specs.Places.{claim_in, link, link_entry, read_at, task, wired}
+use Rattle.dbp_rules.specs.Places.{claim_in, link, link_entry, read_at, task, wired_task}
 use Rattle.dbp_rules.specs.Promises.{IsClaimFilled}
 use Rattle.dbp_rules.specs.Rules.{is_ready}
 use Rattle.dbp_rules.specs.Sound.{Sound}
@@ -43,20 +43,20 @@ use Rattle.instance_steps.proofs.TaskMoves as moves
 use Rattle.instance_steps.proofs.Turned.{count_earlier, read_found, turn_counts, turn_within}
 
 abbrev pub reads_of : Recorder → ℕ → List Read
-reads_of r i = (declared (plan_in r) i).reads
+reads_of r i = (declared_task (plan_in r) i).reads
 
-reads_in : (r : Recorder) (i : ℕ) → i < length (plan_in r).diagram.tasks → length (wired (wiring_in r) i).reads ≡ length (reads_of r i)
+reads_in : (r : Recorder) (i : ℕ) → i < length (plan_in r).diagram.tasks → length (wired_task (wiring_in r) i).reads ≡ length (reads_of r i)
 reads_in r i named = ((own_in r).whole.each_task i (wired_there r i named)).reads
 
 -- ---- one read
 
-module _ (a : Recorder) (i j : ℕ) (named : i < length (plan_in a).diagram.tasks) (inside : j < length (declared (plan_in a) i).reads) (may : MayStep (wiring_in a) (state_in a) i)
+module _ (a : Recorder) (i j : ℕ) (named : i < length (plan_in a).diagram.tasks) (inside : j < length (declared_task (plan_in a) i).reads) (may : MayStep (wiring_in a) (state_in a) i)
     (at : (task (state_in a) i).part.place ≡ place.Look (turn_in (plan_in a) i j))
-    (row : (wiring_in a).count ≡ All → IsClaimFilled (wiring_in a) (state_in a) (get_or (declared (plan_in a) i).reads j no_read).link) where
+    (row : (wiring_in a).count ≡ All → IsClaimFilled (wiring_in a) (state_in a) (get_or (declared_task (plan_in a) i).reads j no_read).link) where
   ready_by : (c : Count) → (wiring_in a).count ≡ c → Sound (plan_in a) (wiring_in a) (table_row (meaning_of (plan_in a))) (state_in a) → is_ready (wiring_in a) (state_in a) i (turn_in (plan_in a) i j) ≡ true
   ready_by All all sound =
       filled_ready (plan_in a) (wiring_in a) (table_row (meaning_of (plan_in a))) (state_in a) (own_in a) sound i (turn_in (plan_in a) i j) (wired_there a i named) at
-      (subst (λ (m : ℕ). IsClaimFilled (wiring_in a) (state_in a) (get_or (declared (plan_in a) i).reads m no_read).link) (sym (read_found a i j named inside)) (row all))
+      (subst (λ (m : ℕ). IsClaimFilled (wiring_in a) (state_in a) (get_or (declared_task (plan_in a) i).reads m no_read).link) (sym (read_found a i j named inside)) (row all))
   ready_by Ranked ranked sound =
       ranked_ready (plan_in a) (wiring_in a) (table_row (meaning_of (plan_in a))) (state_in a) (own_in a) sound i (turn_in (plan_in a) i j) (wired_there a i named) at ranked (moves.may_step_free (wiring_in a) (state_in a) i may)
 
@@ -79,13 +79,13 @@ module _ (a : Recorder) (i j : ℕ) (named : i < length (plan_in a).diagram.task
     pub take_may : Moves (plan_in b) (wiring_in b) (state_in b) (Take i j)
     take_may =
         moves.take_moves (plan_in b) (wiring_in b) (state_in b) i look_named (task_there b i look_named) look_free (turn_in (plan_in a) i j) j look_piece.changes.place
-        (ap (λ (w : Wiring). (read_at (wired w i) (turn_in (plan_in a) i j)).read) look.wiring ∙ read_found a i j named inside)
+        (ap (λ (w : Wiring). (read_at (wired_task w i) (turn_in (plan_in a) i j)).read) look.wiring ∙ read_found a i j named inside)
 
-    pub take_whole : (c : Recorder) → AddsStep b c (Take i j) → AddsPiece a c (look_events i j) i (task (state_in a) i).part.ended (read_place (length (declared (plan_in a) i).reads) (turn_in (plan_in a) i j + 1))
+    pub take_whole : (c : Recorder) → AddsStep b c (Take i j) → AddsPiece a c (look_events i j) i (task (state_in a) i).part.ended (read_place (length (declared_task (plan_in a) i).reads) (turn_in (plan_in a) i j + 1))
     take_whole c step =
-        let one : AddsPiece b c (step_of (Take i j) ∷ []) i (task (state_in b) i).part.ended (read_place (length (wired (wiring_in b) i).reads) (turn_in (plan_in a) i j + 1)) =
+        let one : AddsPiece b c (step_of (Take i j) ∷ []) i (task (state_in b) i).part.ended (read_place (length (wired_task (wiring_in b) i).reads) (turn_in (plan_in a) i j + 1)) =
         piece_step b c (Take i j) i _ _ step take_may (moves.take_changes (plan_in b) (wiring_in b) (state_in b) i look_named (task_there b i look_named) look_free (turn_in (plan_in a) i j) j look_piece.changes.place) in
-        let size : length (wired (wiring_in b) i).reads ≡ length (reads_of a i) = ap (λ (w : Wiring). length (wired w i).reads) look.wiring ∙ reads_in a i named in
+        let size : length (wired_task (wiring_in b) i).reads ≡ length (reads_of a i) = ap (λ (w : Wiring). length (wired_task w i).reads) look.wiring ∙ reads_in a i named in
         piece_on a b c (step_of (Look i j) ∷ []) (step_of (Take i j) ∷ []) i _ _ _ _ look_piece
         (piece_as b c _ i _ _ _ _ look_piece.changes.ended (ap (λ (n : ℕ). read_place n (turn_in (plan_in a) i j + 1)) size) one)
 
@@ -116,7 +116,7 @@ still_filled : (a : Recorder) (new : State) (i j instances : ℕ) (q : Place) �
 still_filled a new i j instances q named inside changes filled =
     let w : Wiring = wiring_in a in
     let n : ℕ = turn_in (plan_in a) i j in
-    let few : n < length (wired (wiring_in a) i).reads = omega (arith, turn_within a i j named inside, reads_in a i named) in
+    let few : n < length (wired_task (wiring_in a) i).reads = omega (arith, turn_within a i j named inside, reads_in a i named) in
     let own : IsOwnRead (plan_in a) (wiring_in a) i (turn_in (plan_in a) i j) = (own_in a).reads i n (wired_there a i named) few in
     let same : (read_of (plan_in a) (wiring_in a) i (turn_in (plan_in a) i j)).link ≡ (get_or (reads_of a i) j no_read).link = ap (λ (m : ℕ). (get_or (reads_of a i) m no_read).link) (read_found a i j named inside) in
     let k : ℕ = (get_or (reads_of a i) j no_read).link in
@@ -161,8 +161,8 @@ module _ (a : Recorder) (i served : ℕ) (named : i < length (plan_in a).diagram
       pub looks_named : i < length (plan_in b).diagram.tasks
       looks_named = still_named a b _ i _ so_far named
 
-      pub looks_inside : k < length (declared (plan_in b) i).reads
-      looks_inside = subst (λ (p : Plan). k < length (declared p i).reads) (sym so_far.steps.plan) below
+      pub looks_inside : k < length (declared_task (plan_in b) i).reads
+      looks_inside = subst (λ (p : Plan). k < length (declared_task p i).reads) (sym so_far.steps.plan) below
 
       pub looks_free : MayStep (wiring_in a) (state_in a) i → MayStep (wiring_in b) (state_in b) i
       looks_free may = still_free a b _ i _ so_far may
@@ -175,28 +175,28 @@ module _ (a : Recorder) (i served : ℕ) (named : i < length (plan_in a).diagram
           let few : made_to (reads_of a i) served k < length (reads_of a i) = omega (arith, turn_within a i k named below, turn_counts (reads_of a i) k served is) in
           so_far.changes.place ∙ look_below (length (reads_of a i)) (made_to (reads_of a i) served k) few ∙ ap (λ (n : ℕ). place.Look n) (sym turn_is)
 
-      pub looks_row : HasRowsToRead (plan_in a) (wiring_in a) (state_in a) i served → (wiring_in b).count ≡ All → IsClaimFilled (wiring_in b) (state_in b) (get_or (declared (plan_in b) i).reads k no_read).link
+      pub looks_row : HasRowsToRead (plan_in a) (wiring_in a) (state_in a) i served → (wiring_in b).count ≡ All → IsClaimFilled (wiring_in b) (state_in b) (get_or (declared_task (plan_in b) i).reads k no_read).link
       looks_row rows all =
           let all_ : (wiring_in a).count ≡ All = ap (λ (w : Wiring). w.count) (sym so_far.steps.wiring) ∙ all in
-          let filled : IsClaimFilled (wiring_in a) (state_in b) (get_or (declared (plan_in a) i).reads k no_read).link = still_filled a (state_in b) i k _ _ named below so_far.changes (rows all_ k below is) in
-          subst (λ (p : Plan). IsClaimFilled (wiring_in b) (state_in b) (get_or (declared p i).reads k no_read).link) (sym so_far.steps.plan)
-          (subst (λ (w : Wiring). IsClaimFilled w (state_in b) (get_or (declared (plan_in a) i).reads k no_read).link) (sym so_far.steps.wiring) filled)
+          let filled : IsClaimFilled (wiring_in a) (state_in b) (get_or (declared_task (plan_in a) i).reads k no_read).link = still_filled a (state_in b) i k _ _ named below so_far.changes (rows all_ k below is) in
+          subst (λ (p : Plan). IsClaimFilled (wiring_in b) (state_in b) (get_or (declared_task p i).reads k no_read).link) (sym so_far.steps.plan)
+          (subst (λ (w : Wiring). IsClaimFilled w (state_in b) (get_or (declared_task (plan_in a) i).reads k no_read).link) (sym so_far.steps.wiring) filled)
 
-      pub reads_more : (c : Recorder) → AddsPiece b c (look_events i k) i (task (state_in b) i).part.ended (read_place (length (declared (plan_in b) i).reads) (turn_in (plan_in b) i k + 1)) → HasRead a i served c (k + 1)
+      pub reads_more : (c : Recorder) → AddsPiece b c (look_events i k) i (task (state_in b) i).part.ended (read_place (length (declared_task (plan_in b) i).reads) (turn_in (plan_in b) i k + 1)) → HasRead a i served c (k + 1)
       reads_more c one =
           let one_more : count_by (λ r. r.at == served) (take (k + 1) (reads_of a i)) ≡ count_by (λ r. r.at == served) (take k (reads_of a i)) + 1 =
           count_by_more_yes (λ (r : Read). r.at == served) (reads_of a i) k no_read below (eq-eqb (get_or (reads_of a i) k no_read).at served is) in
           let made : turn_in (plan_in b) i k + 1 ≡ made_to (reads_of a i) served (k + 1) = omega (arith, turn_is, one_more) in
-          let size : length (declared (plan_in b) i).reads ≡ length (reads_of a i) = ap (λ (p : Plan). length (declared p i).reads) so_far.steps.plan in
-          let place_ : read_place (length (declared (plan_in b) i).reads) (turn_in (plan_in b) i k + 1) ≡ read_place (length (reads_of a i)) (made_to (reads_of a i) served (k + 1)) =
+          let size : length (declared_task (plan_in b) i).reads ≡ length (reads_of a i) = ap (λ (p : Plan). length (declared_task p i).reads) so_far.steps.plan in
+          let place_ : read_place (length (declared_task (plan_in b) i).reads) (turn_in (plan_in b) i k + 1) ≡ read_place (length (reads_of a i)) (made_to (reads_of a i) served (k + 1)) =
           ap (λ (n : ℕ). read_place n (turn_in (plan_in b) i k + 1)) size ∙ ap (read_place (length (reads_of a i))) made in
           let whole : AddsPiece a c (events_to (reads_of a i) i served k ++ look_events i k) i (task (state_in a) i).part.ended (read_place (length (reads_of a i)) (made_to (reads_of a i) served (k + 1))) =
           piece_on a b c (events_to (reads_of a i) i served k) (look_events i k) i _ _ _ _ so_far (piece_as b c (look_events i k) i _ _ _ _ so_far.changes.ended place_ one) in
           subst (λ (vs : List Event). AddsPiece a c vs i (task (state_in a) i).part.ended (read_place (length (reads_of a i)) (made_to (reads_of a i) served (k + 1)))) (sym (events_more (reads_of a i) i served k is)) whole
 
 -- the read that the code looks at
-pub read_is : (a b : Recorder) (i k : ℕ) (t : Task) (items : List Read) (read : Read) → plan_in b ≡ plan_in a → t ≡ declared (plan_in b) i → items ≡ t.reads → k < length (reads_of a i)
+pub read_is : (a b : Recorder) (i k : ℕ) (t : Task) (items : List Read) (read : Read) → plan_in b ≡ plan_in a → t ≡ declared_task (plan_in b) i → items ≡ t.reads → k < length (reads_of a i)
     → get_or (reads_of a i) k no_read ≡ get_or items k read
 read_is a b i k t items read plan there list below =
-    let same : items ≡ reads_of a i = list ∙ ap (λ (x : Task). x.reads) there ∙ ap (λ (p : Plan). (declared p i).reads) plan in
+    let same : items ≡ reads_of a i = list ∙ ap (λ (x : Task). x.reads) there ∙ ap (λ (p : Plan). (declared_task p i).reads) plan in
     get_or_default (reads_of a i) k no_read read below ∙ ap (λ (l : List Read). get_or l k read) (sym same)

@@ -10,7 +10,7 @@ use Rattle.dbp_plan.specs.declared.diagram.Task.{Task}
 use Rattle.dbp_plan.specs.declared.plan.Plan.{Plan}
 use Rattle.dbp_plan.specs.declared.table.Table.{Table}
 use Rattle.dbp_plan.specs.declared.table.TaskRows.{TaskRows}
-use Rattle.dbp_plan.specs.Lookups.{declared, no_declared}
+use Rattle.dbp_plan.specs.Lookups.{declared_task, no_declared}
 use Rattle.dbp_plan.specs.Occurrences.{times_of}
 use Rattle.dbp_plan.specs.Places.{at_place, set_here, set_other}
 use Rattle.dbp_plan.specs.Table.{HasAllRows, HasRowsOf, IsRow, row_at, table_row}
@@ -19,7 +19,7 @@ use Rattle.sync_meaning.specs.Meaning.{IsStream}
 use Rattle.sync_meaning.specs.SomeMeaning.{meaning_of, meaning_of-is}
 use Rattle.sync_meaning.specs.SomeMeaningTables.{row_in, same_table}
 use Rattle.sync_meaning.proofs.Growing.{row_pushed, rows_stay}
-use Rattle.dbp_rules.specs.Places.{no_task, task, wired}
+use Rattle.dbp_rules.specs.Places.{no_task, task, wired_task}
 use Rattle.dbp_rules.specs.Start.{start_of, start_task}
 use Rattle.dbp_rules.specs.declared.parts.Place.{Place}
 use Rattle.dbp_rules.specs.declared.state.State.{State}
@@ -28,22 +28,22 @@ use Rattle.dbp_rules.specs.declared.wiring.Wiring.{Wiring}
 use Rattle.instance_steps.specs.EndedRows.{HasEndedRows}
 use Rattle.instance_steps.specs.TaskPieces.{ChangesTask}
 
-there_in : (p : Plan) (i : ℕ) → i < length p.diagram.tasks → slice_get p.diagram.tasks i ≡ Some (declared p i)
+there_in : (p : Plan) (i : ℕ) → i < length p.diagram.tasks → slice_get p.diagram.tasks i ≡ Some (declared_task p i)
 there_in p i named = slice_get-get_or p.diagram.tasks i no_declared named
 
 -- the row of the table with this number
 ended_row : (p : Plan) (s : State) (table : Table) (i n : ℕ) (rows : TaskRows) → HasEndedRows p s table → i < length p.diagram.tasks → n ≤ (task s i).part.ended → slice_get table.tasks i ≡ Some rows → IsRow table i n (row_at rows n)
 ended_row p s table i n rows has named few at =
-    let own : HasRowsOf (length (declared p i).outs) (task s i).part.ended rows = has.each i rows named at in
-    let ports : (n + 1) * rows.ports ≡ (n + 1) * length (declared p i).outs = ap (λ (k : ℕ). (n + 1) * k) own.ports in
-    let scaled : (n + 1) * length (declared p i).outs ≤ ((task s i).part.ended + 1) * length (declared p i).outs = mul-le-mul_right (length (declared p i).outs) (omega arith) in
+    let own : HasRowsOf (length (declared_task p i).outs) (task s i).part.ended rows = has.each i rows named at in
+    let ports : (n + 1) * rows.ports ≡ (n + 1) * length (declared_task p i).outs = ap (λ (k : ℕ). (n + 1) * k) own.ports in
+    let scaled : (n + 1) * length (declared_task p i).outs ≤ ((task s i).part.ended + 1) * length (declared_task p i).outs = mul-le-mul_right (length (declared_task p i).outs) (omega arith) in
     record { rows = rows; has_rows = at; there = omega (arith, ports, scaled, own.size); is = refl }
 
 -- if as many instances have ended, the rows are those of the ended ones still
 pub ended_rows_stay : (p : Plan) (s new : State) (table : Table) → ((i : ℕ) → (task new i).part.ended ≡ (task s i).part.ended) → HasEndedRows p s table → HasEndedRows p new table
 ended_rows_stay p s new table same has = record {
   size = has.size;
-  each = λ i rows named at. subst (λ (n : ℕ). HasRowsOf (length (declared p i).outs) n rows) (sym (same i)) (has.each i rows named at);
+  each = λ i rows named at. subst (λ (n : ℕ). HasRowsOf (length (declared_task p i).outs) n rows) (sym (same i)) (has.each i rows named at);
   meant = λ i n named few. has.meant i n named (omega (arith, few, same i));
 }
 
@@ -51,8 +51,8 @@ ended_rows_stay p s new table same has = record {
 
 module _ (p : Plan) (s new : State) (table later : Table) (i : ℕ) (old more : TaskRows) (row : List ℤ) (q : Place) (named : i < length p.diagram.tasks) (has : HasEndedRows p s table) (changes : ChangesTask s new i ((task s i).part.ended + 1) q)
     (at : slice_get table.tasks i ≡ Some old) (ports : more.ports ≡ old.ports) (words : more.words ≡ old.words ++ row) (all : later.tasks ≡ set table.tasks i more)
-    (is : row ≡ table_row (meaning_of p) i ((task s i).part.ended + 1)) (wide : length row ≡ length (declared p i).outs) where
-  own_rows : HasRowsOf (length (declared p i).outs) (task s i).part.ended old
+    (is : row ≡ table_row (meaning_of p) i ((task s i).part.ended + 1)) (wide : length row ≡ length (declared_task p i).outs) where
+  own_rows : HasRowsOf (length (declared_task p i).outs) (task s i).part.ended old
   own_rows = has.each i old named at
 
   other_ended : (j : ℕ) → j ≢ i → (task new j).part.ended ≡ (task s j).part.ended
@@ -64,18 +64,18 @@ module _ (p : Plan) (s new : State) (table later : Table) (i : ℕ) (old more : 
   other_later : (j : ℕ) → j ≢ i → slice_get later.tasks j ≡ slice_get table.tasks j
   other_later j other = ap (λ (ts : List TaskRows). slice_get ts j) all ∙ set_other table.tasks i j more other
 
-  each_later : (j : ℕ) (rows : TaskRows) → j < length p.diagram.tasks → slice_get later.tasks j ≡ Some rows → HasRowsOf (length (declared p j).outs) (task new j).part.ended rows
+  each_later : (j : ℕ) (rows : TaskRows) → j < length p.diagram.tasks → slice_get later.tasks j ≡ Some rows → HasRowsOf (length (declared_task p j).outs) (task new j).part.ended rows
   each_later j rows there here = elim (cases_eq j i) [
     | inl same ↦
         let one : more ≡ rows = same_Some more rows (sym there_later ∙ ap (λ (k : ℕ). slice_get later.tasks k) (sym same) ∙ here) in
-        let grown : HasRowsOf (length (declared p i).outs) ((task s i).part.ended + 1) more = record {
+        let grown : HasRowsOf (length (declared_task p i).outs) ((task s i).part.ended + 1) more = record {
           ports = ports ∙ own_rows.ports;
           size = omega (arith, ap length words, length-append old.words row, own_rows.size, wide);
         } in
-        let counted : HasRowsOf (length (declared p i).outs) (task new i).part.ended rows =
-        subst (λ (n : ℕ). HasRowsOf (length (declared p i).outs) n rows) (sym changes.ended) (subst (λ (r : TaskRows). HasRowsOf (length (declared p i).outs) ((task s i).part.ended + 1) r) one grown) in
-        subst (λ (k : ℕ). HasRowsOf (length (declared p k).outs) (task new k).part.ended rows) (sym same) counted
-    | inr other ↦ subst (λ (n : ℕ). HasRowsOf (length (declared p j).outs) n rows) (sym (other_ended j other)) (has.each j rows there (sym (other_later j other) ∙ here))
+        let counted : HasRowsOf (length (declared_task p i).outs) (task new i).part.ended rows =
+        subst (λ (n : ℕ). HasRowsOf (length (declared_task p i).outs) n rows) (sym changes.ended) (subst (λ (r : TaskRows). HasRowsOf (length (declared_task p i).outs) ((task s i).part.ended + 1) r) one grown) in
+        subst (λ (k : ℕ). HasRowsOf (length (declared_task p k).outs) (task new k).part.ended rows) (sym same) counted
+    | inr other ↦ subst (λ (n : ℕ). HasRowsOf (length (declared_task p j).outs) n rows) (sym (other_ended j other)) (has.each j rows there (sym (other_later j other) ∙ here))
   ]
 
   -- a row that was there
@@ -89,7 +89,7 @@ module _ (p : Plan) (s new : State) (table later : Table) (i : ℕ) (old more : 
   -- and the new one
   gained : table_row later i ((task s i).part.ended + 1) ≡ table_row (meaning_of p) i ((task s i).part.ended + 1)
   gained =
-      let pushed : IsRow later i ((task s i).part.ended + 1) row = row_pushed i (task s i).part.ended (length (declared p i).outs) old more row table later at own_rows wide ports words all in
+      let pushed : IsRow later i ((task s i).part.ended + 1) row = row_pushed i (task s i).part.ended (length (declared_task p i).outs) old more row table later at own_rows wide ports words all in
       row_in later i ((task s i).part.ended + 1) row pushed ∙ is
 
   pub ended_rows_grow : HasEndedRows p new later
@@ -113,35 +113,35 @@ module _ (p : Plan) (s new : State) (table later : Table) (i : ℕ) (old more : 
 -- ---- the start
 
 start_ended : (p : Plan) (w : Wiring) (i : ℕ) → i < length w.tasks → (task (start_of p w) i).part.ended ≡ 0
-start_ended p w i below = ap (λ (t : TaskState). t.part.ended) (get_or-map-range_with_len (λ k. start_task (wired w k) (declared p k)) 0 (length w.tasks) i i no_task below (omega arith))
+start_ended p w i below = ap (λ (t : TaskState). t.part.ended) (get_or-map-range_with_len (λ k. start_task (wired_task w k) (declared_task p k)) 0 (length w.tasks) i i no_task below (omega arith))
 
 pub ended_rows_start : (p : Plan) (w : Wiring) (table : Table) → length w.tasks ≡ length p.diagram.tasks → table.tasks ≡ map first_rows p.diagram.tasks → HasEndedRows p (start_of p w) table
 ended_rows_start p w table size first = record {
   size = ap length first ∙ length-map p.diagram.tasks first_rows;
   each = λ i rows named at.
-      let one : first_rows (declared p i) ≡ rows = same_Some _ _ (sym (here i named) ∙ at) in
-      let own : HasRowsOf (length (declared p i).outs) 0 (first_rows (declared p i)) = record { ports = refl; size = omega (arith, length-map (declared p i).outs (λ o. o.first)) } in
-      subst (λ (n : ℕ). HasRowsOf (length (declared p i).outs) n rows) (sym (start_ended p w i (omega (arith, named, size))))
-      (subst (λ (r : TaskRows). HasRowsOf (length (declared p i).outs) 0 r) one own);
+      let one : first_rows (declared_task p i) ≡ rows = same_Some _ _ (sym (here i named) ∙ at) in
+      let own : HasRowsOf (length (declared_task p i).outs) 0 (first_rows (declared_task p i)) = record { ports = refl; size = omega (arith, length-map (declared_task p i).outs (λ o. o.first)) } in
+      subst (λ (n : ℕ). HasRowsOf (length (declared_task p i).outs) n rows) (sym (start_ended p w i (omega (arith, named, size))))
+      (subst (λ (r : TaskRows). HasRowsOf (length (declared_task p i).outs) 0 r) one own);
   meant = λ i n named few.
       let none : n ≡ 0 = omega (arith, few, start_ended p w i (omega (arith, named, size))) in
       ap (λ (m : ℕ). table_row table i m) none ∙ row_zero i named ∙ ap (λ (m : ℕ). table_row (meaning_of p) i m) (sym none);
 }
   where
-    here : (i : ℕ) → i < length p.diagram.tasks → slice_get table.tasks i ≡ Some (first_rows (declared p i))
+    here : (i : ℕ) → i < length p.diagram.tasks → slice_get table.tasks i ≡ Some (first_rows (declared_task p i))
     here i named = ap (λ (ts : List TaskRows). slice_get ts i) first ∙ slice_get-map first_rows p.diagram.tasks i ∙ ap (option_map first_rows) (there_in p i named)
 
     row_zero : (i : ℕ) → i < length p.diagram.tasks → table_row table i 0 ≡ table_row (meaning_of p) i 0
     row_zero i named =
-        let words : List ℤ = map (λ o. o.first) (declared p i).outs in
-        let stream : IsStream p.diagram p.samples p.batches (meaning_of p) i (declared p i) = (meaning_of-is p).each i (declared p i) (there_in p i named) in
-        let k : ℕ = length (declared p i).outs in
-        let none : 0 * length (declared p i).outs ≡ 0 = omega arith in
-        let size : length (map (λ o. o.first) (declared p i).outs) ≡ length (declared p i).outs = length-map (declared p i).outs (λ o. o.first) in
-        let whole : row_at (first_rows (declared p i)) 0 ≡ map (λ o. o.first) (declared p i).outs =
+        let words : List ℤ = map (λ o. o.first) (declared_task p i).outs in
+        let stream : IsStream p.diagram p.samples p.batches (meaning_of p) i (declared_task p i) = (meaning_of-is p).each i (declared_task p i) (there_in p i named) in
+        let k : ℕ = length (declared_task p i).outs in
+        let none : 0 * length (declared_task p i).outs ≡ 0 = omega arith in
+        let size : length (map (λ o. o.first) (declared_task p i).outs) ≡ length (declared_task p i).outs = length-map (declared_task p i).outs (λ o. o.first) in
+        let whole : row_at (first_rows (declared_task p i)) 0 ≡ map (λ o. o.first) (declared_task p i).outs =
         ap (λ (m : ℕ). take ((0 + 1) * k - 0 * k) (drop m words)) none ∙ take_all ((0 + 1) * k - 0 * k) words (omega (arith, size)) in
-        let found : table_row table i 0 ≡ row_at (first_rows (declared p i)) 0 = let at = here i named in rw at refl in
-        found ∙ whole ∙ sym (row_in (meaning_of p) i 0 (map (λ o. o.first) (declared p i).outs) stream.first_row)
+        let found : table_row table i 0 ≡ row_at (first_rows (declared_task p i)) 0 = let at = here i named in rw at refl in
+        found ∙ whole ∙ sym (row_in (meaning_of p) i 0 (map (λ o. o.first) (declared_task p i).outs) stream.first_row)
 
 -- ---- the end
 
@@ -152,9 +152,9 @@ ended_rows_all p s table has all =
       size = has.size;
       each = λ i t rows at here.
           let named : i < length p.diagram.tasks = slice_get_within p.diagram.tasks i t at in
-          let same : declared p i ≡ t = same_Some (declared p i) t (sym (there_in p i named) ∙ at) in
+          let same : declared_task p i ≡ t = same_Some (declared_task p i) t (sym (there_in p i named) ∙ at) in
           subst (λ (x : Task). HasRowsOf (length x.outs) (length (times_of p.batches i)) rows) same
-          (subst (λ (n : ℕ). HasRowsOf (length (declared p i).outs) n rows) (all i named) (has.each i rows named here));
+          (subst (λ (n : ℕ). HasRowsOf (length (declared_task p i).outs) n rows) (all i named) (has.each i rows named here));
     } in
     same_table p.diagram.tasks p.batches table (meaning_of p) rows (meaning_of-is p).rows (λ i n t at few.
     let named : i < length p.diagram.tasks = slice_get_within p.diagram.tasks i t at in

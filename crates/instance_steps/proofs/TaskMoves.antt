@@ -4,7 +4,7 @@ use Rattle.std.specs.Prelude.{nat_lt, nat_le, ◌&&◌}
 use Rattle.std.proofs.lemmas.Bool.{cases_eq, eq-eqb, lt-leb, ltb-true}
 use Rattle.dbp_plan.specs.declared.plan.Plan.{Plan}
 use Rattle.dbp_rules.specs.Moves as move
-use Rattle.dbp_rules.specs.Places.{no_task, read_at, task, task_entry, wired}
+use Rattle.dbp_rules.specs.Places.{no_task, read_at, task, task_entry, wired_task}
 use Rattle.dbp_rules.specs.Rules as rule
 use Rattle.dbp_rules.specs.Rules.{with_part, with_task}
 use Rattle.dbp_rules.specs.declared.parts.Place.{Place}
@@ -38,11 +38,11 @@ unblocked_from Ranked w s i free = ap (λ (o : Option ℕ). rule.none_of o broke
 
 pub may_step_free : (w : Wiring) (s : State) (i : ℕ) → MayStep w s i → rule.blocker_refusal w.count w s i ≡ None
 may_step_free w s i may = unblocked_from w.count w s i (λ ranked r below. third_fails
-    (nat_lt (wired w r).rank (wired w i).rank)
+    (nat_lt (wired_task w r).rank (wired_task w i).rank)
     (nat_lt (task s r).part.ended (task_entry s r).aimed)
     (nat_le (rule.own_time w s r) (rule.own_time w s i))
     (λ above left.
-    let later : rule.own_time w s i < rule.own_time w s r = may ranked r below (ltb-true (wired w r).rank (wired w i).rank above) (ltb-true (task s r).part.ended (task_entry s r).aimed left) in
+    let later : rule.own_time w s i < rule.own_time w s r = may ranked r below (ltb-true (wired_task w r).rank (wired_task w i).rank above) (ltb-true (task s r).part.ended (task_entry s r).aimed left) in
     lt-leb (rule.own_time w s r) (rule.own_time w s i) later))
 
 -- ---- one task changed
@@ -79,7 +79,7 @@ changed_ended s u i r a changes = elim (cases_eq r i) [
 pub may_step_on : (w : Wiring) (s u : State) (i : ℕ) (a : Place) → ChangesTask s u i (task s i).part.ended a → MayStep w s i → MayStep w u i
 may_step_on w s u i a changes may = λ ranked r below above left.
     let ended : (k : ℕ) → (task u k).part.ended ≡ (task s k).part.ended = λ k. changed_ended s u i k a changes in
-    let time_of_ : (k : ℕ) → rule.own_time w u k ≡ rule.own_time w s k = λ k. ap (λ (n : ℕ). get_or (wired w k).times (n + 1 - 1) 0) (ended k) in
+    let time_of_ : (k : ℕ) → rule.own_time w u k ≡ rule.own_time w s k = λ k. ap (λ (n : ℕ). get_or (wired_task w k).times (n + 1 - 1) 0) (ended k) in
     let aimed : (task_entry u r).aimed ≡ (task_entry s r).aimed = rw changes.releaser refl in
     let later : rule.own_time w s i < rule.own_time w s r = may ranked r below above (omega (arith, left, ended r, aimed)) in
     omega (arith, later, time_of_ i, time_of_ r)
@@ -91,11 +91,11 @@ is_next_from : (b : Broken) (next : ℕ × ℕ) (kind subject : ℕ) → next.0 
 is_next_from b next kind subject same also = rw (eq-eqb next.0 kind same, eq-eqb next.1 subject also) refl
 
 module _ (p : Plan) (w : Wiring) (s : State) (i : ℕ) (named : i < length p.diagram.tasks) (inside : i < length s.tasks) (may : MayStep w s i) where
-  next_from : (q : Place) (kind subject : ℕ) → (task s i).part.place ≡ q → (rule.place_kind (wired w i) q).0 ≡ kind → (rule.place_kind (wired w i) q).1 ≡ subject → rule.steps_next w s i kind subject ≡ None
+  next_from : (q : Place) (kind subject : ℕ) → (task s i).part.place ≡ q → (rule.place_kind (wired_task w i) q).0 ≡ kind → (rule.place_kind (wired_task w i) q).1 ≡ subject → rule.steps_next w s i kind subject ≡ None
   next_from q kind subject at same also =
-      is_next_from broken.TaskPlace (rule.place_kind (wired w i) (task s i).part.place) kind subject
-      (ap (λ (x : Place). (rule.place_kind (wired w i) x).0) at ∙ same)
-      (ap (λ (x : Place). (rule.place_kind (wired w i) x).1) at ∙ also)
+      is_next_from broken.TaskPlace (rule.place_kind (wired_task w i) (task s i).part.place) kind subject
+      (ap (λ (x : Place). (rule.place_kind (wired_task w i) x).0) at ∙ same)
+      (ap (λ (x : Place). (rule.place_kind (wired_task w i) x).1) at ∙ also)
 
   free : rule.blocker_refusal w.count w s i ≡ None
   free = may_step_free w s i may
@@ -121,11 +121,11 @@ module _ (p : Plan) (w : Wiring) (s : State) (i : ℕ) (named : i < length p.dia
     ready = λ same. cc (same);
   }
 
-  pub hear_changes : (n : ℕ) → (task s i).part.place ≡ place.Hear n → ChangesTask s (rule.next p w s (Hear i)) i (task s i).part.ended (move.hear_place (wired w i) (n + 1))
+  pub hear_changes : (n : ℕ) → (task s i).part.place ≡ place.Hear n → ChangesTask s (rule.next p w s (Hear i)) i (task s i).part.ended (move.hear_place (wired_task w i) (n + 1))
   hear_changes n at = rw at (with_task_changes s i _ inside refl)
 
   -- the look of the read whose turn it is
-  pub look_moves : (n r : ℕ) → (task s i).part.place ≡ place.Look n → (read_at (wired w i) n).read ≡ r → rule.is_ready w s i n ≡ true → Moves p w s (Look i r)
+  pub look_moves : (n r : ℕ) → (task s i).part.place ≡ place.Look n → (read_at (wired_task w i) n).read ≡ r → rule.is_ready w s i n ≡ true → Moves p w s (Look i r)
   look_moves n r at is ready =
       let here : rule.is_ready w s i (rule.turn_at (task s i).part.place) ≡ true = ap (λ (x : Place). rule.is_ready w s i (rule.turn_at x)) at ∙ ready in
       record {
@@ -139,7 +139,7 @@ module _ (p : Plan) (w : Wiring) (s : State) (i : ℕ) (named : i < length p.dia
   look_changes n r at ready = rw (at, ready) (with_task_changes s i _ inside refl)
 
   -- its take
-  pub take_moves : (n r : ℕ) → (task s i).part.place ≡ place.Take n → (read_at (wired w i) n).read ≡ r → Moves p w s (Take i r)
+  pub take_moves : (n r : ℕ) → (task s i).part.place ≡ place.Take n → (read_at (wired_task w i) n).read ≡ r → Moves p w s (Take i r)
   take_moves n r at is = record {
     named = named;
     allowed = rw (next_from (place.Take n) 8 r at refl is) free;
@@ -147,7 +147,7 @@ module _ (p : Plan) (w : Wiring) (s : State) (i : ℕ) (named : i < length p.dia
     ready = λ same. cc (same);
   }
 
-  pub take_changes : (n r : ℕ) → (task s i).part.place ≡ place.Take n → ChangesTask s (rule.next p w s (Take i r)) i (task s i).part.ended (move.read_place (length (wired w i).reads) (n + 1))
+  pub take_changes : (n r : ℕ) → (task s i).part.place ≡ place.Take n → ChangesTask s (rule.next p w s (Take i r)) i (task s i).part.ended (move.read_place (length (wired_task w i).reads) (n + 1))
   take_changes n r at = rw at (with_task_changes s i _ inside refl)
 
   -- the end of an instance
@@ -170,7 +170,7 @@ module _ (p : Plan) (w : Wiring) (s : State) (i : ℕ) (named : i < length p.dia
     ready = λ same. cc (same);
   }
 
-  pub put_changes : (port : ℕ) → ChangesTask s (rule.next p w s (Put i port)) i (task s i).part.ended (move.put_place (wired w i).ports (port + 1))
+  pub put_changes : (port : ℕ) → ChangesTask s (rule.next p w s (Put i port)) i (task s i).part.ended (move.put_place (wired_task w i).ports (port + 1))
   put_changes port = with_task_changes s i _ inside refl
 
   pub done_moves : (task s i).part.place ≡ place.Done → Moves p w s (Done i)

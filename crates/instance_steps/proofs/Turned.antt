@@ -5,9 +5,9 @@ use Rattle.std.specs.List.{enumerate_from}
 use Rattle.std.proofs.lemmas.Bool.{cases_eq, cases_lt, eq-eqb, ne_eqb, lt-ltb, le-ltb}
 use Rattle.std.proofs.lemmas.Option.{slice_get-get_or}
 use Rattle.dbp_plan.specs.declared.diagram.Read.{Read}
-use Rattle.dbp_plan.specs.Lookups.{declared, no_read}
+use Rattle.dbp_plan.specs.Lookups.{declared_task, no_read}
 use Rattle.dbp_plan.proofs.Counts.{count-cons}
-use Rattle.dbp_rules.specs.Places.{read_at, wired}
+use Rattle.dbp_rules.specs.Places.{read_at, wired_task}
 use Rattle.dbp_rules.specs.Wired.{is_sooner, turn_of}
 use Rattle.dbp_rules.specs.declared.wiring.ReadWiring.{ReadWiring}
 use Rattle.dbp_rules.specs.declared.wiring.TaskWiring.{TaskWiring}
@@ -93,12 +93,12 @@ count_earlier t (x ∷ xs) =
 
 -- ---- the read of a turn
 
-module _ (r : Recorder) (i j : ℕ) (named : i < length (plan_in r).diagram.tasks) (inside : j < length (declared (plan_in r) i).reads) where
-  pub turn_within : turn_in (plan_in r) i j < length (declared (plan_in r) i).reads
-  turn_within = turn_below (declared (plan_in r) i).reads j (get_or (declared (plan_in r) i).reads j no_read) (slice_get-get_or (declared (plan_in r) i).reads j no_read inside)
+module _ (r : Recorder) (i j : ℕ) (named : i < length (plan_in r).diagram.tasks) (inside : j < length (declared_task (plan_in r) i).reads) where
+  pub turn_within : turn_in (plan_in r) i j < length (declared_task (plan_in r) i).reads
+  turn_within = turn_below (declared_task (plan_in r) i).reads j (get_or (declared_task (plan_in r) i).reads j no_read) (slice_get-get_or (declared_task (plan_in r) i).reads j no_read inside)
 
-  pub read_found : (read_at (wired (wiring_in r) i) (turn_in (plan_in r) i j)).read ≡ j
+  pub read_found : (read_at (wired_task (wiring_in r) i) (turn_in (plan_in r) i j)).read ≡ j
   read_found =
       ap (λ (t : TaskWiring). (read_at t (turn_in (plan_in r) i j)).read) (wired_in r i named)
       ∙ ap (λ (x : ReadWiring). x.read) (turn (plan_in r) (count_in r) i named (turn_in (plan_in r) i j) turn_within)
-      ∙ turn_found (declared (plan_in r) i).reads j inside
+      ∙ turn_found (declared_task (plan_in r) i).reads j inside

@@ -5,7 +5,7 @@ use Rattle.std.specs.List.{flat_map, range_with_len}
 use Rattle.dbp_plan.specs.declared.diagram.Read.{Read}
 use Rattle.dbp_plan.specs.declared.plan.Plan.{Plan}
 use Rattle.dbp_plan.specs.declared.schedule.Batch.{Batch}
-use Rattle.dbp_plan.specs.Lookups.{declared, no_read}
+use Rattle.dbp_plan.specs.Lookups.{declared_task, no_read}
 use Rattle.dbp_plan.specs.Occurrences.{time_of}
 use Rattle.release_list.specs.Releases.{links_into}
 use Rattle.dbp_rules.specs.declared.step.Step.{Step}
@@ -49,11 +49,11 @@ abbrev pub look_events : ℕ → ℕ → List Event
 look_events i r = step_of (Look i r) ∷ step_of (Take i r) ∷ []
 
 abbrev pub read_events : Plan → ℕ → ℕ → List Event
-read_events p i served = flat_map (look_events i) (reads_at (declared p i).reads served)
+read_events p i served = flat_map (look_events i) (reads_at (declared_task p i).reads served)
 
 -- it shuts its slot, puts its outs in order of declaration, stamps the slot, and ends
 abbrev pub put_events : ℕ → ℕ → List Event
 put_events i outs = map (λ port. step_of (Put i port)) (range_with_len 0 outs)
 
 abbrev pub end_events : Plan → ℕ → List Event
-end_events p i = step_of (Shut i) ∷ (put_events i (length (declared p i).outs) ++ step_of (Done i) ∷ step_of (End i) ∷ [])
+end_events p i = step_of (Shut i) ∷ (put_events i (length (declared_task p i).outs) ++ step_of (Done i) ∷ step_of (End i) ∷ [])

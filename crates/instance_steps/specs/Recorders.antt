@@ -5,7 +5,7 @@ use Rattle.dbp_plan.specs.declared.diagram.Link.{Link}
 use Rattle.dbp_plan.specs.declared.diagram.Task.{Task}
 use Rattle.dbp_plan.specs.declared.plan.Plan.{Plan}
 use Rattle.dbp_plan.specs.declared.table.Table.{Table}
-use Rattle.dbp_plan.specs.Lookups.{declared}
+use Rattle.dbp_plan.specs.Lookups.{declared_task}
 use Rattle.release_list.specs.Releases.{links_into}
 use Rattle.release_list.specs.declared.release.Release.{Release}
 use Rattle.dbp_core.specs.Cores as core
@@ -53,7 +53,7 @@ first_record Nothing = None
 
 -- of its plan: a task, the links, and those into a task
 abbrev pub declared_in : Recorder → ℕ → Task
-declared_in r i = declared (plan_in r) i
+declared_in r i = declared_task (plan_in r) i
 
 abbrev pub links_in : Recorder → List Link
 links_in r = (plan_in r).diagram.links

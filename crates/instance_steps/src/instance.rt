@@ -9,7 +9,7 @@ use sync_meaning::push_row;
 
 impl Recorder {
     ghost use Rattle.std.specs.Prelude.{replicate, slice_index_or};
-    ghost use Rattle.dbp_plan.specs.Lookups.{declared, no_read};
+    ghost use Rattle.dbp_plan.specs.Lookups.{declared_task, no_read};
     ghost use Rattle.dbp_rules.specs.Moves.{read_place};
     ghost use Rattle.dbp_rules.specs.Promises.{IsClaimFilled};
     ghost use Rattle.dbp_rules.specs.declared.step.Count.TheVariants.{All};
@@ -159,7 +159,7 @@ impl Recorder {
     // The task of the diagram.
     fn declared(&self, task: u32) -> &Task
         requires { task < length (plan_in self.now).diagram.tasks }
-        ensures { result.now ≡ declared (plan_in self.now) task }
+        ensures { result.now ≡ declared_task (plan_in self.now) task }
     {
         &self.core.plan().diagram.tasks.items()[task as usize]
     }

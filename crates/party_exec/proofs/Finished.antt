@@ -5,13 +5,13 @@ use Rattle.dbp_plan.specs.declared.plan.Plan.{Plan}
 use Rattle.dbp_plan.specs.declared.table.Table.{Table}
 use Rattle.dbp_plan.specs.declared.table.TaskRows.{TaskRows}
 use Rattle.dbp_plan.specs.declared.diagram.Task.{Task as Declared}
-use Rattle.dbp_plan.specs.Lookups.{declared, no_declared}
+use Rattle.dbp_plan.specs.Lookups.{declared_task, no_declared}
 use Rattle.dbp_plan.specs.Occurrences.{times_of}
 use Rattle.dbp_plan.specs.Places.{at_place, read_place}
 use Rattle.dbp_plan.specs.Table.{HasAllRows, HasRowsOf}
 use Rattle.sync_meaning.specs.SomeMeaning.{meaning_of, meaning_of-is}
 use Rattle.sync_meaning.specs.SomeMeaningTables.{table_row-at, same_table}
-use Rattle.dbp_rules.specs.Places.{wired}
+use Rattle.dbp_rules.specs.Places.{wired_task}
 use Rattle.word_rule.specs.Roles.{run_wiring}
 use Rattle.word_rule.specs.Seats.{TaskSits}
 use Rattle.word_rule.specs.declared.seats.SlotWords.{SlotWords}
@@ -36,7 +36,7 @@ AreAll w tasks = (i : ℕ) (rows : TaskRows) → slice_get tasks i ≡ Some rows
 -- a party that has finished has all rows of its task
 pub finished_rows : (w : SlotWords) (i : ℕ) (s : TaskParty) → TaskSits w s.seat → s.seat.task ≡ i → TaskHasFinished w s → HasAll w i s.rows
 finished_rows w i s here is done =
-    let wired_times : (wired (run_wiring (plan_of_task s.seat)) s.seat.task).times ≡ times_of (plan_of_task s.seat).batches s.seat.task = (task_wired w s.seat here).times in
+    let wired_times : (wired_task (run_wiring (plan_of_task s.seat)) s.seat.task).times ≡ times_of (plan_of_task s.seat).batches s.seat.task = (task_wired w s.seat here).times in
     let all : s.seat.part.ended ≡ length (times_of (plan_of_task s.seat).batches s.seat.task) = done ∙ ap (λ x. length x.times) (sym (wired_is w s.seat here)) ∙ ap length wired_times in
     let has : HasMeantRows (plan_of_task s.seat) s.seat.task (length (times_of (plan_of_task s.seat).batches s.seat.task)) s.rows = record {
       room = s.computed.rows.room;
@@ -82,7 +82,7 @@ module _ (w : SlotWords) (tasks : List TaskRows) (size : length tasks ≡ length
   has = record {
     size = size;
     each = λ i t rows at_task at_rows.
-        let same : declared p i ≡ t = get_or_from_slice_get p.diagram.tasks i t no_declared at_task in
+        let same : declared_task p i ≡ t = get_or_from_slice_get p.diagram.tasks i t no_declared at_task in
         subst (λ (d : Declared). HasRowsOf (length d.outs) (length (times_of p.batches i)) rows) same (each i rows at_rows).room;
   }
 

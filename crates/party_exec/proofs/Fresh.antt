@@ -6,11 +6,11 @@ use Rattle.std.proofs.lemmas.List.FromFn.{get_or-map-range_with_len}
 use Rattle.std.proofs.lemmas.Option.{same_Some}
 use Rattle.dbp_plan.specs.declared.plan.Plan.{Plan}
 use Rattle.dbp_plan.specs.declared.table.TaskRows.{TaskRows}
-use Rattle.dbp_plan.specs.Lookups.{declared}
+use Rattle.dbp_plan.specs.Lookups.{declared_task}
 use Rattle.dbp_plan.specs.Occurrences.{times_of}
-use Rattle.dbp_plan.specs.Ranges.{range_behind, range_front}
+use Rattle.dbp_plan.specs.Ranges.{range_after, range_front}
 use Rattle.dbp_plan.specs.Table.{row_at}
-use Rattle.dbp_rules.specs.Places.{no_task, no_task_wiring, task, wired}
+use Rattle.dbp_rules.specs.Places.{no_task, no_task_wiring, task, wired_task}
 use Rattle.dbp_rules.specs.Sound.{Sound}
 use Rattle.dbp_rules.specs.Start.{first_row, start_of, start_task}
 use Rattle.dbp_rules.specs.Work.{WorkWords}
@@ -40,8 +40,8 @@ module _ (p : Plan) (i : ℕ) (below : i < length (run_wiring p).tasks) where
   sound : Sound p (run_wiring p) (meaning_row p) (start_of p (run_wiring p))
   sound = first_sound p All
 
-  starts : task (start_of p (run_wiring p)) i ≡ start_task (wired (run_wiring p) i) (declared p i)
-  starts = get_or-map-range_with_len (λ (j : ℕ). start_task (wired (run_wiring p) j) (declared p j)) 0 (length (run_wiring p).tasks) i i no_task below (omega arith)
+  starts : task (start_of p (run_wiring p)) i ≡ start_task (wired_task (run_wiring p) i) (declared_task p i)
+  starts = get_or-map-range_with_len (λ (j : ℕ). start_task (wired_task (run_wiring p) j) (declared_task p j)) 0 (length (run_wiring p).tasks) i i no_task below (omega arith)
 
   in_state : HasMeantWords p i (task (start_of p (run_wiring p)) i).part (task (start_of p (run_wiring p)) i).work
   in_state =
@@ -49,39 +49,39 @@ module _ (p : Plan) (i : ℕ) (below : i < length (run_wiring p).tasks) where
       let shape = sound.shape.each_task i below in
       record { now = shape.now; next = shape.later; states = task_sound.states; taken = task_sound.taken; later = task_sound.later; row = task_sound.row }
 
-  first_words : HasMeantWords p i first_part (start_task no_task_wiring (declared p i)).work
+  first_words : HasMeantWords p i first_part (start_task no_task_wiring (declared_task p i)).work
   first_words = subst (λ (t : TaskState). HasMeantWords p i t.part t.work) starts in_state
 
-  first_rows : HasMeantRows p i 0 (first_and_zeros (declared p i) (length (times_of p.batches i)))
+  first_rows : HasMeantRows p i 0 (first_and_zeros (declared_task p i) (length (times_of p.batches i)))
   first_rows =
-      let outs : ℕ = length (declared p i).outs in
+      let outs : ℕ = length (declared_task p i).outs in
       let zeros : List ℤ = replicate (length (times_of p.batches i) * outs) (pos 0) in
-      let size : length (first_row (declared p i)) ≡ outs = length-map (declared p i).outs (λ o. o.first) in
+      let size : length (first_row (declared_task p i)) ≡ outs = length-map (declared_task p i).outs (λ o. o.first) in
       record {
         room = record {
           ports = refl;
-          size = length-append (first_row (declared p i)) (replicate (length (times_of p.batches i) * length (declared p i).outs) (pos 0)) ∙ omega (arith, size, length-replicate (length (times_of p.batches i) * length (declared p i).outs) (pos 0));
+          size = length-append (first_row (declared_task p i)) (replicate (length (times_of p.batches i) * length (declared_task p i).outs) (pos 0)) ∙ omega (arith, size, length-replicate (length (times_of p.batches i) * length (declared_task p i).outs) (pos 0));
         };
         each = λ n few.
             let none : n ≡ 0 = omega arith in
-            ap (λ (m : ℕ). row_at (first_and_zeros (declared p i) (length (times_of p.batches i))) m) none
-            ∙ range_front (first_row (declared p i)) zeros (0 * outs) ((0 + 1) * outs) (omega arith) (omega (arith, size))
-            ∙ range_behind [] (first_row (declared p i)) (0 * outs) ((0 + 1) * outs) (omega arith) (omega (arith, size))
+            ap (λ (m : ℕ). row_at (first_and_zeros (declared_task p i) (length (times_of p.batches i))) m) none
+            ∙ range_front (first_row (declared_task p i)) zeros (0 * outs) ((0 + 1) * outs) (omega arith) (omega (arith, size))
+            ∙ range_after [] (first_row (declared_task p i)) (0 * outs) ((0 + 1) * outs) (omega arith) (omega (arith, size))
             ∙ first_words.row
             ∙ ap (meaning_row p i) (sym none);
       }
 
-  pub first_computed : HasComputed p i first_part (start_task no_task_wiring (declared p i)).work (first_and_zeros (declared p i) (length (times_of p.batches i)))
+  pub first_computed : HasComputed p i first_part (start_task no_task_wiring (declared_task p i)).work (first_and_zeros (declared_task p i) (length (times_of p.batches i)))
   first_computed = record { words = first_words; rows = first_rows }
 
 -- how many occurrences the seat's task has
-pub time_count : (w : SlotWords) (s : TaskSeat) → TaskSits w s → length (wired w.wiring s.task).times ≡ length (times_of w.plan.batches s.task)
+pub time_count : (w : SlotWords) (s : TaskSeat) → TaskSits w s → length (wired_task w.wiring s.task).times ≡ length (times_of w.plan.batches s.task)
 time_count w s here =
     ap (λ (x : TaskWiring). length x.times) (sym (wired_is w s here)) ∙ ap (λ (xs : List ℕ). length xs) (task_wired w s here).times ∙ ap (λ (x : Plan). length (times_of x.batches s.task)) here.1
 
 -- a fresh task's party has computed what its type says
-pub first_has : (w : SlotWords) (s : TaskSeat) (work : WorkWords) (rows : TaskRows) → IsFirstTask w s.task s → work ≡ (start_task no_task_wiring (declared w.plan s.task)).work
-    → rows ≡ first_and_zeros (declared w.plan s.task) (length (times_of w.plan.batches s.task)) → HasComputed (plan_of_task s) s.task s.part work rows
+pub first_has : (w : SlotWords) (s : TaskSeat) (work : WorkWords) (rows : TaskRows) → IsFirstTask w s.task s → work ≡ (start_task no_task_wiring (declared_task w.plan s.task)).work
+    → rows ≡ first_and_zeros (declared_task w.plan s.task) (length (times_of w.plan.batches s.task)) → HasComputed (plan_of_task s) s.task s.part work rows
 first_has w s work rows first is_work is_rows =
     let below : s.task < length (run_wiring w.plan).tasks = omega (arith, in_wiring w s first.here, ap (λ (x : Wiring). length x.tasks) w.wired) in
     subst (λ (x : Plan × TaskPart × WorkWords × TaskRows). HasComputed x.0 s.task x.1 x.2 x.3) (λ j. (sym first.here.1 j, sym first.part j, sym is_work j, sym is_rows j)) (first_computed w.plan s.task below)

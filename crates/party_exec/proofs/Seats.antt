@@ -5,7 +5,7 @@ use Rattle.std.proofs.lemmas.Bool.{eq-eqb}
 use Rattle.dbp_plan.specs.declared.plan.Plan.{Plan}
 use Rattle.dbp_plan.specs.declared.table.TaskRows.{TaskRows}
 use Rattle.dbp_rules.specs.PartyRules.{Loaded, task_after, task_refusal}
-use Rattle.dbp_rules.specs.Places.{read_at, wired}
+use Rattle.dbp_rules.specs.Places.{read_at, wired_task}
 use Rattle.dbp_rules.specs.Shapes.{PlaceIn, running_count}
 use Rattle.dbp_rules.specs.Work.{WorkWords}
 use Rattle.dbp_rules.specs.declared.parts.Place.{Place}
@@ -50,11 +50,11 @@ may_end w t i at = rw at refl
 -- ---- what the seat's party has after its step
 
 module _ (w : SlotWords) (s new : TaskSeat) (here : TaskSits w s) (steps : TaskSteps s new) where
-  pub has_then : (e : Step) (l : Loaded) (work : WorkWords) (rows : TaskRows) → new.part ≡ task_after (wired w.wiring s.task) s.part e l
-      → HasComputed (plan_of_task s) s.task (task_after (wired (run_wiring (plan_of_task s)) s.task) s.part e l) work rows
+  pub has_then : (e : Step) (l : Loaded) (work : WorkWords) (rows : TaskRows) → new.part ≡ task_after (wired_task w.wiring s.task) s.part e l
+      → HasComputed (plan_of_task s) s.task (task_after (wired_task (run_wiring (plan_of_task s)) s.task) s.part e l) work rows
       → HasComputed (plan_of_task new) new.task new.part work rows
   has_then e l work rows part has =
-      let now : task_after (wired (run_wiring (plan_of_task s)) s.task) s.part e l ≡ new.part = ap (λ (x : TaskWiring). task_after x s.part e l) (wired_is w s here) ∙ sym part in
+      let now : task_after (wired_task (run_wiring (plan_of_task s)) s.task) s.part e l ≡ new.part = ap (λ (x : TaskWiring). task_after x s.part e l) (wired_is w s here) ∙ sym part in
       subst (λ (x : Plan × ℕ × TaskPart). HasComputed x.0 x.1 x.2 work rows) (λ j. (sym steps.plan j, sym steps.task j, now j)) has
 
 -- ---- the seat's task is one of those that the words know
@@ -63,15 +63,15 @@ module _ (w : SlotWords) (s : TaskSeat) (here : TaskSits w s) where
   pub declared_inside : s.task < length w.plan.diagram.tasks
   declared_inside = task_named w s here
 
-  pub turn_inside : (n : ℕ) → PlaceIn (wired (run_wiring (plan_of_task s)) s.task) (place.Look n) → n < length (wired w.wiring s.task).reads
-  turn_inside n few = let a : n < length (wired (run_wiring (plan_of_task s)) s.task).reads = few in let b = ap (λ (x : TaskWiring). length x.reads) (wired_is w s here) in omega arith
+  pub turn_inside : (n : ℕ) → PlaceIn (wired_task (run_wiring (plan_of_task s)) s.task) (place.Look n) → n < length (wired_task w.wiring s.task).reads
+  turn_inside n few = let a : n < length (wired_task (run_wiring (plan_of_task s)) s.task).reads = few in let b = ap (λ (x : TaskWiring). length x.reads) (wired_is w s here) in omega arith
 
-  pub look_inside : (n : ℕ) → s.part.place ≡ place.Look n → n < length (wired w.wiring s.task).reads
-  look_inside n at = turn_inside n (subst (λ (q : Place). PlaceIn (wired (run_wiring (plan_of_task s)) s.task) q) at (shape w s here).place)
+  pub look_inside : (n : ℕ) → s.part.place ≡ place.Look n → n < length (wired_task w.wiring s.task).reads
+  look_inside n at = turn_inside n (subst (λ (q : Place). PlaceIn (wired_task (run_wiring (plan_of_task s)) s.task) q) at (shape w s here).place)
 
-  pub take_inside : (n : ℕ) → s.part.place ≡ place.Take n → n < length (wired w.wiring s.task).reads
-  take_inside n at = turn_inside n (subst (λ (q : Place). PlaceIn (wired (run_wiring (plan_of_task s)) s.task) q) at (shape w s here).place)
+  pub take_inside : (n : ℕ) → s.part.place ≡ place.Take n → n < length (wired_task w.wiring s.task).reads
+  take_inside n at = turn_inside n (subst (λ (q : Place). PlaceIn (wired_task (run_wiring (plan_of_task s)) s.task) q) at (shape w s here).place)
 
   -- a running instance is one of the task's occurrences
-  pub time_inside : running_count s.part.place ≡ 1 → s.part.ended < length (wired w.wiring s.task).times
+  pub time_inside : running_count s.part.place ≡ 1 → s.part.ended < length (wired_task w.wiring s.task).times
   time_inside busy = let a = (shape w s here).occurs in let b = ap (λ (x : TaskWiring). length x.times) (wired_is w s here) in omega arith

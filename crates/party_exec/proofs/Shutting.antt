@@ -6,12 +6,12 @@ use Rattle.dbp_plan.specs.declared.limits.TheConstants.{MAX_OCCURRENCES}
 use Rattle.dbp_plan.specs.declared.plan.Plan.{Plan}
 use Rattle.dbp_plan.specs.declared.table.TaskRows.{TaskRows}
 use Rattle.dbp_plan.specs.Closed.{IsClosedTask, let_base, place_count}
-use Rattle.dbp_plan.specs.Lookups.{declared}
+use Rattle.dbp_plan.specs.Lookups.{declared_task}
 use Rattle.dbp_plan.specs.Occurrences.{times_of}
 use Rattle.dbp_plan.specs.Samples.{input_value}
 use Rattle.dbp_rules.specs.Moves as move
 use Rattle.dbp_rules.specs.PartyRules.{no_word}
-use Rattle.dbp_rules.specs.Places.{time, wired}
+use Rattle.dbp_rules.specs.Places.{time, wired_task}
 use Rattle.dbp_rules.specs.Shapes.{HasSamples, IsWired, running_count}
 use Rattle.dbp_rules.specs.Work.{WorkWords}
 use Rattle.dbp_rules.specs.declared.parts.Place.TheVariants as place
@@ -33,25 +33,25 @@ module _ (w : SlotWords) (s : TaskSeat) (here : TaskSits w s) where
   p = plan_of_task s
 
   abbrev d : Task
-  d = declared w.plan s.task
+  d = declared_task w.plan s.task
 
-  pub closed : IsClosedTask (length w.plan.diagram.inputs) (length w.plan.diagram.events) (length w.plan.diagram.links) (declared w.plan s.task)
-  closed = subst (λ (x : Plan). IsClosedTask (length x.diagram.inputs) (length x.diagram.events) (length x.diagram.links) (declared x s.task)) here.1 (task_wired w s here).closed
+  pub closed : IsClosedTask (length w.plan.diagram.inputs) (length w.plan.diagram.events) (length w.plan.diagram.links) (declared_task w.plan s.task)
+  closed = subst (λ (x : Plan). IsClosedTask (length x.diagram.inputs) (length x.diagram.events) (length x.diagram.links) (declared_task x s.task)) here.1 (task_wired w s here).closed
 
-  pub few_times : length (wired w.wiring s.task).times ≤ MAX_OCCURRENCES
+  pub few_times : length (wired_task w.wiring s.task).times ≤ MAX_OCCURRENCES
   few_times = let a = (task_wired w s here).few in let b = ap (λ (x : TaskWiring). length x.times) (wired_is w s here) in omega arith
 
   pub has_samples : HasSamples w.plan w.wiring.samples
   has_samples = (subst (λ (x : Wiring). IsWired w.plan x) (sym w.wired) (wiring-whole w.plan AllLinks)).samples
 
   module _ (at : s.part.place ≡ place.Shut) (work : WorkWords) (rows : TaskRows) (has : HasComputed (plan_of_task s) s.task s.part work rows) where
-    pub now_size : length work.now ≡ place_count (declared w.plan s.task)
-    now_size = has.words.now ∙ ap (λ (x : Plan). place_count (declared x s.task)) here.1
+    pub now_size : length work.now ≡ place_count (declared_task w.plan s.task)
+    now_size = has.words.now ∙ ap (λ (x : Plan). place_count (declared_task x s.task)) here.1
 
-    pub sense_room : length (declared w.plan s.task).states + length (declared w.plan s.task).senses ≤ length work.now
+    pub sense_room : length (declared_task w.plan s.task).states + length (declared_task w.plan s.task).senses ≤ length work.now
     sense_room = let a = now_size in omega arith
 
-    pub running : s.part.ended < length (wired w.wiring s.task).times
+    pub running : s.part.ended < length (wired_task w.wiring s.task).times
     running = time_inside w s here (ap running_count at)
 
     pub occurs : s.part.ended < length (times_of (plan_of_task s).batches s.task)
@@ -64,13 +64,13 @@ module _ (w : SlotWords) (s : TaskSeat) (here : TaskSits w s) where
         omega arith
 
     module _ (sensed : WorkWords)
-        (senses : sensed ≡ move.with_senses (declared w.plan s.task) (map (λ x. input_value w.plan.diagram.inputs w.plan.samples x.input (time (wired w.wiring s.task) (s.part.ended + 1))) (declared w.plan s.task).senses) work)
-        (new : WorkWords) (computes : new ≡ move.work_words_of (declared w.plan s.task) (take (let_base (declared w.plan s.task)) sensed.now)) where
-      worked : new ≡ move.after_compute (declared p s.task) (map (λ x. input_value p.diagram.inputs p.samples x.input (time (wired (run_wiring p) s.task) (s.part.ended + 1))) (declared p s.task).senses) work
+        (senses : sensed ≡ move.with_senses (declared_task w.plan s.task) (map (λ x. input_value w.plan.diagram.inputs w.plan.samples x.input (time (wired_task w.wiring s.task) (s.part.ended + 1))) (declared_task w.plan s.task).senses) work)
+        (new : WorkWords) (computes : new ≡ move.work_words_of (declared_task w.plan s.task) (take (let_base (declared_task w.plan s.task)) sensed.now)) where
+      worked : new ≡ move.after_compute (declared_task p s.task) (map (λ x. input_value p.diagram.inputs p.samples x.input (time (wired_task (run_wiring p) s.task) (s.part.ended + 1))) (declared_task p s.task).senses) work
       worked =
           computes
-          ∙ ap (λ (x : WorkWords). move.work_words_of (declared w.plan s.task) (take (let_base (declared w.plan s.task)) x.now)) senses
-          ∙ ap (λ (x : Plan × TaskWiring). move.after_compute (declared x.0 s.task) (map (λ y. input_value x.0.diagram.inputs x.0.samples y.input (time x.1 (s.part.ended + 1))) (declared x.0 s.task).senses) work) (λ j. (sym here.1 j, sym (wired_is w s here) j))
+          ∙ ap (λ (x : WorkWords). move.work_words_of (declared_task w.plan s.task) (take (let_base (declared_task w.plan s.task)) x.now)) senses
+          ∙ ap (λ (x : Plan × TaskWiring). move.after_compute (declared_task x.0 s.task) (map (λ y. input_value x.0.diagram.inputs x.0.samples y.input (time x.1 (s.part.ended + 1))) (declared_task x.0 s.task).senses) work) (λ j. (sym here.1 j, sym (wired_is w s here) j))
 
       pub has_computed : (made : TaskRows) → made.ports ≡ rows.ports → made.words ≡ take ((s.part.ended + 1) * rows.ports) rows.words ++ new.row ++ drop ((s.part.ended + 1 + 1) * rows.ports) rows.words
           → HasComputed (plan_of_task s) s.task (move.at_place s.part (place.Put 0)) new made

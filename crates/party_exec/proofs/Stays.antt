@@ -3,11 +3,11 @@ use Rattle.std.proofs.Common.{◌≡◌, ℕ, ◌+◌, length, refl, sym, ◌∙
 use Rattle.std.proofs.lemmas.Bool.{cases_Bool}
 use Rattle.dbp_plan.specs.declared.plan.Plan.{Plan}
 use Rattle.dbp_plan.specs.declared.table.TaskRows.{TaskRows}
-use Rattle.dbp_plan.specs.Lookups.{declared}
+use Rattle.dbp_plan.specs.Lookups.{declared_task}
 use Rattle.sync_meaning.specs.SomeMeaningRows.{states_at}
 use Rattle.dbp_rules.specs.Moves as move
 use Rattle.dbp_rules.specs.PartyRules.{Loaded, hears_at, is_opened_by, is_stamp_of, loaded_number, read_order_in, task_after, turn_at}
-use Rattle.dbp_rules.specs.Places.{wired}
+use Rattle.dbp_rules.specs.Places.{wired_task}
 use Rattle.dbp_rules.specs.SoundParts.{meant_word, read_of, shut_by, taken_by}
 use Rattle.dbp_rules.specs.Work.{WorkWords}
 use Rattle.dbp_rules.specs.declared.parts.Place.TheVariants as place
@@ -21,7 +21,7 @@ use Rattle.party_exec.specs.Computed.{HasComputed, last_computed}
 
 module _ (p : Plan) (i : ℕ) (t : TaskPart) (work : WorkWords) (rows : TaskRows) (has : HasComputed p i t work rows) where
   abbrev w : TaskWiring
-  w = wired (run_wiring p) i
+  w = wired_task (run_wiring p) i
 
   -- in the same instance, if no more is taken and the slot is as shut as it was
   pub stays : (new : TaskPart) → new.ended ≡ t.ended → shut_by new.place ≡ shut_by t.place → taken_by (length w.reads) new.place ≡ taken_by (length w.reads) t.place → HasComputed p i new work rows
@@ -31,9 +31,9 @@ module _ (p : Plan) (i : ℕ) (t : TaskPart) (work : WorkWords) (rows : TaskRows
         words = record {
           now = has.words.now;
           next = has.words.next;
-          states = has.words.states ∙ ap (λ (n : ℕ). states_at p.diagram p.samples p.batches (meaning_row p) i (declared p i) n) (sym ended);
+          states = has.words.states ∙ ap (λ (n : ℕ). states_at p.diagram p.samples p.batches (meaning_row p) i (declared_task p i) n) (sym ended);
           taken = λ n few. has.words.taken n (omega (arith, few, taken)) ∙ ap (λ (m : ℕ). meant_word p (meaning_row p) i (m + 1) (read_of p (run_wiring p) i n)) (sym ended);
-          later = λ some. has.words.later (omega (arith, some, shut)) ∙ ap (λ (m : ℕ). states_at p.diagram p.samples p.batches (meaning_row p) i (declared p i) (m + 1)) (sym ended);
+          later = λ some. has.words.later (omega (arith, some, shut)) ∙ ap (λ (m : ℕ). states_at p.diagram p.samples p.batches (meaning_row p) i (declared_task p i) (m + 1)) (sym ended);
           row = has.words.row ∙ ap (meaning_row p i) (sym last);
         };
         rows = record { room = has.rows.room; each = λ n few. has.rows.each n (omega (arith, few, last)) };

@@ -4,12 +4,12 @@ use Rattle.std.specs.Prelude.{MatchBool}
 use Rattle.dbp_plan.specs.declared.limits.TheConstants.{MAX_BODY}
 use Rattle.dbp_plan.specs.declared.plan.Plan.{Plan}
 use Rattle.dbp_plan.specs.declared.table.TaskRows.{TaskRows}
-use Rattle.dbp_plan.specs.Lookups.{declared}
+use Rattle.dbp_plan.specs.Lookups.{declared_task}
 use Rattle.dbp_plan.specs.Occurrences.{times_of}
 use Rattle.sync_meaning.specs.SomeMeaning.{meaning_of}
 use Rattle.dbp_rules.specs.Moves as move
 use Rattle.dbp_rules.specs.PartyRules.{a_number, a_value, an_order, no_word, task_after}
-use Rattle.dbp_rules.specs.Places.{read_at, wired}
+use Rattle.dbp_rules.specs.Places.{read_at, wired_task}
 use Rattle.dbp_rules.specs.Promises.{IsMeant}
 use Rattle.dbp_rules.specs.Shapes.{PlaceIn, running_count}
 use Rattle.dbp_rules.specs.SoundParts.{shut_by}
@@ -50,7 +50,7 @@ module _ (w : SlotWords) (s : TaskParty) (here : TaskSits w s.seat) where
   t = s.seat.part
 
   abbrev its : TaskWiring
-  its = wired w.wiring s.seat.task
+  its = wired_task w.wiring s.seat.task
 
   module _ (new : TaskSeat) (steps : TaskSteps s.seat new) where
     pub has_started : (gate : ℕ) → t.place ≡ place.Idle → new.part ≡ task_after its t (step.Start i) (a_number gate) → HasComputed (plan_of_task new) new.task new.part s.work s.rows
@@ -63,12 +63,12 @@ module _ (w : SlotWords) (s : TaskParty) (here : TaskSits w s.seat) where
     has_looked n r stamp at part = has_then w s.seat new here steps (step.Look i r) (a_number stamp) s.work s.rows part (after_look p i t s.work s.rows s.computed n r (a_number stamp) at)
 
     pub has_taken : (n r spot : ℕ) (word : ℤ) → t.place ≡ place.Take n → n < length its.reads → r ≡ (read_at its n).read
-        → spot ≡ length (declared w.plan i).states + length (declared w.plan i).senses + r → IsMeant w.plan (meaning_of w.plan) i (t.ended + 1) r word → new.part ≡ task_after its t (step.Take i r) (a_value word)
+        → spot ≡ length (declared_task w.plan i).states + length (declared_task w.plan i).senses + r → IsMeant w.plan (meaning_of w.plan) i (t.ended + 1) r word → new.part ≡ task_after its t (step.Take i r) (a_value word)
         → HasComputed (plan_of_task new) new.task new.part (record s.work { now = set s.work.now spot word }) s.rows
     has_taken n r spot word at few read is meant part =
-        let own_few : n < length (wired (run_wiring p) i).reads = omega (arith, few, ap (λ (x : TaskWiring). length x.reads) (wired_is w s.seat here)) in
-        let own_read : r ≡ (read_at (wired (run_wiring p) i) n).read = read ∙ ap (λ (x : TaskWiring). (read_at x n).read) (sym (wired_is w s.seat here)) in
-        let own_spot : spot ≡ length (declared p i).states + length (declared p i).senses + r = is ∙ ap (λ (x : Plan). length (declared x i).states + length (declared x i).senses + r) (sym here.1) in
+        let own_few : n < length (wired_task (run_wiring p) i).reads = omega (arith, few, ap (λ (x : TaskWiring). length x.reads) (wired_is w s.seat here)) in
+        let own_read : r ≡ (read_at (wired_task (run_wiring p) i) n).read = read ∙ ap (λ (x : TaskWiring). (read_at x n).read) (sym (wired_is w s.seat here)) in
+        let own_spot : spot ≡ length (declared_task p i).states + length (declared_task p i).senses + r = is ∙ ap (λ (x : Plan). length (declared_task x i).states + length (declared_task x i).senses + r) (sym here.1) in
         let own_meant : IsMeant p (meaning_of p) i (t.ended + 1) r word = subst (λ (x : Plan). IsMeant x (meaning_of x) i (t.ended + 1) r word) (sym here.1) meant in
         has_then w s.seat new here steps (step.Take i r) (a_value word) (record s.work { now = set s.work.now spot word }) s.rows part
         (after_take p i (inside w s.seat here) t s.work s.rows s.computed n r spot word (a_value word) at own_few own_read own_spot own_meant)
@@ -86,21 +86,21 @@ module _ (w : SlotWords) (s : TaskParty) (here : TaskSits w s.seat) where
     has_ended at part = has_then w s.seat new here steps (step.End i) no_word (move.after_advance s.work) s.rows part (after_end p i (inside w s.seat here) t s.work s.rows s.computed no_word at)
 
   -- the place of a read's word is one of the environment's
-  pub spot_inside : (n r spot : ℕ) → n < length its.reads → r ≡ (read_at its n).read → spot ≡ length (declared w.plan i).states + length (declared w.plan i).senses + r → spot < length s.work.now
+  pub spot_inside : (n r spot : ℕ) → n < length its.reads → r ≡ (read_at its n).read → spot ≡ length (declared_task w.plan i).states + length (declared_task w.plan i).senses + r → spot < length s.work.now
   spot_inside n r spot few read is =
-      let own_few : n < length (wired (run_wiring p) i).reads = omega (arith, few, ap (λ (x : TaskWiring). length x.reads) (wired_is w s.seat here)) in
-      let own_read : r ≡ (read_at (wired (run_wiring p) i) n).read = read ∙ ap (λ (x : TaskWiring). (read_at x n).read) (sym (wired_is w s.seat here)) in
-      let own_spot : spot ≡ length (declared p i).states + length (declared p i).senses + r = is ∙ ap (λ (x : Plan). length (declared x i).states + length (declared x i).senses + r) (sym here.1) in
+      let own_few : n < length (wired_task (run_wiring p) i).reads = omega (arith, few, ap (λ (x : TaskWiring). length x.reads) (wired_is w s.seat here)) in
+      let own_read : r ≡ (read_at (wired_task (run_wiring p) i) n).read = read ∙ ap (λ (x : TaskWiring). (read_at x n).read) (sym (wired_is w s.seat here)) in
+      let own_spot : spot ≡ length (declared_task p i).states + length (declared_task p i).senses + r = is ∙ ap (λ (x : Plan). length (declared_task x i).states + length (declared_task x i).senses + r) (sym here.1) in
       omega (arith, s.computed.words.now, own_spot, own_read, ((task_wired w s.seat here).each_read n own_few).read)
 
   -- so it is small
-  pub spot_small : (n r spot : ℕ) → n < length its.reads → r ≡ (read_at its n).read → spot ≡ length (declared w.plan i).states + length (declared w.plan i).senses + r → spot < MAX_BODY
+  pub spot_small : (n r spot : ℕ) → n < length its.reads → r ≡ (read_at its n).read → spot ≡ length (declared_task w.plan i).states + length (declared_task w.plan i).senses + r → spot < MAX_BODY
   spot_small n r spot few read is = let body = (task_wired w s.seat here).closed.body in omega (arith, spot_inside n r spot few read is, s.computed.words.now)
 
   -- the row has a word of each port
   pub port_inside : (port : ℕ) → t.place ≡ place.Put port → port < length s.work.row
   port_inside port at =
-      let few : port < (wired (run_wiring p) i).ports = subst (λ (q : Place). PlaceIn (wired (run_wiring p) i) q) at (shape w s.seat here).place in
+      let few : port < (wired_task (run_wiring p) i).ports = subst (λ (q : Place). PlaceIn (wired_task (run_wiring p) i) q) at (shape w s.seat here).place in
       let occurs : t.ended + 1 ≤ length (times_of p.batches i) = omega (arith, (shape w s.seat here).occurs, ap running_count at, ap length (task_wired w s.seat here).times) in
       let row : s.work.row ≡ meaning_row p i (t.ended + 1) = s.computed.words.row ∙ ap (λ (x : ℕ). meaning_row p i (t.ended + x)) (ap shut_by at) in
       omega (arith, few, (task_wired w s.seat here).ports, ap length row, meant_width p i (t.ended + 1) s.seat.same.named occurs)

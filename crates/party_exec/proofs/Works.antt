@@ -9,7 +9,7 @@ use Rattle.dbp_plan.specs.declared.diagram.Read.{Read}
 use Rattle.dbp_plan.specs.declared.diagram.Task.{Task}
 use Rattle.dbp_plan.specs.declared.plan.Plan.{Plan}
 use Rattle.dbp_plan.specs.declared.table.TaskRows.{TaskRows}
-use Rattle.dbp_plan.specs.Lookups.{declared, no_declared, no_read}
+use Rattle.dbp_plan.specs.Lookups.{declared_task, no_declared, no_read}
 use Rattle.dbp_plan.specs.Occurrences.{count_until, time_of, times_of}
 use Rattle.dbp_plan.specs.Samples.{input_value}
 use Rattle.dbp_plan.specs.Table.{row_at}
@@ -21,7 +21,7 @@ use Rattle.sync_meaning.specs.SomeMeaningStreams.{length-states_at}
 use Rattle.sync_meaning.specs.SomeMeaningTables.{row_in}
 use Rattle.dbp_rules.specs.Moves as move
 use Rattle.dbp_rules.specs.PartyRules.{Loaded, task_after, turn_at}
-use Rattle.dbp_rules.specs.Places.{read_at, time, wired}
+use Rattle.dbp_rules.specs.Places.{read_at, time, wired_task}
 use Rattle.dbp_rules.specs.Promises.{IsMeant}
 use Rattle.dbp_rules.specs.SoundParts.{meant_word, place_of_read, read_of, shut_by, taken_by}
 use Rattle.dbp_rules.specs.Shapes.{IsTaskWired}
@@ -44,19 +44,19 @@ use Rattle.party_exec.proofs.Written.{written_before, written_here, written_size
 pub row_solves : (p : Plan) → Solves p.diagram p.samples p.batches (meaning_row p)
 row_solves p = meaning_solves p.diagram p.samples p.batches (meaning_of p) p.rules (meaning_of-is p)
 
-row_width : (p : Plan) (i n : ℕ) → length (row_of p.diagram p.samples p.batches (meaning_row p) i (declared p i) n) ≡ length (declared p i).outs
-row_width p i zero = length-map (declared p i).outs (λ o. o.first)
-row_width p i (suc n) = length-map (declared p i).outs _
+row_width : (p : Plan) (i n : ℕ) → length (row_of p.diagram p.samples p.batches (meaning_row p) i (declared_task p i) n) ≡ length (declared_task p i).outs
+row_width p i zero = length-map (declared_task p i).outs (λ o. o.first)
+row_width p i (suc n) = length-map (declared_task p i).outs _
 
 -- a row has as many words as its task has outs
-pub meant_width : (p : Plan) (i n : ℕ) → i < length p.diagram.tasks → n ≤ length (times_of p.batches i) → length (meaning_row p i n) ≡ length (declared p i).outs
+pub meant_width : (p : Plan) (i n : ℕ) → i < length p.diagram.tasks → n ≤ length (times_of p.batches i) → length (meaning_row p i n) ≡ length (declared_task p i).outs
 meant_width p i n named less =
-    ap length ((row_solves p).each i n (declared p i) (slice_get-get_or p.diagram.tasks i no_declared named) less) ∙ row_width p i n
+    ap length ((row_solves p).each i n (declared_task p i) (slice_get-get_or p.diagram.tasks i no_declared named) less) ∙ row_width p i n
 
 -- the word that the meaning gives a read
-meant_is : (p : Plan) (i m r : ℕ) (word : ℤ) → IsMeant p (meaning_of p) i m r word → meant_word p (meaning_row p) i m (get_or (declared p i).reads r no_read) ≡ word
+meant_is : (p : Plan) (i m r : ℕ) (word : ℤ) → IsMeant p (meaning_of p) i m r word → meant_word p (meaning_row p) i m (get_or (declared_task p i).reads r no_read) ≡ word
 meant_is p i m r word is =
-    let same : get_or (declared p i).reads r no_read ≡ is.read = get_or_from_slice_get (declared p i).reads r is.read no_read is.has_read in
+    let same : get_or (declared_task p i).reads r no_read ≡ is.read = get_or_from_slice_get (declared_task p i).reads r is.read no_read is.has_read in
     let number : ℕ = count_until (times_of p.batches is.is.link.writer) (time_of p.batches i m) - is.is.link.delay in
     let row : meaning_row p is.is.link.writer number ≡ is.is.row = row_in (meaning_of p) is.is.link.writer number is.is.row is.is.is_row in
     let here : meant_word p (meaning_row p) i m is.read ≡ get_or (meaning_row p is.is.link.writer number) is.read.port (pos 0) = rw is.is.has_link refl in
@@ -67,13 +67,13 @@ meant_is p i m r word is =
 
 module _ (p : Plan) (i : ℕ) (below : i < length (run_wiring p).tasks) (t : TaskPart) (work : WorkWords) (rows : TaskRows) (has : HasComputed p i t work rows) where
   abbrev w : TaskWiring
-  w = wired (run_wiring p) i
+  w = wired_task (run_wiring p) i
 
   abbrev d : Task
-  d = declared p i
+  d = declared_task p i
 
   abbrev reads : ℕ
-  reads = length (wired (run_wiring p) i).reads
+  reads = length (wired_task (run_wiring p) i).reads
 
   own : IsOwn p (run_wiring p)
   own = own_wiring p All

@@ -3,7 +3,7 @@ use Rattle.std.proofs.Common.{◌≡◌, ℕ, ℤ, ◌+◌, ◌*◌, ◌<◌, �
 use Rattle.std.specs.Prelude.{slice_range}
 use Rattle.std.proofs.lemmas.List.{length-take-le, take-append-drop}
 use Rattle.std.proofs.Math.Nat.{mul-le-mul_right}
-use Rattle.dbp_plan.specs.Ranges.{range_behind, range_front}
+use Rattle.dbp_plan.specs.Ranges.{range_after, range_front}
 
 module _ (words row : List ℤ) (ports number : ℕ) (size : length row ≡ ports) (inside : (number + 1) * ports ≤ length words) where
   abbrev pub written : List ℤ
@@ -23,7 +23,7 @@ module _ (words row : List ℤ) (ports number : ℕ) (size : length row ≡ port
   pub written_here : slice_range written (number * ports) ((number + 1) * ports) ≡ row
   written_here =
       range_front (take (number * ports) words ++ row) (drop ((number + 1) * ports) words) (number * ports) ((number + 1) * ports) (omega arith) (omega (arith, both))
-      ∙ range_behind (take (number * ports) words) row (number * ports) ((number + 1) * ports) (sym front) (omega (arith, front, size))
+      ∙ range_after (take (number * ports) words) row (number * ports) ((number + 1) * ports) (sym front) (omega (arith, front, size))
 
   -- the rows before it stay
   pub written_before : (n : ℕ) → n < number → slice_range written (n * ports) ((n + 1) * ports) ≡ slice_range words (n * ports) ((n + 1) * ports)

@@ -3,11 +3,11 @@ use Rattle.std.specs.Prelude.{◌≡◌, ℕ, pos, ◌+◌, ◌<◌, ◌≤◌, 
 use Rattle.dbp_plan.specs.declared.plan.Plan.{Plan}
 use Rattle.dbp_plan.specs.declared.table.TaskRows.{TaskRows}
 use Rattle.dbp_plan.specs.Closed.{place_count}
-use Rattle.dbp_plan.specs.Lookups.{declared}
+use Rattle.dbp_plan.specs.Lookups.{declared_task}
 use Rattle.dbp_plan.specs.Occurrences.{times_of}
 use Rattle.dbp_plan.specs.Table.{HasRowsOf, row_at}
 use Rattle.sync_meaning.specs.SomeMeaningRows.{states_at}
-use Rattle.dbp_rules.specs.Places.{wired}
+use Rattle.dbp_rules.specs.Places.{wired_task}
 use Rattle.dbp_rules.specs.SoundParts.{meant_word, place_of_read, read_of, shut_by, taken_by}
 use Rattle.dbp_rules.specs.Work.{WorkWords}
 use Rattle.dbp_rules.specs.declared.parts.TaskPart.{TaskPart}
@@ -25,16 +25,16 @@ last_computed t = t.ended + shut_by t.place
 -- What it computes with: the states before its instance, the words of the reads that it has taken in it, and once it
 -- has shut its slot the states after it; and the last row that it has computed.
 pub record HasMeantWords (p : Plan) (i : ℕ) (t : TaskPart) (work : WorkWords) : Type 0 where
-  pub now : length work.now ≡ place_count (declared p i)
-  pub next : length work.later ≡ length (declared p i).states
-  pub states : take (length (declared p i).states) work.now ≡ states_at p.diagram p.samples p.batches (meaning_row p) i (declared p i) t.ended
-  pub taken : (n : ℕ) → n < taken_by (length (wired (run_wiring p) i).reads) t.place → slice_index_or work.now (place_of_read p (run_wiring p) i n) (pos 0) ≡ meant_word p (meaning_row p) i (t.ended + 1) (read_of p (run_wiring p) i n)
-  pub later : 0 < shut_by t.place → work.later ≡ states_at p.diagram p.samples p.batches (meaning_row p) i (declared p i) (t.ended + 1)
+  pub now : length work.now ≡ place_count (declared_task p i)
+  pub next : length work.later ≡ length (declared_task p i).states
+  pub states : take (length (declared_task p i).states) work.now ≡ states_at p.diagram p.samples p.batches (meaning_row p) i (declared_task p i) t.ended
+  pub taken : (n : ℕ) → n < taken_by (length (wired_task (run_wiring p) i).reads) t.place → slice_index_or work.now (place_of_read p (run_wiring p) i n) (pos 0) ≡ meant_word p (meaning_row p) i (t.ended + 1) (read_of p (run_wiring p) i n)
+  pub later : 0 < shut_by t.place → work.later ≡ states_at p.diagram p.samples p.batches (meaning_row p) i (declared_task p i) (t.ended + 1)
   pub row : work.row ≡ meaning_row p i (last_computed t)
 
 -- Its rows: there is room for one of each occurrence and for the first one, and those up to the last one are the meaning's.
 pub record HasMeantRows (p : Plan) (i last : ℕ) (rows : TaskRows) : Type 0 where
-  pub room : HasRowsOf (length (declared p i).outs) (length (times_of p.batches i)) rows
+  pub room : HasRowsOf (length (declared_task p i).outs) (length (times_of p.batches i)) rows
   pub each : (n : ℕ) → n ≤ last → row_at rows n ≡ meaning_row p i n
 
 pub record HasComputed (p : Plan) (i : ℕ) (t : TaskPart) (work : WorkWords) (made : TaskRows) : Type 0 where

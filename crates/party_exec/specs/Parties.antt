@@ -1,6 +1,6 @@
 -- What is said of a party, and of the parties of one table.
 use Rattle.std.specs.Prelude.{◌≡◌, ℕ, zero, suc, ◌+◌, List, length, All, slice_get, Some}
-use Rattle.dbp_plan.specs.Lookups.{declared}
+use Rattle.dbp_plan.specs.Lookups.{declared_task}
 use Rattle.dbp_plan.specs.Occurrences.{times_of}
 use Rattle.dbp_rules.specs.Places.{no_task_wiring}
 use Rattle.dbp_rules.specs.Start as start
@@ -47,8 +47,8 @@ pub record IsFreshReleaser (w : SlotWords) (s : ReleaserParty) : Type 0 where
 pub record IsFreshTask (w : SlotWords) (i : ℕ) (s : TaskParty) : Type 0 where
   pub seat : IsFirstTask w i s.seat
   pub turns : s.turns ≡ 0
-  pub work : s.work ≡ (start.start_task no_task_wiring (declared w.plan i)).work
-  pub rows : s.rows ≡ first_and_zeros (declared w.plan i) (length (times_of w.plan.batches i))
+  pub work : s.work ≡ (start.start_task no_task_wiring (declared_task w.plan i)).work
+  pub rows : s.rows ≡ first_and_zeros (declared_task w.plan i) (length (times_of w.plan.batches i))
 
 -- the party at the place k before its first step: the releaser's, or that of task k - 1
 abbrev pub IsFresh : SlotWords → ℕ → Party → Type 0

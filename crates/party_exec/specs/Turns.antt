@@ -1,8 +1,8 @@
 -- What a turn of a party makes of it, and what it returns.
 use Rattle.std.specs.Prelude.{◌≡◌, ◌≢◌, ℕ, ◌<◌, nat_lt, Bool, true, false, length, slice_index_or, None}
-use Rattle.dbp_plan.specs.Lookups.{declared, no_read}
+use Rattle.dbp_plan.specs.Lookups.{declared_task, no_read}
 use Rattle.dbp_rules.specs.PartyRules.{Loaded, is_opened_by, is_stamp_of, loaded_number, read_order_in, task_after, task_refusal, turn_at}
-use Rattle.dbp_rules.specs.Places.{entry_in, link, wired}
+use Rattle.dbp_rules.specs.Places.{entry_in, link, wired_task}
 use Rattle.dbp_rules.specs.declared.parts.ReleaserPart.{ReleaserPart}
 use Rattle.dbp_rules.specs.declared.parts.TaskPart.{TaskPart}
 use Rattle.dbp_rules.specs.declared.step.Step.{Step}
@@ -33,7 +33,7 @@ task_answer w t e l = Stepped
 
 -- the delay of the link of this read of the task
 abbrev pub delay_of_read : SlotWords → ℕ → ℕ → ℕ
-delay_of_read w i r = (link w.wiring (slice_index_or (declared w.plan i).reads r no_read).link).delay
+delay_of_read w i r = (link w.wiring (slice_index_or (declared_task w.plan i).reads r no_read).link).delay
 
 -- one step, which its part allows; a look over a delayed link doesn't wait
 pub record TaskTurn (w : SlotWords) (old new : TaskParty) (turn : Turn) : Type 0 where
@@ -41,9 +41,9 @@ pub record TaskTurn (w : SlotWords) (old new : TaskParty) (turn : Turn) : Type 0
   pub loaded : Loaded
   pub seat : TaskSteps old.seat new.seat
   pub turns : new.turns ≡ old.turns
-  pub allowed : task_refusal (wired w.wiring old.seat.task) old.seat.part made ≡ None
-  pub part : new.seat.part ≡ task_after (wired w.wiring old.seat.task) old.seat.part made loaded
-  pub answer : turn ≡ task_answer (wired w.wiring old.seat.task) old.seat.part made loaded
+  pub allowed : task_refusal (wired_task w.wiring old.seat.task) old.seat.part made ≡ None
+  pub part : new.seat.part ≡ task_after (wired_task w.wiring old.seat.task) old.seat.part made loaded
+  pub answer : turn ≡ task_answer (wired_task w.wiring old.seat.task) old.seat.part made loaded
   pub delayed : (r : ℕ) → made ≡ step.Look old.seat.task r → 0 < delay_of_read w old.seat.task r → turn ≡ Stepped
 
 -- ---- of the releaser
@@ -73,7 +73,7 @@ pub record ReleaserTurn (w : SlotWords) (old new : ReleaserParty) (turn : Turn) 
 
 -- a task has finished if all its occurrences have ended, the releaser if its book has no next step
 abbrev pub TaskHasFinished : SlotWords → TaskParty → Type 0
-TaskHasFinished w s = s.seat.part.ended ≡ length (wired w.wiring s.seat.task).times
+TaskHasFinished w s = s.seat.part.ended ≡ length (wired_task w.wiring s.seat.task).times
 
 abbrev pub ReleaserHasFinished : SlotWords → ReleaserParty → Type 0
 ReleaserHasFinished w s = IsNextStep w.wiring s.seat.part release.Finished

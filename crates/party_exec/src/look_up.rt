@@ -1,8 +1,8 @@
 // What a task's party looks up of its task.
 
 ghost use Rattle.std.specs.Prelude.{◌≡◌, ◌+◌, ◌<◌, length};
-ghost use Rattle.dbp_plan.specs.Lookups.{declared};
-ghost use Rattle.dbp_rules.specs.Places.{read_at, time, wired};
+ghost use Rattle.dbp_plan.specs.Lookups.{declared_task};
+ghost use Rattle.dbp_rules.specs.Places.{read_at, time, wired_task};
 ghost use Rattle.word_rule.specs.Seats.{TaskSits};
 
 use dbp_plan::Task;
@@ -12,7 +12,7 @@ use word_rule::{SlotWords, TaskSeat};
 // Its declaration.
 pub(crate) fn declared_of<'a>(words: &'a SlotWords, seat: &TaskSeat) -> &'a Task
     requires { TaskSits words.now seat.now }
-    ensures { result.now ≡ declared words.now.plan seat.now.task }
+    ensures { result.now ≡ declared_task words.now.plan seat.now.task }
 {
     &words.plan().diagram.tasks.items()[seat.task() as usize]
 }
@@ -20,7 +20,7 @@ pub(crate) fn declared_of<'a>(words: &'a SlotWords, seat: &TaskSeat) -> &'a Task
 // What the steps look up of it.
 pub(crate) fn wired_of<'a>(words: &'a SlotWords, seat: &TaskSeat) -> &'a TaskWiring
     requires { TaskSits words.now seat.now }
-    ensures { result.now ≡ wired words.now.wiring seat.now.task }
+    ensures { result.now ≡ wired_task words.now.wiring seat.now.task }
 {
     words.wiring().task(seat.task())
 }

@@ -1,7 +1,7 @@
 -- The served ticks of an instance, if whoever is served waits.
 use Rattle.std.proofs.Common.{◌≡◌, ◌≢◌, ℕ, zero, suc, ◌+◌, ◌-◌, ◌≤◌, Option, Some, refl, ap, inl, inr, arith}
 use Rattle.dbp_plan.specs.declared.plan.Plan.{Plan}
-use Rattle.dbp_plan.specs.Lookups.{declared}
+use Rattle.dbp_plan.specs.Lookups.{declared_task}
 use Rattle.rank_order.specs.Instances.{Instance, release_of}
 use Rattle.rank_order.specs.Service.{Waits, served_ticks, left_of}
 use Rattle.rank_order.specs.Ends.{IsEnd}
@@ -34,7 +34,7 @@ ServesWaiting p serve = (t : ℕ) (x : Instance) → serve t ≡ Some x → Wait
 
 module _ (p : Plan) (serve : ℕ → Option Instance) (waiting : ServesWaiting p serve) where
   -- none is served for longer than its cost
-  pub served_within : (x : Instance) (t : ℕ) → served_ticks serve x t ≤ (declared p x.task).cost
+  pub served_within : (x : Instance) (t : ℕ) → served_ticks serve x t ≤ (declared_task p x.task).cost
   served_within x zero = omega (arith, served_none serve x)
   served_within x (suc t) = elim (tick_cases (serve t) x) [
     | inl own ↦ omega (arith, (waiting t x own.0).unfinished, served_next serve x t, own.1)

@@ -2,7 +2,7 @@
 use Rattle.std.proofs.Common.{◌≡◌, ℕ, zero, suc, ◌+◌, ◌<◌, ◌≤◌, ◌⊎◌, Bool, true, false, ltb, leb, List, [], ◌∷◌, ◌++◌, length, Option, Some, None, refl, sym, ap, ◌∙◌, subst, inl, inr, ⊎_elim, arith}
 use Rattle.std.proofs.lemmas.Bool.{cases_Bool, cases_eq, ltb-true, leb-true, lt-ltb, le-leb, and_parts, and_from, false≢true}
 use Rattle.dbp_plan.specs.declared.plan.Plan.{Plan}
-use Rattle.dbp_plan.specs.Lookups.{declared}
+use Rattle.dbp_plan.specs.Lookups.{declared_task}
 use Rattle.dbp_plan.specs.Occurrences.{times_of}
 use Rattle.rank_order.specs.declared.key.Key.{Key}
 use Rattle.rank_order.specs.Instances.{Instance, IsInstance, release_of}
@@ -151,12 +151,12 @@ service_is p = record {
       (first_like (GoesBefore p) (Passes (instances_below p count) (is_waiting p (given_before p t) t)) (Waits p (left_of p (service p)) t) (choice_of p (given_before p t) t)
       (λ y w.
       let r = (among_below p count y).0 w.0 in
-      let two = and_parts (leb (release_of p y) t) (ltb (given_before p t y) (declared p y.task).cost) w.1 in
-      let less = ltb-true (given_before p t y) (declared p y.task).cost two.1 in
+      let two = and_parts (leb (release_of p y) t) (ltb (given_before p t y) (declared_task p y.task).cost) w.1 in
+      let less = ltb-true (given_before p t y) (declared_task p y.task).cost two.1 in
       record { instance = record { task = r.0; from_one = r.1; within = r.2 }; released = leb-true (release_of p y) t two.0; unfinished = omega (arith, less, served_given p t y) })
       (λ y w. (
         (among_below p count y).1 (w.instance.task, w.instance.from_one, w.instance.within),
-        and_from (leb (release_of p y) t) (ltb (given_before p t y) (declared p y.task).cost) (le-leb (release_of p y) t w.released) (lt-ltb (given_before p t y) (declared p y.task).cost (omega (arith, w.unfinished, served_given p t y))),
+        and_from (leb (release_of p y) t) (ltb (given_before p t y) (declared_task p y.task).cost) (le-leb (release_of p y) t w.released) (lt-ltb (given_before p t y) (declared_task p y.task).cost (omega (arith, w.unfinished, served_given p t y))),
       ))
       found);
 }

@@ -1,7 +1,7 @@
 -- Which instance is served in each tick.
 use Rattle.std.specs.Prelude.{◌≡◌, ℕ, zero, suc, ◌+◌, ◌-◌, ◌<◌, ◌≤◌, ◌⊎◌, ◌==◌, ◌&&◌, if◌then◌else◌, Bool, false, IsTrue, Option, Some, None}
 use Rattle.dbp_plan.specs.declared.plan.Plan.{Plan}
-use Rattle.dbp_plan.specs.Lookups.{declared}
+use Rattle.dbp_plan.specs.Lookups.{declared_task}
 use Rattle.rank_order.specs.Instances.{Instance, IsInstance, release_of}
 use Rattle.rank_order.specs.Order.{goes_before}
 
@@ -32,7 +32,7 @@ served_ticks serve x (suc t) = served_ticks serve x t + (if is_served x (serve t
 
 -- what is left of the instance at t: its task's cost except the ticks before t in which it is served
 abbrev pub left_of : Plan → (ℕ → Option Instance) → Instance → ℕ → ℕ
-left_of p serve x t = (declared p x.task).cost - served_ticks serve x t
+left_of p serve x t = (declared_task p x.task).cost - served_ticks serve x t
 
 -- one processor: each tick serves the first of those that wait, and none if none waits
 pub record IsService (p : Plan) (serve : ℕ → Option Instance) : Type 0 where

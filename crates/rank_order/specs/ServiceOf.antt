@@ -1,7 +1,7 @@
 -- The service of a plan, tick by tick. `IsService` says what it is; this function shows that there is one.
 use Rattle.std.specs.Prelude.{ℕ, zero, suc, ◌+◌, ◌&&◌, nat_lt, nat_le, if◌then◌else◌, Bool, List, [], ◌∷◌, ◌++◌, length, Option, Some, None}
 use Rattle.dbp_plan.specs.declared.plan.Plan.{Plan}
-use Rattle.dbp_plan.specs.Lookups.{declared}
+use Rattle.dbp_plan.specs.Lookups.{declared_task}
 use Rattle.dbp_plan.specs.Occurrences.{times_of}
 use Rattle.rank_order.specs.Instances.{Instance, release_of}
 use Rattle.rank_order.specs.Order.{goes_before}
@@ -29,7 +29,7 @@ instances_below p (suc i) = instances_of i (length (times_of p.batches i)) ++ in
 
 -- whether the instance waits at t, if this many ticks were given to each
 abbrev pub is_waiting : Plan → (Instance → ℕ) → ℕ → Instance → Bool
-is_waiting p given t x = nat_le (release_of p x) t && nat_lt (given x) (declared p x.task).cost
+is_waiting p given t x = nat_le (release_of p x) t && nat_lt (given x) (declared_task p x.task).cost
 
 -- the first of those that wait
 abbrev pub choice_of : Plan → (Instance → ℕ) → ℕ → Option Instance

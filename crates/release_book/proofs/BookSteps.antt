@@ -4,7 +4,7 @@ use Rattle.dbp_plan.specs.declared.plan.Plan.{Plan}
 use Rattle.dbp_plan.specs.declared.diagram.Link.{Link}
 use Rattle.dbp_rules.specs.PartyRules.{a_number, releaser_after, releaser_refusal}
 use Rattle.dbp_rules.specs.PartyShapes.{ReleaserLoads, ReleaserShape}
-use Rattle.dbp_rules.specs.Places.{entry_in, link, wired}
+use Rattle.dbp_rules.specs.Places.{entry_in, link, wired_task}
 use Rattle.dbp_rules.specs.Rules.{IsNamed, IsNamedWithin}
 use Rattle.dbp_rules.specs.Shapes.{IsTaskWired, IsWired}
 use Rattle.dbp_rules.specs.Start.{start_releaser}
@@ -87,7 +87,7 @@ module _ (p : Plan) (b : Book) (own : IsBookOf b p) where
 
   pub aimed_fits : (i : ℕ) → i < length w.tasks → (entry_in r i).aimed + 1 < 2 ^ 32
   aimed_fits i inside =
-      let t : IsTaskWired p w i (wired w i) = whole_wiring.each_task i inside in
+      let t : IsTaskWired p w i (wired_task w i) = whole_wiring.each_task i inside in
       omega (arith, ok.aimed i inside, whole_wiring.releases.aims_times r.place i, ap length t.times, t.few)
 
   -- ---- the part stays one

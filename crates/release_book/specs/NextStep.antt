@@ -6,7 +6,7 @@ use Rattle.release_list.specs.declared.release.Release.{Release}
 use Rattle.release_list.specs.declared.release.Release.TheVariants as release
 use Rattle.dbp_rules.specs.PartyRules.{a_number, least, releaser_after}
 use Rattle.dbp_rules.specs.PartyShapes.{ReleaserLoads}
-use Rattle.dbp_rules.specs.Places.{entry_in, wired}
+use Rattle.dbp_rules.specs.Places.{entry_in, wired_task}
 use Rattle.dbp_rules.specs.Promises.{IsLeastAimIn}
 use Rattle.dbp_rules.specs.declared.parts.ReleaserPart.{ReleaserPart}
 use Rattle.dbp_rules.specs.declared.step.Step.{Step}
@@ -17,7 +17,7 @@ use Rattle.dbp_rules.specs.declared.wiring.Wiring.{Wiring}
 
 -- the first task of which fewer instances are known to have ended than it has occurrences, if there is one
 abbrev pub first_unended : Wiring → ReleaserPart → Option ℕ
-first_unended w r = least (λ i. nat_lt (entry_in r i).known (length (wired w i).times)) (length w.tasks)
+first_unended w r = least (λ i. nat_lt (entry_in r i).known (length (wired_task w i).times)) (length w.tasks)
 
 -- after the last action such a task is seen; if there is none the releaser has finished
 abbrev pub end_step : Option ℕ → ReleaseStep

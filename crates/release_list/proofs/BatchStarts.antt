@@ -11,7 +11,7 @@ use Rattle.dbp_plan.specs.declared.diagram.Link.{Link}
 use Rattle.dbp_plan.specs.declared.schedule.Batch.{Batch}
 use Rattle.dbp_plan.specs.Lookups.{link_at}
 use Rattle.dbp_plan.specs.Occurrences.{times_of}
-use Rattle.dbp_plan.specs.Places.{behind_place, front_place}
+use Rattle.dbp_plan.specs.Places.{after_place, front_place}
 use Rattle.release_list.specs.declared.release.Release.{Release}
 use Rattle.release_list.specs.declared.release.Release.TheVariants.{Aim, OpenGate}
 use Rattle.release_list.specs.Releases.{batch_start, claims_of, releases_at, releases_of}
@@ -76,7 +76,7 @@ module _ (links : List Link) (bs : List Batch) (number : ℕ) (b : Batch) (there
   pub item_of_batch : (inside : ℕ) (action : Release) → slice_get batch inside ≡ Some action → slice_get (releases_of links bs) (batch_start links bs number + inside) ≡ Some action
   item_of_batch inside action item =
       ap (λ l. slice_get l (batch_start links bs number + inside)) (cut_at links bs number b there)
-      ∙ behind_place front (batch ++ rest) inside
+      ∙ after_place front (batch ++ rest) inside
       ∙ front_place batch rest inside (slice_get_within batch inside action item)
       ∙ item
 
@@ -136,13 +136,13 @@ module _ (links : List Link) (b : Batch) where
   pub claim_of_batch : (n : ℕ) (action : Release) → slice_get (claims_of links b.tasks) n ≡ Some action → slice_get (releases_at links b) (length b.tasks + n) ≡ Some action
   claim_of_batch n action item =
       ap (λ m. slice_get (releases_at links b) (m + n)) (sym (length-map b.tasks Aim))
-      ∙ behind_place (map Aim b.tasks) (claims_of links b.tasks ++ map OpenGate b.tasks) n
+      ∙ after_place (map Aim b.tasks) (claims_of links b.tasks ++ map OpenGate b.tasks) n
       ∙ front_place (claims_of links b.tasks) (map OpenGate b.tasks) n (slice_get_within (claims_of links b.tasks) n action item)
       ∙ item
 
   pub open_of_batch : (n i : ℕ) → slice_get b.tasks n ≡ Some i → slice_get (releases_at links b) (length b.tasks + (length (claims_of links b.tasks) + n)) ≡ Some (OpenGate i)
   open_of_batch n i item =
       ap (λ m. slice_get (releases_at links b) (m + (length (claims_of links b.tasks) + n))) (sym (length-map b.tasks Aim))
-      ∙ behind_place (map Aim b.tasks) (claims_of links b.tasks ++ map OpenGate b.tasks) (length (claims_of links b.tasks) + n)
-      ∙ behind_place (claims_of links b.tasks) (map OpenGate b.tasks) n
+      ∙ after_place (map Aim b.tasks) (claims_of links b.tasks ++ map OpenGate b.tasks) (length (claims_of links b.tasks) + n)
+      ∙ after_place (claims_of links b.tasks) (map OpenGate b.tasks) n
       ∙ slice_get-map OpenGate b.tasks n ∙ rw item refl

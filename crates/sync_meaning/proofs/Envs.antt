@@ -34,8 +34,8 @@ written_more n base place x word items fits before after at fit is inside done =
         done.written k y w (omega arith) at_y (sym (set_other after place (base + k) word other) ∙ at_w)
   ];
   kept = λ j outside.
-      let other : j ≢ place = λ e. elim outside [ inl before ↦ omega arith | inr behind ↦ omega arith ] in
-      let old : (j < base) ⊎ (base + n ≤ j) = elim outside [ inl before ↦ inl before | inr behind ↦ inr (omega arith) ] in
+      let other : j ≢ place = λ e. elim outside [ inl before ↦ omega arith | inr later ↦ omega arith ] in
+      let old : (j < base) ⊎ (base + n ≤ j) = elim outside [ inl before ↦ inl before | inr later ↦ inr (omega arith) ] in
       set_other after place j word other ∙ done.kept j old;
 }
 
@@ -43,5 +43,5 @@ pub written_all : {X : Type 0} (n base : ℕ) (items : List X) (fits : X → ℤ
 written_all n base items fits before after most least done = record {
   size = done.size;
   written = λ k x word at. done.written k x word (omega (arith, slice_get_within items k x at)) at;
-  kept = λ j outside. done.kept j (elim outside [ inl before ↦ inl before | inr behind ↦ inr (omega arith) ]);
+  kept = λ j outside. done.kept j (elim outside [ inl before ↦ inl before | inr later ↦ inr (omega arith) ]);
 }

@@ -114,7 +114,7 @@ pub taken_all : (inputs : List Input) (samples : List Sample) (time k : ℕ) (va
 taken_all inputs samples time k values a later x word at =
     let parts : filter (is_given x time) (take k samples ++ drop k samples) ≡ filter (is_given x time) (take k samples) ++ filter (is_given x time) (drop k samples) = filter-append (is_given x time) (take k samples) (drop k samples) in
     let front : filter (is_given x time) (take k samples) ≡ filter (λ (s : Sample). s.input == x) (take k samples) = filter_come x time (take k samples) a.come in
-    let behind : filter (is_given x time) (drop k samples) ≡ [] = filter_later x time (drop k samples) later in
+    let after : filter (is_given x time) (drop k samples) ≡ [] = filter_later x time (drop k samples) later in
     let all : filter (is_given x time) samples ≡ filter (λ (s : Sample). s.input == x) (take k samples) =
-    ap (filter (is_given x time)) (sym (take-append-drop k samples)) ∙ parts ∙ rw behind (append-nil (filter (is_given x time) (take k samples))) ∙ front in
+    ap (filter (is_given x time)) (sym (take-append-drop k samples)) ∙ parts ∙ rw after (append-nil (filter (is_given x time) (take k samples))) ∙ front in
     a.last x word at ∙ ap (λ (l : List Sample). last_value (first_value inputs x) (map (λ s. s.value) l)) (sym all)

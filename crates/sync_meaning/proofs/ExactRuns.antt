@@ -156,8 +156,8 @@ streams_same d samples batches run later done envs table has = record {
 }
 
 -- the states after an instance stand at the front
-pub states_behind : (t : Task) (later env after : List ℤ) → length later ≡ length t.states → after ≡ later ++ drop (length later) env → take (length t.states) after ≡ later
-states_behind t later env after size is =
+pub states_later : (t : Task) (later env after : List ℤ) → length later ≡ length t.states → after ≡ later ++ drop (length later) env → take (length t.states) after ≡ later
+states_later t later env after size is =
     ap (take (length t.states)) is ∙ ap (λ (n : ℕ). take n (later ++ drop (length later) env)) (sym size) ∙ take-append_seam later (drop (length later) env)
 
 -- one instance more

@@ -17,7 +17,7 @@ use Rattle.dbp_plan.specs.Table.{HasRowsOf, IsRow, row_at}
 use Rattle.sync_meaning.specs.Meaning.{AreStatesAfter, IsEnv, IsRead, IsStream, outs_in}
 use Rattle.sync_meaning.specs.Streams.{HasRowsOfTable, IsStreamTo}
 use Rattle.dbp_plan.specs.Places.{set_here, set_other}
-use Rattle.dbp_plan.specs.Ranges.{range_behind, range_front}
+use Rattle.dbp_plan.specs.Ranges.{range_after, range_front}
 
 -- a row by the words and the number of ports
 row_by : (rows : TaskRows) (n ports : ℕ) (words : List ℤ) → rows.ports ≡ ports → rows.words ≡ words → row_at rows n ≡ slice_range words (n * ports) ((n + 1) * ports)
@@ -68,7 +68,7 @@ row_pushed i m outs old new row table later at has size ports words all =
       rows = new;
       has_rows = ap (λ ts. slice_get ts i) all ∙ set_here table.tasks i new (slice_get_within table.tasks i old at);
       there = omega (arith, same, last, ap length words, length-append old.words row);
-      is = sym (row_by new (m + 1) outs (old.words ++ row) (ports ∙ has.ports) words ∙ range_behind old.words row ((m + 1) * outs) ((m + 1 + 1) * outs) first last);
+      is = sym (row_by new (m + 1) outs (old.words ++ row) (ports ∙ has.ports) words ∙ range_after old.words row ((m + 1) * outs) ((m + 1 + 1) * outs) first last);
     }
 
 -- what is read stays
@@ -132,8 +132,8 @@ env_as d samples batches table t time later states others env other when same on
     (subst (λ (l : List ℤ). IsEnv d samples batches table t time l other) same (subst (λ (l : List ℤ). IsEnv d samples batches table t time states l) one is))
 
 after_as : (t : Task) (env other before others after afters : List ℤ) → env ≡ other → before ≡ others → after ≡ afters → AreStatesAfter t env before after → AreStatesAfter t other others afters
-after_as t env other before others after afters one same behind is =
-    subst (λ (l : List ℤ). AreStatesAfter t other others l) behind (subst (λ (l : List ℤ). AreStatesAfter t other l after) same (subst (λ (l : List ℤ). AreStatesAfter t l before after) one is))
+after_as t env other before others after afters one same reached is =
+    subst (λ (l : List ℤ). AreStatesAfter t other others l) reached (subst (λ (l : List ℤ). AreStatesAfter t other l after) same (subst (λ (l : List ℤ). AreStatesAfter t l before after) one is))
 
 module _ (d : Diagram) (samples : List Sample) (batches : List Batch) (table : Table) (i : ℕ) (t : Task) where
   -- before the first instance
@@ -176,8 +176,8 @@ module _ (d : Diagram) (samples : List Sample) (batches : List Batch) (table : T
         ];
         next = λ n below. elim (cases_eq n count) [
           | inl same ↦
-              let behind : after ≡ states (n + 1) = sym (put_here s.states (count + 1) (n + 1) after (ap (λ k. k + 1) same)) in
-              after_as t env (envs n) before (states n) after (states (n + 1)) (here_env n same) (here n same) behind next
+              let reached : after ≡ states (n + 1) = sym (put_here s.states (count + 1) (n + 1) after (ap (λ k. k + 1) same)) in
+              after_as t env (envs n) before (states n) after (states (n + 1)) (here_env n same) (here n same) reached next
           | inr apart ↦ after_as t (s.envs n) (envs n) (s.states n) (states n) (s.states (n + 1)) (states (n + 1)) (old_env n (omega arith)) (old n (omega arith)) (old (n + 1) (omega arith)) (s.next n (omega arith))
         ];
         after_states = put_here s.states (count + 1) (count + 1) after refl;

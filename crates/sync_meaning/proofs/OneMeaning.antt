@@ -39,7 +39,7 @@ module _ (d : Diagram) (samples : List Sample) (batches : List Batch) (table : T
       | inl early ↦
           let word : (w : ℤ) × (slice_get states j ≡ Some w) = at_place states j early in
           is.state j word.0 word.1 ∙ sym word.1 ∙ sym (state_given d samples batches (table_row table) task time j states early)
-      | inr behind ↦ elim (cases_lt j (length task.states + length task.senses)) [
+      | inr later ↦ elim (cases_lt j (length task.states + length task.senses)) [
         | inl sensed ↦
             let k : ℕ = j - length task.states in
             let place : length task.states + k ≡ j = omega arith in

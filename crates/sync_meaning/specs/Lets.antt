@@ -17,7 +17,7 @@ use Rattle.dbp_plan.specs.Tree.{Tree, number, variable, unary, binary, choice, s
 use Rattle.expr_eval.specs.Values.{value_of, tree_value, value_of_unary, value_of_binary, value_of_choice}
 use Rattle.sync_meaning.specs.Meaning.{HasLets}
 use Rattle.dbp_plan.specs.Ranking.{IsRanking}
-use Rattle.dbp_plan.specs.Places.{all_place, behind_place, front_place, pair_at, set_here, set_other}
+use Rattle.dbp_plan.specs.Places.{all_place, after_place, front_place, pair_at, set_here, set_other}
 use Rattle.dbp_plan.specs.Rankings.{task_of}
 
 -- both environments have the same words at the variables of the nodes
@@ -29,9 +29,9 @@ agree_front xs ys one other agree = record {
   same = λ k v at. agree.same k v (front_place xs ys k (slice_get_within xs k (Var v) at) ∙ at);
 }
 
-agree_behind : (xs ys : List (Node ℕ)) (one other : List ℤ) → AgreeOn (xs ++ ys) one other → AgreeOn ys one other
-agree_behind xs ys one other agree = record {
-  same = λ k v at. agree.same (length xs + k) v (behind_place xs ys k ∙ at);
+agree_after : (xs ys : List (Node ℕ)) (one other : List ℤ) → AgreeOn (xs ++ ys) one other → AgreeOn ys one other
+agree_after xs ys one other agree = record {
+  same = λ k v at. agree.same (length xs + k) v (after_place xs ys k ∙ at);
 }
 
 same_tree : (at : ℕ) (t : Tree ℕ) (one other : List ℤ) → AgreeOn (nodes_of at t) one other → tree_value one t ≡ tree_value other t
@@ -42,7 +42,7 @@ same_tree at (unary op t) one other agree =
 same_tree at (binary op l r) one other agree =
     let both : AgreeOn (nodes_of at l ++ nodes_of (at + size_of l) r) one other = agree_front (nodes_of at l ++ nodes_of (at + size_of l) r) (root_of at (binary op l r) ∷ []) one other agree in
     let left : tree_value one l ≡ tree_value other l = same_tree at l one other (agree_front (nodes_of at l) (nodes_of (at + size_of l) r) one other both) in
-    let right : tree_value one r ≡ tree_value other r = same_tree (at + size_of l) r one other (agree_behind (nodes_of at l) (nodes_of (at + size_of l) r) one other both) in
+    let right : tree_value one r ≡ tree_value other r = same_tree (at + size_of l) r one other (agree_after (nodes_of at l) (nodes_of (at + size_of l) r) one other both) in
     ap (λ z. value_of_binary op z (tree_value one r)) left ∙ ap (λ z. value_of_binary op (tree_value other l) z) right
 same_tree at (choice c y n) one other agree =
     let cs : List (Node ℕ) = nodes_of at c in
@@ -51,8 +51,8 @@ same_tree at (choice c y n) one other agree =
     let all : AgreeOn ((cs ++ ys) ++ ns) one other = agree_front ((cs ++ ys) ++ ns) (root_of at (choice c y n) ∷ []) one other agree in
     let both : AgreeOn (cs ++ ys) one other = agree_front (cs ++ ys) ns one other all in
     let condition : tree_value one c ≡ tree_value other c = same_tree at c one other (agree_front cs ys one other both) in
-    let yes : tree_value one y ≡ tree_value other y = same_tree (at + size_of c) y one other (agree_behind cs ys one other both) in
-    let no : tree_value one n ≡ tree_value other n = same_tree (at + size_of c + size_of y) n one other (agree_behind (cs ++ ys) ns one other all) in
+    let yes : tree_value one y ≡ tree_value other y = same_tree (at + size_of c) y one other (agree_after cs ys one other both) in
+    let no : tree_value one n ≡ tree_value other n = same_tree (at + size_of c + size_of y) n one other (agree_after (cs ++ ys) ns one other all) in
     ap (λ z. value_of_choice z (tree_value one y) (tree_value one n)) condition ∙ ap (λ z. value_of_choice (tree_value other c) z (tree_value one n)) yes ∙ ap (λ z. value_of_choice (tree_value other c) (tree_value other y) z) no
 
 -- an expression has one value in both
@@ -76,7 +76,7 @@ lets_none task before = record {
 apart_from : (task : Task) (p q i k v at : ℕ) (l : Let) → IsLetOrder (let_base task) task.lets task.order → slice_get task.order p ≡ Some k → slice_get task.lets k ≡ Some l → slice_get l.expr.nodes at ≡ Some (Var v)
     → p ≤ q → slice_get task.order q ≡ Some i → v ≢ let_base task + i
 apart_from task p q i k v at l order at_k at_l at_v le at_i same =
-    let used : Any (λ j. (let_base task + j == v) ≡ true) (take p task.order) = Any-from_list_any (λ j. let_base task + j == v) (take p task.order) (order.behind p k at v l at_k at_l at_v (omega arith)) in
+    let used : Any (λ j. (let_base task + j == v) ≡ true) (take p task.order) = Any-from_list_any (λ j. let_base task + j == v) (take p task.order) (order.after p k at v l at_k at_l at_v (omega arith)) in
     let place : let_base task + used.1 ≡ v = eqb-true (let_base task + used.1) v used.4 in
     let lower : used.0 < p = omega (arith, used.2, length-take p task.order) in
     let inside : used.0 < length task.order = omega (arith, used.2, length-take p task.order) in

@@ -78,7 +78,7 @@ agree_next n k l task given one other order at_k at_l a b agree = record {
   same = λ place v at_v. same_item one other v (pos 0) (elim (cases_lt v (let_base task)) [
     | inl below ↦ a.given_words v below ∙ sym (b.given_words v below)
     | inr above ↦
-        let used : Any (λ j. (let_base task + j == v) ≡ true) (take n task.order) = Any-from_list_any (λ j. let_base task + j == v) (take n task.order) (order.behind n k place v l at_k at_l at_v above) in
+        let used : Any (λ j. (let_base task + j == v) ≡ true) (take n task.order) = Any-from_list_any (λ j. let_base task + j == v) (take n task.order) (order.after n k place v l at_k at_l at_v above) in
         let same : let_base task + used.1 ≡ v = eqb-true (let_base task + used.1) v used.4 in
         let lower : used.0 < n = omega (arith, used.2, length-take n task.order) in
         let inside : used.0 < length task.order = omega (arith, used.2, length-take n task.order) in

@@ -17,7 +17,7 @@ use Rattle.dbp_plan.specs.Plan.{IsPlan}
 use Rattle.dbp_plan.specs.Samples.{input_value}
 use Rattle.dbp_plan.specs.Table.{IsRow}
 use Rattle.sync_meaning.specs.Meaning.{AreStatesAfter, IsEnv, IsMeaning, IsRead, IsStream, outs_in}
-use Rattle.dbp_plan.specs.Places.{behind_place, front_place}
+use Rattle.dbp_plan.specs.Places.{after_place, front_place}
 use Rattle.sync_meaning.specs.SomeMeaningEnvs.{IsEnvFrom, env_from-is, states_after, states_after-are}
 use Rattle.sync_meaning.specs.SomeMeaningRows.{IsLinkOf, Solves, env_at, given_at, link_of, row_of, solution, solution-solves, states_at, states_at-more, states_at-none, task_rules, word_at}
 use Rattle.sync_meaning.specs.SomeMeaningTables.{AreWide, table_of, table_of-all, table_of-row}
@@ -47,7 +47,7 @@ module _ (d : Diagram) (samples : List Sample) (batches : List Batch) where
       let inside : k < length task.senses = slice_get_within task.senses k s at in
       ap (λ (n : ℕ). slice_get ((states ++ senses) ++ reads) (n + k)) (sym size)
       ∙ front_place (states ++ senses) reads (length states + k) (omega (arith, length-append states senses, length-senses task time, inside))
-      ∙ behind_place states senses k ∙ slice_get-map (λ s. input_value d.inputs samples s.input time) task.senses k ∙ ap (option_map (λ s. input_value d.inputs samples s.input time)) at
+      ∙ after_place states senses k ∙ slice_get-map (λ s. input_value d.inputs samples s.input time) task.senses k ∙ ap (option_map (λ s. input_value d.inputs samples s.input time)) at
 
   pub read_given : (rows : ℕ → ℕ → List ℤ) (task : Task) (time k : ℕ) (r : Read) (states : List ℤ) → length states ≡ length task.states → slice_get task.reads k ≡ Some r
       → slice_get (given_at d samples batches rows task time states) (length task.states + length task.senses + k) ≡ Some (word_at d samples batches rows time r)
@@ -56,7 +56,7 @@ module _ (d : Diagram) (samples : List Sample) (batches : List Batch) where
       let reads : List ℤ = map (word_at d samples batches rows time) task.reads in
       let base : length task.states + length task.senses ≡ length (states ++ senses) = omega (arith, length-append states senses, length-senses task time, size) in
       ap (λ (n : ℕ). slice_get ((states ++ senses) ++ reads) (n + k)) base
-      ∙ behind_place (states ++ senses) reads k ∙ slice_get-map (word_at d samples batches rows time) task.reads k ∙ ap (option_map (word_at d samples batches rows time)) at
+      ∙ after_place (states ++ senses) reads k ∙ slice_get-map (word_at d samples batches rows time) task.reads k ∙ ap (option_map (word_at d samples batches rows time)) at
 
   -- the words are those that the table's rows give
   pub record Reads (rows : ℕ → ℕ → List ℤ) (table : Table) (task : Task) (time : ℕ) : Type 0 where

@@ -14,7 +14,7 @@ use Rattle.dbp_plan.specs.declared.table.TaskRows.{TaskRows}
 use Rattle.dbp_plan.specs.Occurrences.{times_of}
 use Rattle.dbp_plan.specs.Table.{HasAllRows, HasRowsOf, IsRow, row_at, table_row}
 use Rattle.dbp_plan.specs.Places.{at_place, same_list}
-use Rattle.dbp_plan.specs.Ranges.{range_behind, range_front}
+use Rattle.dbp_plan.specs.Ranges.{range_after, range_front}
 
 -- the words of the rows up to this number
 words_to : (ℕ → List ℤ) → ℕ → List ℤ
@@ -32,7 +32,7 @@ length-words_to outs (suc n) row each =
 
 range_of : (outs n k : ℕ) (row : ℕ → List ℤ) → ((j : ℕ) → j ≤ n → length (row j) ≡ outs) → k ≤ n → slice_range (words_to row n) (k * outs) ((k + 1) * outs) ≡ row k
 unfolding words_to
-range_of outs zero zero row each few = range_behind [] (row 0) (0 * outs) ((0 + 1) * outs) (omega arith) (omega (arith, each 0 few))
+range_of outs zero zero row each few = range_after [] (row 0) (0 * outs) ((0 + 1) * outs) (omega arith) (omega (arith, each 0 few))
 range_of outs zero (suc k) row each few = absurd (omega arith)
 range_of outs (suc n) k row each few =
     let size : length (words_to row n) ≡ (n + 1) * outs = length-words_to outs n row (λ j less. each j (omega arith)) in
@@ -45,7 +45,7 @@ range_of outs (suc n) k row each few =
           let one : k ≡ n + 1 = omega arith in
           let first : k * outs ≡ length (words_to row n) = ap (λ (j : ℕ). j * outs) one ∙ sym size in
           let end : length (row (suc n)) ≡ outs = each (suc n) (omega arith) in
-          range_behind (words_to row n) (row (suc n)) (k * outs) ((k + 1) * outs) first (omega arith) ∙ ap row (sym here)
+          range_after (words_to row n) (row (suc n)) (k * outs) ((k + 1) * outs) first (omega arith) ∙ ap row (sym here)
     ]
 
 -- the first rows of two lists of words

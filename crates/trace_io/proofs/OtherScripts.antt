@@ -17,7 +17,7 @@ use Rattle.dia_check.specs.Checks.{IsCheckedOf}
 use Rattle.dia_check.proofs.ScriptLaws.{none-again}
 use Rattle.trace_rows.specs.Headers.{kind_of_column}
 use Rattle.trace_rows.specs.Records.{records_of}
-use Rattle.trace_rows.specs.Rows.{fault_behind, row_faults}
+use Rattle.trace_rows.specs.Rows.{fault_after, row_faults}
 use Rattle.trace_io.specs.Texts.{Accepts}
 use Rattle.trace_io.specs.Traces.{columns_of, rows_of, header_line, header_fault, header_faults, occurrence_fault, section_faults, trace_faults, IsPlanOf}
 use Rattle.trace_io.proofs.TraceLines.{record-count}
@@ -44,7 +44,7 @@ module _ (script : Option (List ℕ)) (body : Body) (lines others : DocLines) (d
       let both = append-none header rows none in
       let others_rows = row_faults d.until kinds (rows_of doc) (drop 1 others.trace) in
       first-append (header_faults other d body.trace) others_rows (header-again body.trace both.0)
-      ∙ none-again (fault_behind d.until kinds) (fault_behind d.until kinds) (λ before x. refl) [] (rows_of doc) (drop 1 lines.trace) (drop 1 others.trace) few both.1
+      ∙ none-again (fault_after d.until kinds) (fault_after d.until kinds) (λ before x. refl) [] (rows_of doc) (drop 1 lines.trace) (drop 1 others.trace) few both.1
 
   faults-again : length (rows_of doc) ≤ length (drop 1 lines.trace) → first_fault (trace_faults doc d) ≡ None → first_fault (trace_faults other d) ≡ None
   faults-again few none =

@@ -10,7 +10,7 @@ use Rattle.std.proofs.lemmas.Bool.Decides.{nat_tests}
 use Rattle.std.proofs.lemmas.List.{drop_all, drop_more}
 use Rattle.dia_tokens.specs.Kinds.{is_digit}
 use Rattle.dia_tokens.specs.Lexes.{Passes}
-use Rattle.dia_tokens.specs.Values.{digits_behind, digits_value, is_negative, number_of}
+use Rattle.dia_tokens.specs.Values.{digits_after, digits_value, is_negative, number_of}
 use Rattle.dia_tokens.proofs.ByteLaws.{digit-bounds}
 use Rattle.trace_rows.specs.declared.cell.Kind.TheVariants.{Value}
 use Rattle.trace_rows.specs.Cells.{is_empty, are_digits, cell_fits, is_number, is_time, value_in}
@@ -20,7 +20,7 @@ use Rattle.trace_rows.specs.Columns.{negative_in, positive_in}
 
 -- the digits from a place on decide, after the number so far
 abbrev pub DigitsFrom : List ℕ → ℕ → ℕ → Type 0
-DigitsFrom digits k number = (list_all is_digit digits ≡ list_all is_digit (drop k digits)) × (digits_value digits ≡ digits_behind number (drop k digits))
+DigitsFrom digits k number = (list_all is_digit digits ≡ list_all is_digit (drop k digits)) × (digits_value digits ≡ digits_after number (drop k digits))
 
 -- whether they are digits alone that make a number up to 2 ^ 63
 abbrev pub is_narrow : List ℕ → Bool
@@ -29,7 +29,7 @@ is_narrow digits = are_digits digits && nat_le (digits_value digits) (2 ^ 63)
 pub digits-later : (digits : List ℕ) (k number : ℕ) → k < length digits → is_digit (get_or digits k 0) ≡ true → DigitsFrom digits k number
     → DigitsFrom digits (k + 1) (number * 10 + (get_or digits k 0 - 48))
 digits-later digits k number below digit from =
-    (from.0 ∙ rw (drop_more digits k 0 below, digit) refl, from.1 ∙ ap (digits_behind number) (drop_more digits k 0 below))
+    (from.0 ∙ rw (drop_more digits k 0 below, digit) refl, from.1 ∙ ap (digits_after number) (drop_more digits k 0 below))
 
 pub digits-other : (digits : List ℕ) (k number : ℕ) → k < length digits → is_digit (get_or digits k 0) ≡ false → DigitsFrom digits k number → is_narrow digits ≡ false
 digits-other digits k number below other from =
@@ -37,13 +37,13 @@ digits-other digits k number below other from =
     let no : are_digits digits ≡ false = ap (λ b. not (is_empty digits) && b) none ∙ and-false (not (is_empty digits)) in
     ap (λ b. b && nat_le (digits_value digits) (2 ^ 63)) no
 
-grows : (digits : List ℕ) (number : ℕ) → number ≤ digits_behind number digits
+grows : (digits : List ℕ) (number : ℕ) → number ≤ digits_after number digits
 grows [] number = omega arith
 grows (d ∷ digits) number = let more = grows digits (number * 10 + (d - 48)) in omega (arith, more)
 
 pub digits-many : (digits : List ℕ) (k number : ℕ) → k < length digits → 922337203685477580 < number → DigitsFrom digits k number → is_narrow digits ≡ false
 digits-many digits k number below many from =
-    let is : digits_value digits ≡ digits_behind (number * 10 + (get_or digits k 0 - 48)) (drop (k + 1) digits) = from.1 ∙ ap (digits_behind number) (drop_more digits k 0 below) in
+    let is : digits_value digits ≡ digits_after (number * 10 + (get_or digits k 0 - 48)) (drop (k + 1) digits) = from.1 ∙ ap (digits_after number) (drop_more digits k 0 below) in
     let more = grows (drop (k + 1) digits) (number * 10 + (get_or digits k 0 - 48)) in
     let past : 2 ^ 63 < digits_value digits = omega (arith, is, more, many) in
     let test : nat_le (digits_value digits) (2 ^ 63) ≡ false = grind (arith, nat_tests) in
@@ -53,7 +53,7 @@ pub digits-all : (digits : List ℕ) (k number : ℕ) → length digits ≤ k �
 digits-all digits k number end some from =
     let rest : drop k digits ≡ [] = drop_all k digits end in
     let all : list_all is_digit digits ≡ true = from.0 ∙ ap (list_all is_digit) rest in
-    (rw (some, all) refl, sym (from.1 ∙ ap (digits_behind number) rest))
+    (rw (some, all) refl, sym (from.1 ∙ ap (digits_after number) rest))
 
 -- ---- times
 

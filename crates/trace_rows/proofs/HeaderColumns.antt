@@ -48,14 +48,14 @@ has-cell fields k text h = rw (some-place fields k h) refl
 abbrev pub columns_before : List (List ℕ) → ℕ → List (List ℕ)
 columns_before fields k = drop 1 (take k fields)
 
-behind-first : (xs ys : List (List ℕ)) → 1 ≤ length xs → drop 1 (xs ++ ys) ≡ drop 1 xs ++ ys
-behind-first [] ys h = absurd (omega arith)
-behind-first (x ∷ xs) ys h = refl
+after-first : (xs ys : List (List ℕ)) → 1 ≤ length xs → drop 1 (xs ++ ys) ≡ drop 1 xs ++ ys
+after-first [] ys h = absurd (omega arith)
+after-first (x ∷ xs) ys h = refl
 
 next-column : (fields : List (List ℕ)) (k : ℕ) (default : List ℕ) → 1 ≤ k → k < length fields → columns_before fields (k + 1) ≡ columns_before fields k ++ get_or fields k default ∷ []
 next-column fields k default some below =
     let size : 1 ≤ length (take k fields) = let e = length-take-le k fields (omega arith) in omega arith in
-    ap (drop 1) (take_more fields k default below) ∙ behind-first (take k fields) (get_or fields k default ∷ []) size
+    ap (drop 1) (take_more fields k default below) ∙ after-first (take k fields) (get_or fields k default ∷ []) size
 
 pub one-more : (fields : List (List ℕ)) (k : ℕ) (field : List ℕ) → 1 ≤ k → k < length fields → field ≡ get_or fields k field → columns_before fields (k + 1) ≡ columns_before fields k ++ field ∷ []
 one-more fields k field some below is = next-column fields k field some below ∙ ap (λ f. columns_before fields k ++ f ∷ []) (sym is)

@@ -5,14 +5,14 @@ use Rattle.std.specs.Prelude.{filter, nat_le, nat_lt, not, ◌==◌, ⊤}
 use Rattle.std.specs.List.Sorted.{IsStrictlyIncreasing}
 use Rattle.std.proofs.lemmas.Bool.{cases_Bool, leb-false}
 use Rattle.std.proofs.lemmas.List.{length_push}
-use Rattle.dbp_plan.specs.FirstFault.{faults_behind, first_fault}
+use Rattle.dbp_plan.specs.FirstFault.{faults_after, first_fault}
 use Rattle.dbp_plan.proofs.FirstFaults.{cons-none, test-none}
 use Rattle.trace_rows.specs.Cells.{time_of}
-use Rattle.trace_rows.specs.Rows.{fault_behind, is_not_after, last_time, row_fault, row_fits}
+use Rattle.trace_rows.specs.Rows.{fault_after, is_not_after, last_time, row_fault, row_fits}
 use Rattle.trace_rows.specs.declared.fail.TraceCode.TheVariants.{BadRow, BadCell, TimeNotRising, TimePastEnd, TooManyRows}
 use Rattle.trace_rows.specs.declared.cell.Kind.{Kind}
 use Rattle.trace_rows.specs.declared.rows.TheConstants.{MAX_ROWS}
-use Rattle.trace_rows.proofs.RowTimes.{few-behind}
+use Rattle.trace_rows.proofs.RowTimes.{few-after}
 
 -- the times rise from a bound on, and stay below the end
 abbrev pub Rises : ℕ → ℕ → List (List (List ℕ)) → Type 0
@@ -49,17 +49,17 @@ last-push (first ∷ []) row = refl
 last-push (first ∷ next ∷ rows) row = last-push (next ∷ rows) row
 
 -- the least time after one
-abbrev least_behind : Option ℕ → ℕ
-least_behind None = 0
-least_behind (Some before) = before + 1
+abbrev least_after : Option ℕ → ℕ
+least_after None = 0
+least_after (Some before) = before + 1
 
-not-before : (before : Option ℕ) (time : ℕ) → is_not_after before time ≡ false → least_behind before ≤ time
+not-before : (before : Option ℕ) (time : ℕ) → is_not_after before time ≡ false → least_after before ≤ time
 not-before None time rises = omega arith
 not-before (Some before) time rises = omega (arith, leb-false time before rises)
 
 -- what a row without a fault keeps
 record IsTimed (until : ℕ) (before : Option ℕ) (row : List (List ℕ)) : Type 0 where
-  pub low : least_behind before ≤ time_of row
+  pub low : least_after before ≤ time_of row
   pub ends : time_of row < until
 
 row-timed : (until : ℕ) (kinds : List Kind) (number : ℕ) (before : Option ℕ) (row : List (List ℕ)) → row_fault until kinds number before row ≡ None → IsTimed until before row
@@ -73,14 +73,14 @@ row-timed until kinds number before row none =
 
 module _ (until : ℕ) (kinds : List Kind) where
   NoFaultFrom : List (List (List ℕ)) → List (List (List ℕ)) → List ℕ → Type 0
-  NoFaultFrom before rows lines = first_fault (faults_behind (fault_behind until kinds) before rows lines) ≡ None
+  NoFaultFrom before rows lines = first_fault (faults_after (fault_after until kinds) before rows lines) ≡ None
 
-  rises-from : (before rows : List (List (List ℕ))) (lines : List ℕ) → length rows ≤ length lines → NoFaultFrom before rows lines → Rises until (least_behind (last_time before)) rows
+  rises-from : (before rows : List (List (List ℕ))) (lines : List ℕ) → length rows ≤ length lines → NoFaultFrom before rows lines → Rises until (least_after (last_time before)) rows
   unfolding NoFaultFrom
   rises-from before [] lines fit none = tt
   rises-from before (row ∷ rows) [] fit none = absurd (omega arith)
   rises-from before (row ∷ rows) (line ∷ lines) fit none =
-      let parts = cons-none line (fault_behind until kinds before row) (faults_behind (fault_behind until kinds) (before ++ row ∷ []) rows lines) none in
+      let parts = cons-none line (fault_after until kinds before row) (faults_after (fault_after until kinds) (before ++ row ∷ []) rows lines) none in
       let timed = row-timed until kinds (length before + 1) (last_time before) row parts.0 in
       (timed.low, timed.ends, rw (last-push before row) at (rises-from (before ++ row ∷ []) rows lines (omega arith) parts.1))
 
@@ -89,16 +89,16 @@ module _ (until : ℕ) (kinds : List Kind) where
   few-from before [] lines few fit none = omega (arith, few)
   few-from before (row ∷ rows) [] few fit none = absurd (omega arith)
   few-from before (row ∷ rows) (line ∷ lines) few fit none =
-      let parts = cons-none line (fault_behind until kinds before row) (faults_behind (fault_behind until kinds) (before ++ row ∷ []) rows lines) none in
-      let one = few-behind until kinds (length before + 1) (last_time before) row parts.0 in
+      let parts = cons-none line (fault_after until kinds before row) (faults_after (fault_after until kinds) (before ++ row ∷ []) rows lines) none in
+      let one = few-after until kinds (length before + 1) (last_time before) row parts.0 in
       let size = length_push before row in
       let rest = few-from (before ++ row ∷ []) rows lines (omega (arith, one, size)) (omega arith) parts.1 in
       omega (arith, rest, size)
 
-  pub rows-rise : (rows : List (List (List ℕ))) (lines : List ℕ) → length rows ≤ length lines → first_fault (faults_behind (fault_behind until kinds) [] rows lines) ≡ None → Rises until 0 rows
+  pub rows-rise : (rows : List (List (List ℕ))) (lines : List ℕ) → length rows ≤ length lines → first_fault (faults_after (fault_after until kinds) [] rows lines) ≡ None → Rises until 0 rows
   unfolding NoFaultFrom
   rows-rise rows lines fit none = rises-from [] rows lines fit none
 
-  pub rows-few : (rows : List (List (List ℕ))) (lines : List ℕ) → length rows ≤ length lines → first_fault (faults_behind (fault_behind until kinds) [] rows lines) ≡ None → length rows ≤ MAX_ROWS
+  pub rows-few : (rows : List (List (List ℕ))) (lines : List ℕ) → length rows ≤ length lines → first_fault (faults_after (fault_after until kinds) [] rows lines) ≡ None → length rows ≤ MAX_ROWS
   unfolding NoFaultFrom
   rows-few rows lines fit none = omega (arith, few-from [] rows lines (omega arith) fit none)

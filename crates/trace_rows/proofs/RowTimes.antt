@@ -4,7 +4,7 @@ use Rattle.std.specs.Prelude.{nat_lt}
 use Rattle.std.proofs.lemmas.Bool.{cases_Bool, ltb-false}
 use Rattle.std.proofs.lemmas.List.{length-take-le}
 use Rattle.trace_rows.specs.Cells.{time_of}
-use Rattle.trace_rows.specs.Rows.{fault_behind, last_time, row_fault}
+use Rattle.trace_rows.specs.Rows.{fault_after, last_time, row_fault}
 use Rattle.trace_rows.specs.declared.cell.Kind.{Kind}
 use Rattle.trace_rows.specs.declared.rows.TheConstants.{MAX_ROWS}
 
@@ -17,12 +17,12 @@ last-is (row ∷ next ∷ rows) =
 
 -- the fault at a place, by the times so far
 pub fault-at : (until : ℕ) (kinds : List Kind) (rows : List (List (List ℕ))) (k : ℕ) (times : List ℕ) (row : List (List ℕ)) → k ≤ length rows → times ≡ map time_of (take k rows)
-    → row_fault until kinds (k + 1) (slice_get times (length times - 1)) row ≡ fault_behind until kinds (take k rows) row
+    → row_fault until kinds (k + 1) (slice_get times (length times - 1)) row ≡ fault_after until kinds (take k rows) row
 fault-at until kinds rows k times row fits are =
     rw (length-take-le k rows fits, last-is (take k rows), are) refl
 
-pub few-behind : (until : ℕ) (kinds : List Kind) (number : ℕ) (before : Option ℕ) (row : List (List ℕ)) → row_fault until kinds number before row ≡ None → number ≤ MAX_ROWS
-few-behind until kinds number before row none = elim (cases_Bool (nat_lt MAX_ROWS number)) [
+pub few-after : (until : ℕ) (kinds : List Kind) (number : ℕ) (before : Option ℕ) (row : List (List ℕ)) → row_fault until kinds number before row ≡ None → number ≤ MAX_ROWS
+few-after until kinds number before row none = elim (cases_Bool (nat_lt MAX_ROWS number)) [
   | inl over ↦ let some = rw over at none in absurd cc
   | inr under ↦ ltb-false MAX_ROWS number under
 ]

@@ -10,14 +10,14 @@ use Rattle.std.proofs.lemmas.Bool.Decides.{nat_tests}
 use Rattle.std.proofs.lemmas.List.{get_or-map, get_or_past, length-map, length_push}
 use Rattle.std.proofs.lemmas.List.Elements.{All-head, All-tail}
 use Rattle.dbp_plan.specs.declared.diagram.Input.{Input}
-use Rattle.dbp_plan.specs.FirstFault.{faults_behind, first_fault}
+use Rattle.dbp_plan.specs.FirstFault.{faults_after, first_fault}
 use Rattle.dbp_plan.specs.NameLists.{index_of, is_among}
 use Rattle.trace_rows.specs.declared.cell.Kind.{Kind}
 use Rattle.trace_rows.specs.declared.cell.Kind.TheVariants.{Value, Mark}
 use Rattle.trace_rows.specs.declared.rows.TheConstants.{MAX_ROWS}
 use Rattle.trace_rows.specs.Cells.{cell_fits, cell_under, cells_fit, is_empty, is_one, time_of, value_in}
 use Rattle.trace_rows.specs.Headers.{input_names, is_header, kind_of_column}
-use Rattle.trace_rows.specs.Rows.{fault_behind, is_not_after, last_time, row_fault, row_faults, row_fits}
+use Rattle.trace_rows.specs.Rows.{fault_after, is_not_after, last_time, row_fault, row_faults, row_fits}
 use Rattle.trace_rows.specs.Values.{event_times, is_marked, row_samples, sample_of, samples_of, times_under}
 use Rattle.trace_rows.specs.Written as written
 use Rattle.trace_rows.specs.Written.{AreCellsOf, CanWrite, IsCellOf, WrittenCell, WrittenRow, cell_text, is_mark, nothing, mark, value_of, written_cells, written_row_samples, written_samples, written_times, written_under}
@@ -73,13 +73,13 @@ module _ (until : ℕ) (kinds : List Kind) where
 
   faultless-from : (before : List (List (List ℕ))) (rows : List WrittenRow) (lines : List ℕ) → All (IsRow kinds) rows → length before + length rows ≤ MAX_ROWS
       → IsAfter (last_time before) rows → IsStrictlyIncreasing (map (λ r. r.time) rows) → All (λ r. r.time < until) rows
-      → first_fault (faults_behind (fault_behind until kinds) before (map written_cells rows) lines) ≡ None
+      → first_fault (faults_after (fault_after until kinds) before (map written_cells rows) lines) ≡ None
   faultless-from before [] [] each few after rising ends = refl
   faultless-from before [] (line ∷ lines) each few after rising ends = refl
   faultless-from before (r ∷ rows) [] each few after rising ends = refl
   faultless-from before (r ∷ rows) (line ∷ lines) each few after rising ends =
       let here = All-head (IsRow kinds) r rows each in
-      let none : fault_behind until kinds before (written_cells r) ≡ None =
+      let none : fault_after until kinds before (written_cells r) ≡ None =
       row-faultless (length before + 1) (last_time before) r here (omega (arith, few)) after (All-head (λ r. r.time < until) r rows ends) in
       let last : last_time (before ++ written_cells r ∷ []) ≡ Some r.time = last-push before (written_cells r) ∙ ap Some (time-value r.time here.0) in
       let later : IsAfter (last_time (before ++ written_cells r ∷ [])) rows = rw last (next-after r rows rising) in

@@ -1,6 +1,6 @@
 -- The first fault of the rows of a trace section.
 use Rattle.std.specs.Prelude.{ℕ, ◌+◌, Bool, false, not, ◌==◌, nat_le, nat_lt, if◌then◌else◌, List, [], ◌∷◌, length, Option, Some, None}
-use Rattle.dbp_plan.specs.FirstFault.{faults_behind}
+use Rattle.dbp_plan.specs.FirstFault.{faults_after}
 use Rattle.trace_rows.specs.Cells.{is_time, cells_fit, time_of}
 use Rattle.trace_rows.specs.declared.cell.Kind.{Kind}
 use Rattle.trace_rows.specs.declared.fail.TraceCode.{TraceCode}
@@ -33,9 +33,9 @@ last_time (row ∷ []) = Some (time_of row)
 last_time (row ∷ rows) = last_time rows
 
 -- the first fault of the row that stands after these
-abbrev pub fault_behind : ℕ → List Kind → List (List (List ℕ)) → List (List ℕ) → Option TraceCode
-fault_behind until kinds before row = row_fault until kinds (length before + 1) (last_time before) row
+abbrev pub fault_after : ℕ → List Kind → List (List (List ℕ)) → List (List ℕ) → Option TraceCode
+fault_after until kinds before row = row_fault until kinds (length before + 1) (last_time before) row
 
 -- each row with the number of its line and its first fault
 abbrev pub row_faults : ℕ → List Kind → List (List (List ℕ)) → List ℕ → List (ℕ × Option TraceCode)
-row_faults until kinds rows lines = faults_behind (fault_behind until kinds) [] rows lines
+row_faults until kinds rows lines = faults_after (fault_after until kinds) [] rows lines

@@ -10,7 +10,7 @@ use Rattle.std.proofs.lemmas.List.Sums.{count_by-le-length, sum_by-le}
 use Rattle.dbp_plan.specs.declared.diagram.Read.{Read}
 use Rattle.dbp_plan.specs.declared.plan.Plan.{Plan}
 use Rattle.dbp_plan.specs.declared.schedule.Batch.{Batch}
-use Rattle.dbp_plan.specs.Lookups.{declared, no_read}
+use Rattle.dbp_plan.specs.Lookups.{declared_task, no_read}
 use Rattle.dbp_plan.specs.Occurrences.{time_of}
 use Rattle.dbp_plan.proofs.Counts.{count-cons}
 use Rattle.release_list.specs.Releases.{links_into}
@@ -61,9 +61,9 @@ length-looks : (i : ℕ) (xs : List ℕ) → length (flat_map (look_events i) xs
 length-looks i [] = refl
 length-looks i (x ∷ xs) = omega (arith, length-append (look_events i x) (flat_map (look_events i) xs), length-looks i xs)
 
-pub length-reads : (p : Plan) (i served : ℕ) → length (read_events p i served) ≡ 2 * count_by (λ r. r.at == served) (declared p i).reads
+pub length-reads : (p : Plan) (i served : ℕ) → length (read_events p i served) ≡ 2 * count_by (λ r. r.at == served) (declared_task p i).reads
 length-reads p i served =
-    let reads : List Read = (declared p i).reads in
+    let reads : List Read = (declared_task p i).reads in
     let numbers = numbers_that (λ r. r.at == served) reads 0 in
     let plain : length (reads_at reads served) ≡ length (filter (λ k. (get_or reads (k - 0) no_read).at == served) (range_with_len 0 (length reads))) =
     ap length (filter-like (λ k. (get_or reads k no_read).at == served) (λ k. (get_or reads (k - 0) no_read).at == served) (range_with_len 0 (length reads)) (λ k d lt.
@@ -90,19 +90,19 @@ reads_up_to (x ∷ reads) c d less =
 
 -- if none is in between, as many are early
 pub same_early : (p : Plan) (i c d : ℕ) → ((n : ℕ) → c ≤ n → n < d → NoReadAt p i n) → c ≤ d → early_reads p i d ≡ early_reads p i c
-same_early p i c d none le = count-like (λ r. nat_lt r.at d) (λ r. nat_lt r.at c) (declared p i).reads each
+same_early p i c d none le = count-like (λ r. nat_lt r.at d) (λ r. nat_lt r.at c) (declared_task p i).reads each
   where
-    each : (k : ℕ) (e : Read) → k < length (declared p i).reads → nat_lt (get_or (declared p i).reads k e).at d ≡ nat_lt (get_or (declared p i).reads k e).at c
+    each : (k : ℕ) (e : Read) → k < length (declared_task p i).reads → nat_lt (get_or (declared_task p i).reads k e).at d ≡ nat_lt (get_or (declared_task p i).reads k e).at c
     each k e kl = ⊎_elim
-        (λ (lt : (get_or (declared p i).reads k e).at < c). rw (lt-ltb _ _ lt, lt-ltb (get_or (declared p i).reads k e).at d (omega (arith, lt, le))) refl)
-        (λ (ge : c ≤ (get_or (declared p i).reads k e).at).
+        (λ (lt : (get_or (declared_task p i).reads k e).at < c). rw (lt-ltb _ _ lt, lt-ltb (get_or (declared_task p i).reads k e).at d (omega (arith, lt, le))) refl)
+        (λ (ge : c ≤ (get_or (declared_task p i).reads k e).at).
         ⊎_elim
-        (λ (lt : (get_or (declared p i).reads k e).at < d).
-        let plain : get_or (declared p i).reads k e ≡ get_or (declared p i).reads k no_read = get_or_default (declared p i).reads k e no_read kl in
-        absurd (none (get_or (declared p i).reads k e).at ge lt k kl (ap (λ (r : Read). r.at) (sym plain))))
-        (λ (far : d ≤ (get_or (declared p i).reads k e).at). rw (le-ltb _ _ ge, le-ltb (get_or (declared p i).reads k e).at d far) refl)
-        (cases_lt (get_or (declared p i).reads k e).at d))
-        (cases_lt (get_or (declared p i).reads k e).at c)
+        (λ (lt : (get_or (declared_task p i).reads k e).at < d).
+        let plain : get_or (declared_task p i).reads k e ≡ get_or (declared_task p i).reads k no_read = get_or_default (declared_task p i).reads k e no_read kl in
+        absurd (none (get_or (declared_task p i).reads k e).at ge lt k kl (ap (λ (r : Read). r.at) (sym plain))))
+        (λ (far : d ≤ (get_or (declared_task p i).reads k e).at). rw (le-ltb _ _ ge, le-ltb (get_or (declared_task p i).reads k e).at d far) refl)
+        (cases_lt (get_or (declared_task p i).reads k e).at d))
+        (cases_lt (get_or (declared_task p i).reads k e).at c)
 
 -- ---- the lengths of the pieces
 
@@ -114,27 +114,27 @@ module _ (p : Plan) (i : ℕ) where
   pub length-ends : i < length p.diagram.tasks → length (end_events p i) ≤ 11
   length-ends il =
       let outs = (rules.closed_task p i il).outs.1 in
-      let n = length-range_with_len 0 (length (declared p i).outs) in
-      omega (arith, outs, n, length-map (range_with_len 0 (length (declared p i).outs)) (λ port. step_of (Put i port)), length-append (put_events i (length (declared p i).outs)) (step_of (Done i) ∷ step_of (End i) ∷ []))
+      let n = length-range_with_len 0 (length (declared_task p i).outs) in
+      omega (arith, outs, n, length-map (range_with_len 0 (length (declared_task p i).outs)) (λ port. step_of (Put i port)), length-append (put_events i (length (declared_task p i).outs)) (step_of (Done i) ∷ step_of (End i) ∷ []))
 
   few_reads : i < length p.diagram.tasks → (c : ℕ) → early_reads p i c ≤ 16
-  few_reads il c = let few = (rules.closed_task p i il).reads in omega (arith, few, count_by-le-length (λ (r : Read). nat_lt r.at c) (declared p i).reads)
+  few_reads il c = let few = (rules.closed_task p i il).reads in omega (arith, few, count_by-le-length (λ (r : Read). nat_lt r.at c) (declared_task p i).reads)
 
   -- of what is left, the steps made so far: none if all is left
-  pub bound_all : step_bound p i (declared p i).cost ≡ 0
-  bound_all = none_if ((declared p i).cost == 0) ((declared p i).cost == (declared p i).cost) (130 + 2 * early_reads p i ((declared p i).cost - (declared p i).cost)) (eq-eqb (declared p i).cost (declared p i).cost refl)
+  pub bound_all : step_bound p i (declared_task p i).cost ≡ 0
+  bound_all = none_if ((declared_task p i).cost == 0) ((declared_task p i).cost == (declared_task p i).cost) (130 + 2 * early_reads p i ((declared_task p i).cost - (declared_task p i).cost)) (eq-eqb (declared_task p i).cost (declared_task p i).cost refl)
     where
       none_if : (a b : Bool) (n : ℕ) → b ≡ true → (if a || b then 0 else n) ≡ 0
       none_if true b n is = refl
       none_if false b n is = rw is refl
 
-  bound_some : (rest : ℕ) → 0 < rest → rest < (declared p i).cost → step_bound p i rest ≡ 130 + 2 * early_reads p i ((declared p i).cost - rest)
-  bound_some rest some less = rw (ne_eqb rest 0 (λ e. omega (arith, e, some)), ne_eqb rest (declared p i).cost (λ e. omega (arith, e, less))) refl
+  bound_some : (rest : ℕ) → 0 < rest → rest < (declared_task p i).cost → step_bound p i rest ≡ 130 + 2 * early_reads p i ((declared_task p i).cost - rest)
+  bound_some rest some less = rw (ne_eqb rest 0 (λ e. omega (arith, e, some)), ne_eqb rest (declared_task p i).cost (λ e. omega (arith, e, less))) refl
 
   pub reads_few : i < length p.diagram.tasks → (served : ℕ) → length (read_events p i served) ≤ 32
   reads_few il served =
       let few = (rules.closed_task p i il).reads in
-      omega (arith, few, length-reads p i served, count_by-le-length (λ (r : Read). r.at == served) (declared p i).reads)
+      omega (arith, few, length-reads p i served, count_by-le-length (λ (r : Read). r.at == served) (declared_task p i).reads)
 
   pub begin_few : (serve : ℕ → Option Instance) (served : ℕ) → length (begin_events_at p serve i served) ≤ 130
   begin_few serve served = ⊎_elim
@@ -143,38 +143,38 @@ module _ (p : Plan) (i : ℕ) where
       (cases_eq served 0)
 
   -- the steps of a tick in which the instance is served, with those before
-  pub served_steps : (serve : ℕ → Option Instance) (rest : ℕ) → 0 < rest → rest ≤ (declared p i).cost → (d : ℕ) → (declared p i).cost - rest < d
-      → length (begin_events_at p serve i ((declared p i).cost - rest)) + length (read_events p i ((declared p i).cost - rest)) + step_bound p i rest ≤ 130 + 2 * early_reads p i d
+  pub served_steps : (serve : ℕ → Option Instance) (rest : ℕ) → 0 < rest → rest ≤ (declared_task p i).cost → (d : ℕ) → (declared_task p i).cost - rest < d
+      → length (begin_events_at p serve i ((declared_task p i).cost - rest)) + length (read_events p i ((declared_task p i).cost - rest)) + step_bound p i rest ≤ 130 + 2 * early_reads p i d
   served_steps serve rest some le d less =
-      let c : ℕ = (declared p i).cost - rest in
+      let c : ℕ = (declared_task p i).cost - rest in
       let reads = length-reads p i c in
-      let up = reads_up_to (declared p i).reads c d less in
+      let up = reads_up_to (declared_task p i).reads c d less in
       ⊎_elim
-      (λ (e : rest ≡ (declared p i).cost).
+      (λ (e : rest ≡ (declared_task p i).cost).
       let z : c ≡ 0 = omega (arith, e) in
       let b : length (begin_events_at p serve i c) ≤ 130 = rw (eq-eqb c 0 z) length-begin in
       let n : step_bound p i rest ≡ 0 = ap (step_bound p i) e ∙ bound_all in
       omega (arith, reads, up, b, n))
-      (λ (ne : rest ≡ (declared p i).cost → ⊥).
+      (λ (ne : rest ≡ (declared_task p i).cost → ⊥).
       let nz : c ≡ 0 → ⊥ = λ z. ne (omega (arith, z, le)) in
       let b : length (begin_events_at p serve i c) ≡ 0 = rw (ne_eqb c 0 nz) refl in
       let n = bound_some rest some (omega (arith, le, ne)) in
       omega (arith, reads, up, b, n))
-      (cases_eq rest (declared p i).cost)
+      (cases_eq rest (declared_task p i).cost)
 
-  pub paused_steps : i < length p.diagram.tasks → (serve : ℕ → Option Instance) (rest ticks : ℕ) → 0 < ticks → ticks < rest → rest ≤ (declared p i).cost
-      → length (begin_events_at p serve i ((declared p i).cost - rest)) + length (read_events p i ((declared p i).cost - rest)) + step_bound p i rest ≤ step_bound p i (rest - ticks)
+  pub paused_steps : i < length p.diagram.tasks → (serve : ℕ → Option Instance) (rest ticks : ℕ) → 0 < ticks → ticks < rest → rest ≤ (declared_task p i).cost
+      → length (begin_events_at p serve i ((declared_task p i).cost - rest)) + length (read_events p i ((declared_task p i).cost - rest)) + step_bound p i rest ≤ step_bound p i (rest - ticks)
   paused_steps il serve rest ticks some short le =
-      let d : ℕ = (declared p i).cost - (rest - ticks) in
+      let d : ℕ = (declared_task p i).cost - (rest - ticks) in
       let steps = served_steps serve rest (omega (arith, some, short)) le d (omega (arith, some, short, le)) in
       let n = bound_some (rest - ticks) (omega (arith, short)) (omega (arith, some, short, le)) in
       omega (arith, steps, n)
 
-  pub ended_steps : i < length p.diagram.tasks → (serve : ℕ → Option Instance) (rest : ℕ) → 0 < rest → rest ≤ (declared p i).cost
-      → length (begin_events_at p serve i ((declared p i).cost - rest)) + length (read_events p i ((declared p i).cost - rest)) + length (end_events p i) + step_bound p i rest ≤ 173
+  pub ended_steps : i < length p.diagram.tasks → (serve : ℕ → Option Instance) (rest : ℕ) → 0 < rest → rest ≤ (declared_task p i).cost
+      → length (begin_events_at p serve i ((declared_task p i).cost - rest)) + length (read_events p i ((declared_task p i).cost - rest)) + length (end_events p i) + step_bound p i rest ≤ 173
   ended_steps il serve rest some le =
-      let steps = served_steps serve rest some le (declared p i).cost (omega (arith, some, le)) in
-      let few = few_reads il (declared p i).cost in
+      let steps = served_steps serve rest some le (declared_task p i).cost (omega (arith, some, le)) in
+      let few = few_reads il (declared_task p i).cost in
       let ends = length-ends il in
       omega (arith, steps, few, ends)
 
@@ -213,11 +213,11 @@ steps_few p rest ends (suc n) le few =
     omega (arith, a, b, c)
   where
     bound_few : (i : ℕ) → i < length p.diagram.tasks → (left : ℕ) → step_bound p i left ≤ 162
-    bound_few i il left = let few = few_reads p i il ((declared p i).cost - left) in
+    bound_few i il left = let few = few_reads p i il ((declared_task p i).cost - left) in
         ⊎_elim
-        (λ (e : ((left == 0) || (left == (declared p i).cost)) ≡ true). rw e (omega arith))
-        (λ (e : ((left == 0) || (left == (declared p i).cost)) ≡ false). rw e (omega (arith, few)))
-        (cases_Bool ((left == 0) || (left == (declared p i).cost)))
+        (λ (e : ((left == 0) || (left == (declared_task p i).cost)) ≡ true). rw e (omega arith))
+        (λ (e : ((left == 0) || (left == (declared_task p i).cost)) ≡ false). rw e (omega (arith, few)))
+        (cases_Bool ((left == 0) || (left == (declared_task p i).cost)))
 
 -- ---- the release of a batch
 

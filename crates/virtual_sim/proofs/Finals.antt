@@ -5,7 +5,7 @@ use Rattle.std.specs.List.{range_with_len}
 use Rattle.std.proofs.lemmas.List.{append-nil, get_or-replicate, take_all}
 use Rattle.dbp_plan.specs.declared.plan.Plan.{Plan}
 use Rattle.dbp_plan.specs.declared.schedule.Batch.{Batch}
-use Rattle.dbp_plan.specs.Lookups.{declared}
+use Rattle.dbp_plan.specs.Lookups.{declared_task}
 use Rattle.dbp_plan.specs.Occurrences.{times_of}
 use Rattle.rank_order.specs.Ends.{NoOverrun}
 use Rattle.rank_order.specs.Instances.{Instance, IsInstance}
@@ -15,7 +15,7 @@ use Rattle.rank_order.proofs.OneService.{serves_waiting}
 use Rattle.rank_order.proofs.SomeService.{service_is}
 use Rattle.sync_meaning.specs.SomeMeaning.{meaning_of}
 use Rattle.release_list.specs.Releases.{batch_start}
-use Rattle.dbp_rules.specs.Places.{no_task, no_task_entry, task, task_entry, wired}
+use Rattle.dbp_rules.specs.Places.{no_task, no_task_entry, task, task_entry, wired_task}
 use Rattle.dbp_rules.specs.Start.{start_entry, start_of, start_task}
 use Rattle.dbp_rules.specs.Wired.{wiring_of}
 use Rattle.dbp_rules.specs.declared.parts.Place.TheVariants.{Idle}
@@ -78,7 +78,7 @@ pub starts : (p : Plan) (s : Simulation) (keeping : Keeping) → IsRun p s.run �
     → plan_in s.recorder ≡ p → count_in s.recorder ≡ Ranked → state_in s.recorder ≡ start_of p (wiring_of p Ranked) → record_in s.recorder ≡ first_record keeping → HasEndedRows p (state_in s.recorder) (table_in s.recorder) → IsSimulation p s
 starts p s keeping run time released rest ends plan count state kept rows =
     let w : Wiring = wiring_of p Ranked in
-    let make : ℕ → TaskState = λ i. start_task (wired (wiring_of p Ranked) i) (declared p i) in
+    let make : ℕ → TaskState = λ i. start_task (wired_task (wiring_of p Ranked) i) (declared_task p i) in
     let range : List ℕ = range_with_len 0 (length (wiring_of p Ranked).tasks) in
     let none : (i : ℕ) → i < length p.diagram.tasks → get_or s.run.rest.items i 0 ≡ 0 = λ i il. ap (λ (l : List ℕ). get_or l i 0) rest ∙ get_or-replicate (length p.diagram.tasks) i 0 0 il in
     let nil : (i : ℕ) → i < length p.diagram.tasks → length (get_or s.run.ends i []) ≡ 0 = λ i il. ap (length {A = ℕ}) (ap (λ (l : List (List ℕ)). get_or l i []) ends ∙ get_or-replicate (length p.diagram.tasks) i [] [] il) in

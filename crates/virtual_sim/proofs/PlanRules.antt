@@ -6,10 +6,10 @@ use Rattle.std.proofs.lemmas.List.Sums.{sum_by-cons}
 use Rattle.std.proofs.Math.ListN.{get_or-map}
 use Rattle.dbp_plan.specs.declared.plan.Plan.{Plan}
 use Rattle.dbp_plan.specs.declared.schedule.Batch.{Batch}
-use Rattle.dbp_plan.specs.Lookups.{declared, no_declared}
+use Rattle.dbp_plan.specs.Lookups.{declared_task, no_declared}
 use Rattle.dbp_plan.specs.Closed.{IsClosedTask}
 use Rattle.dbp_plan.specs.Occurrences.{occurrence_count}
-use Rattle.dbp_plan.specs.Lookups.{declared}
+use Rattle.dbp_plan.specs.Lookups.{declared_task}
 
 module _ (P : Plan) where
   pub rising : (j k : ℕ) (b c : Batch) → j < k → k < length P.batches → (get_or P.batches j b).time < (get_or P.batches k c).time
@@ -23,13 +23,13 @@ module _ (P : Plan) where
       time_at : (n : ℕ) (b : Batch) → n < length P.batches → get_or (map (λ (a : Batch). a.time) P.batches) n 0 ≡ (get_or P.batches n b).time
       time_at n b inside = get_or_default (map (λ (a : Batch). a.time) P.batches) n 0 b.time (omega (arith, length-map P.batches (λ (a : Batch). a.time))) ∙ get_or-map (λ (a : Batch). a.time) P.batches n b
 
-  pub closed_task : (i : ℕ) → i < length P.diagram.tasks → IsClosedTask (length P.diagram.inputs) (length P.diagram.events) (length P.diagram.links) (declared P i)
+  pub closed_task : (i : ℕ) → i < length P.diagram.tasks → IsClosedTask (length P.diagram.inputs) (length P.diagram.events) (length P.diagram.links) (declared_task P i)
   closed_task i inside = P.rules.ranked.closed.each i no_declared inside
 
-  pub costs : (i : ℕ) → i < length P.diagram.tasks → 0 < (declared P i).cost
+  pub costs : (i : ℕ) → i < length P.diagram.tasks → 0 < (declared_task P i).cost
   costs i inside = let c = (closed_task i inside).cost.0 in omega (arith, c)
 
-  pub small_costs : (i : ℕ) → i < length P.diagram.tasks → (declared P i).cost ≤ 1000000000
+  pub small_costs : (i : ℕ) → i < length P.diagram.tasks → (declared_task P i).cost ≤ 1000000000
   small_costs i inside = let c = (closed_task i inside).cost.1 in omega (arith, c)
 
   pub inside : (k j : ℕ) (b : Batch) → k < length P.batches → j < length (get_or P.batches k b).tasks → get_or (get_or P.batches k b).tasks j 0 < length P.diagram.tasks

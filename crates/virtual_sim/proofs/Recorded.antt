@@ -8,7 +8,7 @@ use Rattle.std.proofs.lemmas.List.Elements.{filter-append}
 use Rattle.std.proofs.lemmas.List.FromFn.{length-range_with_len, get_or-range_with_len}
 use Rattle.dbp_plan.specs.declared.plan.Plan.{Plan}
 use Rattle.dbp_plan.specs.declared.schedule.Batch.{Batch}
-use Rattle.dbp_plan.specs.Lookups.{declared, no_read}
+use Rattle.dbp_plan.specs.Lookups.{declared_task, no_read}
 use Rattle.rank_order.specs.Instances.{Instance}
 use Rattle.rank_order.specs.Service.{left_of, served_ticks}
 use Rattle.instance_steps.specs.Events.{Event, batch_events, end_events, look_events, read_events}
@@ -20,15 +20,15 @@ filter-none p (x ∷ xs) none = rw (none 0 x (omega arith)) (filter-none p xs (�
 
 -- the read of the task is due after so many ticks
 abbrev pub NoReadAt : Plan → ℕ → ℕ → Type 0
-NoReadAt p i served = (r : ℕ) → r < length (declared p i).reads → (get_or (declared p i).reads r no_read).at ≢ served
+NoReadAt p i served = (r : ℕ) → r < length (declared_task p i).reads → (get_or (declared_task p i).reads r no_read).at ≢ served
 
 pub no_reads : (p : Plan) (i served : ℕ) → NoReadAt p i served → read_events p i served ≡ []
 no_reads p i served none =
-    ap (flat_map (look_events i)) (filter-none (λ r. eqb (get_or (declared p i).reads r no_read).at served) (range_with_len 0 (length (declared p i).reads)) (λ k d lt.
-    let n = length-range_with_len 0 (length (declared p i).reads) in
-    let kl : k < length (declared p i).reads = omega (arith, lt, n) in
-    let is : get_or (range_with_len 0 (length (declared p i).reads)) k d ≡ k = get_or-range_with_len 0 (length (declared p i).reads) k d kl ∙ (let z : 0 + k ≡ k = omega arith in z) in
-    ne_eqb _ _ (λ e. none k kl (ap (λ (m : ℕ). (get_or (declared p i).reads m no_read).at) (sym is) ∙ e))))
+    ap (flat_map (look_events i)) (filter-none (λ r. eqb (get_or (declared_task p i).reads r no_read).at served) (range_with_len 0 (length (declared_task p i).reads)) (λ k d lt.
+    let n = length-range_with_len 0 (length (declared_task p i).reads) in
+    let kl : k < length (declared_task p i).reads = omega (arith, lt, n) in
+    let is : get_or (range_with_len 0 (length (declared_task p i).reads)) k d ≡ k = get_or-range_with_len 0 (length (declared_task p i).reads) k d kl ∙ (let z : 0 + k ≡ k = omega arith in z) in
+    ne_eqb _ _ (λ e. none k kl (ap (λ (m : ℕ). (get_or (declared_task p i).reads m no_read).at) (sym is) ∙ e))))
 
 module _ (p : Plan) (serve : ℕ → Option Instance) where
   pub next_events : (t : ℕ) → events_before p serve (suc t) ≡ events_before p serve t ++ events_at p serve t

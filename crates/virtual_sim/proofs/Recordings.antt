@@ -5,7 +5,7 @@ use Rattle.std.proofs.Common.{◌≡◌, ◌≢◌, ℕ, ◌+◌, ◌-◌, ◌<�
 use Rattle.std.proofs.lemmas.Bool.{cases_eq, cases_Bool, eq-eqb, ne_eqb}
 use Rattle.dbp_plan.specs.declared.plan.Plan.{Plan}
 use Rattle.dbp_plan.specs.declared.table.Table.{Table}
-use Rattle.dbp_plan.specs.Lookups.{declared}
+use Rattle.dbp_plan.specs.Lookups.{declared_task}
 use Rattle.dbp_plan.specs.Occurrences.{names}
 use Rattle.dbp_rules.specs.Places.{entry_in, task}
 use Rattle.dbp_rules.specs.Start.{start_of}
@@ -99,12 +99,12 @@ idle_if true b x is = refl
 idle_if false b x is = rw is refl
 
 -- idle if all is left
-pub place_all : (p : Plan) (i : ℕ) → place_of p i (declared p i).cost ≡ Idle
-place_all p i = idle_if ((declared p i).cost == 0) ((declared p i).cost == (declared p i).cost) (place_after p i ((declared p i).cost - (declared p i).cost)) (eq-eqb (declared p i).cost (declared p i).cost refl)
+pub place_all : (p : Plan) (i : ℕ) → place_of p i (declared_task p i).cost ≡ Idle
+place_all p i = idle_if ((declared_task p i).cost == 0) ((declared_task p i).cost == (declared_task p i).cost) (place_after p i ((declared_task p i).cost - (declared_task p i).cost)) (eq-eqb (declared_task p i).cost (declared_task p i).cost refl)
 
 -- and under way if some is
-pub place_some : (p : Plan) (i rest : ℕ) → 0 < rest → rest < (declared p i).cost → place_of p i rest ≡ place_after p i ((declared p i).cost - rest)
-place_some p i rest some less = rw (ne_eqb rest 0 (λ e. omega (arith, e, some)), ne_eqb rest (declared p i).cost (λ e. omega (arith, e, less))) refl
+pub place_some : (p : Plan) (i rest : ℕ) → 0 < rest → rest < (declared_task p i).cost → place_of p i rest ≡ place_after p i ((declared_task p i).cost - rest)
+place_some p i rest some less = rw (ne_eqb rest 0 (λ e. omega (arith, e, some)), ne_eqb rest (declared_task p i).cost (λ e. omega (arith, e, less))) refl
 
 -- the release of the batch with the number b, of whose tasks nothing was left
 pub adds_batch : (p : Plan) (r r' : Recorder) (b : ℕ) (events : List Event) (rest rest' : List ℕ) (ends : List (List ℕ)) → IsRecorded p b events (λ i. place_of p i (get_or rest i 0)) ends r

@@ -5,7 +5,7 @@ use Rattle.std.proofs.lemmas.List.{get_or_default, take_all}
 use Rattle.dbp_plan.specs.declared.plan.Plan.{Plan}
 use Rattle.dbp_plan.specs.declared.schedule.Batch.{Batch}
 use Rattle.dbp_plan.specs.Occurrences.{names, times_of}
-use Rattle.dbp_plan.specs.Lookups.{declared}
+use Rattle.dbp_plan.specs.Lookups.{declared_task}
 use Rattle.rank_order.specs.Instances.{Instance, IsInstance, before_it, release_of}
 use Rattle.rank_order.specs.Service.{IsService, left_of}
 use Rattle.rank_order.specs.Ends.{IsOverrun, NoOverrun}
@@ -62,7 +62,7 @@ module _ (P : Plan) (serve : ℕ → Option Instance) (service : IsService P ser
         let there = brought i il e in
         let r = there.1 in
         let none = unserved P serve (serves_waiting P serve service) (instance i (release_count P.batches b i + 1)) now (omega (arith, r)) in
-        new.named i e ∙ (let z : (declared P i).cost ≡ left_of P serve (instance i (release_count P.batches b i + 1)) now = omega (arith, none) in z)
+        new.named i e ∙ (let z : (declared_task P i).cost ≡ left_of P serve (instance i (release_count P.batches b i + 1)) now = omega (arith, none) in z)
         ∙ ap (λ (n : ℕ). left_of P serve (instance i n) now) (sym up))
         (λ (e : names i (get_or P.batches b no_batch) ≡ false).
         let same = more-other P.batches i b no_batch small e in

@@ -4,7 +4,7 @@ use Rattle.std.proofs.lemmas.Bool.{cases_eq, false≢true, or_cases, or_left, or
 use Rattle.std.proofs.lemmas.List.Folds.{list_any_more}
 use Rattle.dbp_plan.specs.declared.plan.Plan.{Plan}
 use Rattle.rank_order.specs.declared.ready.Ready.{Ready}
-use Rattle.dbp_plan.specs.Lookups.{declared}
+use Rattle.dbp_plan.specs.Lookups.{declared_task}
 use Rattle.virtual_sim.specs.State.{Sets}
 use Rattle.rank_order.specs.Queue.{Holds, MadeFor}
 use Rattle.dbp_plan.specs.Numbers.{is_in}
@@ -12,7 +12,7 @@ use Rattle.dbp_plan.specs.Numbers.{is_in}
 -- after the first j tasks
 pub record Renewing (P : Plan) (tasks : List ℕ) (j time : ℕ) (rest rest' : List ℕ) (ready ready' : Ready) : Type 0 where
   pub long : length rest' ≡ length rest
-  pub named : (i : ℕ) → is_in (take j tasks) i ≡ true → get_or rest' i 0 ≡ (declared P i).cost
+  pub named : (i : ℕ) → is_in (take j tasks) i ≡ true → get_or rest' i 0 ≡ (declared_task P i).cost
   pub others : (i : ℕ) → is_in (take j tasks) i ≡ false → get_or rest' i 0 ≡ get_or rest i 0
   pub made : MadeFor ready' P.diagram
   pub held : (i a : ℕ) → Holds ready' i a ↔ (((is_in (take j tasks) i ≡ true) × (a ≡ time)) ⊎ Holds ready i a)
@@ -35,7 +35,7 @@ module _ (P : Plan) (tasks : List ℕ) (j time : ℕ) (rest rest' : List ℕ) (r
   task : ℕ
   task = get_or tasks j 0
 
-  pub one_more : (rest'' : List ℕ) (ready'' : Ready) (t : ℕ) → t ≡ get_or tasks j 0 → Sets 0 rest' t (declared P t).cost rest'' → MadeFor ready'' P.diagram
+  pub one_more : (rest'' : List ℕ) (ready'' : Ready) (t : ℕ) → t ≡ get_or tasks j 0 → Sets 0 rest' t (declared_task P t).cost rest'' → MadeFor ready'' P.diagram
       → ((i a : ℕ) → Holds ready'' i a ↔ (((i ≡ t) × (a ≡ time)) ⊎ Holds ready' i a))
       → Renewing P tasks (j + 1) time rest rest'' ready ready''
   one_more rest'' ready'' t is sets made held =
@@ -43,7 +43,7 @@ module _ (P : Plan) (tasks : List ℕ) (j time : ℕ) (rest rest' : List ℕ) (r
       record {
         long = sets.long ∙ h.long;
         named = λ i e. ⊎_elim
-            (λ (s : i ≡ t). subst (λ (k : ℕ). get_or rest'' k 0 ≡ (declared P k).cost) (sym s) sets.same)
+            (λ (s : i ≡ t). subst (λ (k : ℕ). get_or rest'' k 0 ≡ (declared_task P k).cost) (sym s) sets.same)
             (λ (ne : i ≢ t). sets.others i ne ∙ h.named i (⊎_elim
             (λ (a : is_in (take j tasks) i ≡ true). a)
             (λ (a : eqb (get_or tasks j 0) i ≡ true). absurd (ne (sym (eqb-true _ _ a) ∙ sym is)))

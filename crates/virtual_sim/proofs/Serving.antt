@@ -8,7 +8,7 @@ use Rattle.dbp_plan.specs.declared.diagram.Read.{Read}
 use Rattle.dbp_plan.specs.declared.diagram.Task.{Task}
 use Rattle.dbp_plan.specs.declared.plan.Plan.{Plan}
 use Rattle.dbp_plan.specs.declared.schedule.Batch.{Batch}
-use Rattle.dbp_plan.specs.Lookups.{declared, no_declared, no_read}
+use Rattle.dbp_plan.specs.Lookups.{declared_task, no_declared, no_read}
 use Rattle.dbp_plan.specs.Occurrences.{names, occurrence_count}
 use Rattle.dbp_plan.proofs.Counts.{count-cons}
 use Rattle.rank_order.specs.Instances.{Instance}
@@ -108,19 +108,19 @@ all_read n = rw (le-ltb n n (omega arith)) refl
 
 -- ---- what the code reads
 
-pub body_is : (p : Plan) (items : List Task) (i : ℕ) (t : Task) → items ≡ p.diagram.tasks → i < length p.diagram.tasks → t ≡ get_or items i t → t ≡ declared p i
+pub body_is : (p : Plan) (items : List Task) (i : ℕ) (t : Task) → items ≡ p.diagram.tasks → i < length p.diagram.tasks → t ≡ get_or items i t → t ≡ declared_task p i
 body_is p items i t same there is = is ∙ ap (λ (l : List Task). get_or l i t) same ∙ get_or_default p.diagram.tasks i t no_declared there
 
 -- what is left of the first instance, and for how many ticks it was served
 pub record IsOfFirst (p : Plan) (s : Simulation) (i cost rest : ℕ) : Type 0 where
   pub there : i < length p.diagram.tasks
-  pub cost_is : cost ≡ (declared p i).cost
+  pub cost_is : cost ≡ (declared_task p i).cost
   pub rest_is : rest ≡ get_or s.run.rest.items i 0
   pub some : 0 < rest
   pub within : rest ≤ cost
-  pub served : cost - rest + get_or s.run.rest.items i 0 ≡ (declared p i).cost
+  pub served : cost - rest + get_or s.run.rest.items i 0 ≡ (declared_task p i).cost
 
-pub of_first : (p : Plan) (s : Simulation) → IsSimulation p s → (i : ℕ) → IsServedFirst s.run.ready i → (cost rest : ℕ) → cost ≡ (declared p i).cost → rest ≡ get_or s.run.rest.items i 0 → IsOfFirst p s i cost rest
+pub of_first : (p : Plan) (s : Simulation) → IsSimulation p s → (i : ℕ) → IsServedFirst s.run.ready i → (cost rest : ℕ) → cost ≡ (declared_task p i).cost → rest ≡ get_or s.run.rest.items i 0 → IsOfFirst p s i cost rest
 of_first p s h i first cost rest same read =
     let small = first_small p s.run h.run i first in
     let more = first_some p s.run h.run i first in
@@ -138,17 +138,17 @@ pub sooner : (p : Plan) (b limit t : ℕ) → NoBatchBefore p b limit → t ≤ 
 sooner p b limit t until le = record { later = λ k d bk kl. let u = until.later k d bk kl in omega (arith, u, le) }
 
 -- the next event of the task, by the declared one and fewer ticks
-pub no_sooner_in : (p : Plan) (i : ℕ) (t : Task) (served event ticks : ℕ) → t ≡ declared p i → IsNextEvent t served event → ticks ≤ event
-    → (r : ℕ) → r < length (declared p i).reads → served < (get_or (declared p i).reads r no_read).at → served + ticks ≤ (get_or (declared p i).reads r no_read).at
+pub no_sooner_in : (p : Plan) (i : ℕ) (t : Task) (served event ticks : ℕ) → t ≡ declared_task p i → IsNextEvent t served event → ticks ≤ event
+    → (r : ℕ) → r < length (declared_task p i).reads → served < (get_or (declared_task p i).reads r no_read).at → served + ticks ≤ (get_or (declared_task p i).reads r no_read).at
 no_sooner_in p i t served event ticks same next le =
-    let own : (r : ℕ) → r < length (declared p i).reads → served < (get_or (declared p i).reads r no_read).at → served + event ≤ (get_or (declared p i).reads r no_read).at =
+    let own : (r : ℕ) → r < length (declared_task p i).reads → served < (get_or (declared_task p i).reads r no_read).at → served + event ≤ (get_or (declared_task p i).reads r no_read).at =
     subst (λ (u : Task). (r : ℕ) → r < length u.reads → served < (get_or u.reads r no_read).at → served + event ≤ (get_or u.reads r no_read).at) same next.no_sooner in
     λ r rl after. let o = own r rl after in omega (arith, o, le)
 
 -- ---- the first instance
 
 module _ (p : Plan) (s : Simulation) (h : IsSimulation p s) (i served : ℕ) (first : IsServedFirst s.run.ready i)
-    (is_served : served + get_or s.run.rest.items i 0 ≡ (declared p i).cost) where
+    (is_served : served + get_or s.run.rest.items i 0 ≡ (declared_task p i).cost) where
   abbrev now : ℕ
   now = s.run.time
 
@@ -183,7 +183,7 @@ module _ (p : Plan) (s : Simulation) (h : IsSimulation p s) (i served : ℕ) (fi
   stands = h.recorded.place i il
 
   pub is_idle : served ≡ 0 → (task (state_in s.recorder) i).part.place ≡ Idle
-  is_idle none = stands ∙ ap (place_of p i) (let e : get_or s.run.rest.items i 0 ≡ (declared p i).cost = omega (arith, is_served, none) in e) ∙ place_all p i
+  is_idle none = stands ∙ ap (place_of p i) (let e : get_or s.run.rest.items i 0 ≡ (declared_task p i).cost = omega (arith, is_served, none) in e) ∙ place_all p i
 
   pub gate_open : (task (state_in s.recorder) i).words.gate ≡ (task (state_in s.recorder) i).part.ended + 1
   gate_open =
@@ -215,7 +215,7 @@ module _ (p : Plan) (s : Simulation) (h : IsSimulation p s) (i served : ℕ) (fi
       (λ j jl. ⊎_elim
       (λ (e : j ≡ i). subst (λ (k : ℕ). places_with p s.run.rest.items i (place_after p i served) k ≡ place_of p k (get_or s.run.rest.items k 0)) (sym e)
       (with_here p s.run.rest.items i (place_after p i served)
-      ∙ ap (place_after p i) (let c : served ≡ (declared p i).cost - get_or s.run.rest.items i 0 = omega (arith, is_served) in c)
+      ∙ ap (place_after p i) (let c : served ≡ (declared_task p i).cost - get_or s.run.rest.items i 0 = omega (arith, is_served) in c)
       ∙ sym (place_some p i (get_or s.run.rest.items i 0) some (omega (arith, is_served, before)))))
       (λ (ne : j ≢ i). with_other p s.run.rest.items i j (place_after p i served) ne)
       (cases_eq j i))
@@ -239,7 +239,7 @@ module _ (p : Plan) (s : Simulation) (h : IsSimulation p s) (i served : ℕ) (fi
   tick_steps = ap (λ (c : ℕ). begin_events_at p (service p) i c ++ read_events p i c) ticks_so_far
 
   module _ (ticks : ℕ) (forward : 0 < ticks) (within : ticks ≤ get_or s.run.rest.items i 0) (until : NoBatchBefore p s.run.released (s.run.time + ticks))
-      (no_sooner : (r : ℕ) → r < length (declared p i).reads → served < (get_or (declared p i).reads r no_read).at → served + ticks ≤ (get_or (declared p i).reads r no_read).at) where
+      (no_sooner : (r : ℕ) → r < length (declared_task p i).reads → served < (get_or (declared_task p i).reads r no_read).at → served + ticks ≤ (get_or (declared_task p i).reads r no_read).at) where
     -- no read is made inside the jump
     no_reads_in : (c : ℕ) → served < c → c < served + ticks → NoReadAt p i c
     no_reads_in c after before r rl is = let n = no_sooner r rl (omega (arith, is, after)) in omega (arith, n, is, before)
@@ -293,10 +293,10 @@ module _ (p : Plan) (s : Simulation) (h : IsSimulation p s) (i served : ℕ) (fi
         let others : (j : ℕ) → j ≢ i → get_or s'.run.rest.items j 0 ≡ get_or s.run.rest.items j 0 = λ j ne. ap (λ (l : List ℕ). get_or l j 0) rest' ∙ get_or-set_other s.run.rest.items i j (get_or s.run.rest.items i 0 - ticks) 0 ne in
         let lists : (j : ℕ) → j ≢ i → length (get_or s'.run.ends j []) ≡ length (get_or s.run.ends j []) = λ j ne. ap (λ (l : List (List ℕ)). length (get_or l j [])) ends in
         let events = events_to_event s'.run.time time short in
-        let left' : (declared p i).cost - (get_or s.run.rest.items i 0 - ticks) ≡ served + ticks = omega (arith, is_served, within) in
+        let left' : (declared_task p i).cost - (get_or s.run.rest.items i 0 - ticks) ≡ served + ticks = omega (arith, is_served, within) in
         let place : place_of p i (get_or s'.run.rest.items i 0) ≡ place_after p i (served + 1) =
         ap (place_of p i) here ∙ place_some p i (get_or s.run.rest.items i 0 - ticks) (omega (arith, short)) (omega (arith, is_served, forward, within, some))
-        ∙ ap (place_after p i) left' ∙ ap (read_place (length (declared p i).reads)) same_reads in
+        ∙ ap (place_after p i) left' ∙ ap (read_place (length (declared_task p i).reads)) same_reads in
         record {
           run = run;
           recorded = rw (released, ends)
@@ -308,7 +308,7 @@ module _ (p : Plan) (s : Simulation) (h : IsSimulation p s) (i served : ℕ) (fi
               (cases_eq j i)));
           few =
               let steps = paused_steps p i il (service p) (get_or s.run.rest.items i 0) ticks forward short (omega (arith, is_served)) in
-              let c : (declared p i).cost - get_or s.run.rest.items i 0 ≡ served = omega (arith, is_served) in
+              let c : (declared_task p i).cost - get_or s.run.rest.items i 0 ≡ served = omega (arith, is_served) in
               let begin = ap (λ (n : ℕ). length (begin_events_at p (service p) i n)) c in
               let reads = ap (λ (n : ℕ). length (read_events p i n)) c in
               let changed = one_changed p s.run.rest.items s'.run.rest.items s.run.ends s'.run.ends i others lists (length p.diagram.tasks) il in
@@ -324,17 +324,17 @@ module _ (p : Plan) (s : Simulation) (h : IsSimulation p s) (i served : ℕ) (fi
     pub is_shut : (r : Recorder) → ticks ≡ get_or s.run.rest.items i 0 → IsRecorded p s.run.released (events_so_far p (service p) s.run.released s.run.time ++ (begin_events_at p (service p) i served ++ read_events p i served)) (places_with p s.run.rest.items i (place_after p i (served + 1))) s.run.ends r
         → (task (state_in r) i).part.place ≡ Shut
     is_shut r all g =
-        let n : ℕ = length (declared p i).reads in
+        let n : ℕ = length (declared_task p i).reads in
         let count : early_reads p i (served + 1) ≡ n =
-        sym same_reads ∙ ap (early_reads p i) (let e : served + ticks ≡ (declared p i).cost = omega (arith, is_served, all) in e) ∙ all_early (declared p i).reads (λ k d kl. (rules.closed_task p i il).pointers k d kl) in
+        sym same_reads ∙ ap (early_reads p i) (let e : served + ticks ≡ (declared_task p i).cost = omega (arith, is_served, all) in e) ∙ all_early (declared_task p i).reads (λ k d kl. (rules.closed_task p i il).pointers k d kl) in
         g.place i il ∙ with_here p s.run.rest.items i (place_after p i (served + 1)) ∙ ap (read_place n) count ∙ all_read n
       where
-        all_early : (reads : List Read) → ((k : ℕ) (d : Read) → k < length reads → (get_or reads k d).at < (declared p i).cost) → count_by (λ r. nat_lt r.at (declared p i).cost) reads ≡ length reads
+        all_early : (reads : List Read) → ((k : ℕ) (d : Read) → k < length reads → (get_or reads k d).at < (declared_task p i).cost) → count_by (λ r. nat_lt r.at (declared_task p i).cost) reads ≡ length reads
         all_early [] each = refl
         all_early (y ∷ reads) each =
             let rest = all_early reads (λ k d lt. each (suc k) d (omega (arith, lt))) in
-            let here : y.at < (declared p i).cost = each 0 y (omega arith) in
-            rw (count-cons (λ (r : Read). nat_lt r.at (declared p i).cost) y reads, lt-ltb y.at (declared p i).cost here) (omega (arith, rest))
+            let here : y.at < (declared_task p i).cost = each 0 y (omega arith) in
+            rw (count-cons (λ (r : Read). nat_lt r.at (declared_task p i).cost) y reads, lt-ltb y.at (declared_task p i).cost here) (omega (arith, rest))
 
     -- it runs to its end
     pub finishes : (s' : Simulation) (r : Recorder) → ticks ≡ get_or s.run.rest.items i 0 → IsRun p s'.run → s'.run.time ≡ s.run.time + get_or s.run.rest.items i 0 → s'.run.released ≡ s.run.released
@@ -367,7 +367,7 @@ module _ (p : Plan) (s : Simulation) (h : IsSimulation p s) (i served : ℕ) (fi
           recorded = rw released (subst (λ (l : List Event). IsRecorded p s.run.released l (λ j. place_of p j (get_or s'.run.rest.items j 0)) s'.run.ends s'.recorder) (sym events) before);
           few =
               let steps = ended_steps p i il (service p) (get_or s.run.rest.items i 0) some (omega (arith, is_served)) in
-              let c : (declared p i).cost - get_or s.run.rest.items i 0 ≡ served = omega (arith, is_served) in
+              let c : (declared_task p i).cost - get_or s.run.rest.items i 0 ≡ served = omega (arith, is_served) in
               let begin = ap (λ (n : ℕ). length (begin_events_at p (service p) i n)) c in
               let reads = ap (λ (n : ℕ). length (read_events p i n)) c in
               let changed = one_changed p s.run.rest.items s'.run.rest.items s.run.ends s'.run.ends i others lists (length p.diagram.tasks) il in

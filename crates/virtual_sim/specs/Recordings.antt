@@ -1,7 +1,7 @@
 -- What a simulation keeps of the protocol: it stands where the time has it.
 use Rattle.std.specs.Prelude.{◌≡◌, ℕ, ◌-◌, ◌<◌, ◌==◌, ◌||◌, if◌then◌else◌, IfSome, List, [], length, slice_index, slice_index_or}
 use Rattle.dbp_plan.specs.declared.plan.Plan.{Plan}
-use Rattle.dbp_plan.specs.Lookups.{declared}
+use Rattle.dbp_plan.specs.Lookups.{declared_task}
 use Rattle.dbp_rules.specs.Places.{task, task_entry}
 use Rattle.dbp_rules.specs.Start.{start_of}
 use Rattle.dbp_rules.specs.Wired.{wiring_of}
@@ -21,8 +21,8 @@ use Rattle.virtual_sim.specs.State.{release_count}
 -- where the task stands if this is left of its last released instance: idle if nothing is, or if all is
 abbrev pub place_of : Plan → ℕ → ℕ → Place
 place_of p i rest =
-    if (rest == 0) || (rest == (declared p i).cost) then Idle
-    else place_after p i ((declared p i).cost - rest)
+    if (rest == 0) || (rest == (declared_task p i).cost) then Idle
+    else place_after p i ((declared_task p i).cost - rest)
 
 -- some steps play the events, from the start, and are those that are kept, if any are; the first b batches are released,
 -- the tasks have ended so many instances and stand at these places

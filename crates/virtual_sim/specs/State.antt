@@ -3,7 +3,7 @@ use Rattle.std.specs.Prelude.{◌≡◌, ◌≢◌, ℕ, zero, suc, ◌+◌, ◌
 use Rattle.dbp_plan.specs.declared.plan.Plan.{Plan}
 use Rattle.dbp_plan.specs.declared.schedule.Batch.{Batch}
 use Rattle.dbp_plan.specs.Occurrences.{names, times_of}
-use Rattle.dbp_plan.specs.Lookups.{declared}
+use Rattle.dbp_plan.specs.Lookups.{declared_task}
 use Rattle.rank_order.specs.Instances.{Instance, IsInstance, before_it, release_of}
 use Rattle.rank_order.specs.Service.{left_of}
 
@@ -59,5 +59,5 @@ pub record Sets {X : Type 0} (d : X) (xs : List X) (i : ℕ) (v : X) (ys : List 
 -- what is left after the release of the batch: of its tasks their costs, of the others what was left
 pub record Renewed (P : Plan) (batch : Batch) (rest rest' : List ℕ) : Type 0 where
   pub long : length rest' ≡ length rest
-  pub named : (i : ℕ) → names i batch ≡ true → slice_index rest' i ≡ (declared P i).cost
+  pub named : (i : ℕ) → names i batch ≡ true → slice_index rest' i ≡ (declared_task P i).cost
   pub others : (i : ℕ) → names i batch ≡ false → slice_index rest' i ≡ slice_index rest i

@@ -22,7 +22,7 @@ pub(crate) struct Simulation {
 
 impl Simulation {
     ghost use Rattle.std.specs.Prelude.{is_some, true, Err};
-    ghost use Rattle.dbp_plan.specs.Lookups.{declared};
+    ghost use Rattle.dbp_plan.specs.Lookups.{declared_task};
     ghost use Rattle.rank_order.specs.Queue.{IsServedFirst};
     ghost use Rattle.rank_order.specs.ServiceOf.{service};
     ghost use Rattle.instance_steps.specs.Events.{read_events};
@@ -55,7 +55,7 @@ impl Simulation {
         requires until { NoBatchBefore plan.now self.old.run.released
             (self.old.run.time + 1) }
         requires served { served + slice_index self.old.run.rest.items task
-            ≡ (declared plan.now task).cost }
+            ≡ (declared_task plan.now task).cost }
         ensures run { OnOk result (self.new.run ≡ self.old.run) }
         ensures recorded { OnOk result (IsRecorded plan.now self.old.run.released
             (events_so_far plan.now (service plan.now) self.old.run.released self.old.run.time
@@ -79,7 +79,7 @@ impl Simulation {
         requires until { NoBatchBefore plan.now self.old.run.released
             (self.old.run.time + 1) }
         requires served { served + slice_index self.old.run.rest.items task
-            ≡ (declared plan.now task).cost }
+            ≡ (declared_task plan.now task).cost }
         ensures run { OnOk result (self.new.run ≡ self.old.run) }
         ensures recorded { OnOk result (IsRecorded plan.now self.old.run.released
             (events_so_far plan.now (service plan.now) self.old.run.released self.old.run.time

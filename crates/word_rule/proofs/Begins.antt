@@ -9,11 +9,11 @@ use lib.ListN.{get_elem?}
 use Rattle.atomic_table.specs.Table.{opening, Splits}
 use Rattle.atomic_table.proofs.Lists.{at_set}
 use Rattle.dbp_plan.specs.declared.plan.Plan.{Plan}
-use Rattle.dbp_plan.specs.Lookups.{declared}
+use Rattle.dbp_plan.specs.Lookups.{declared_task}
 use Rattle.sync_meaning.proofs.OneMeaning.{meaning_solves}
 use Rattle.sync_meaning.specs.SomeMeaning.{meaning_of, meaning_of-is}
 use Rattle.dbp_rules.specs.PartyShapes.{ReleaserShape, TaskPartShape}
-use Rattle.dbp_rules.specs.Places.{no_task, task, wired}
+use Rattle.dbp_rules.specs.Places.{no_task, task, wired_task}
 use Rattle.dbp_rules.specs.Sound.{Sound}
 use Rattle.dbp_rules.specs.Start.{start_of, start_task}
 use Rattle.dbp_rules.specs.WordRanges.{FirstValuesFit}
@@ -41,7 +41,7 @@ first_sound p = start_sound p (run_wiring p) (meaning_row p) (wiring-whole p All
 -- each task's part is the first one
 first_parts : (p : Plan) (i : ℕ) → (task (start_of p (run_wiring p)) i).part ≡ first_part
 first_parts p i = elim (cases_lt i (length (run_wiring p).tasks)) [
-  | inl below ↦ ap (λ (t : TaskState). t.part) (get_or-map-range_with_len (λ (j : ℕ). start_task (wired (run_wiring p) j) (declared p j)) 0 (length (run_wiring p).tasks) i i no_task below (omega arith))
+  | inl below ↦ ap (λ (t : TaskState). t.part) (get_or-map-range_with_len (λ (j : ℕ). start_task (wired_task (run_wiring p) j) (declared_task p j)) 0 (length (run_wiring p).tasks) i i no_task below (omega arith))
   | inr past ↦ ap (λ (t : TaskState). t.part) (get_or-eq_default (start_of p (run_wiring p)).tasks no_task {n = i} (let n = first_sound p in let a = n.shape.tasks in omega arith))
 ]
 

@@ -7,13 +7,13 @@ use mathlib.Core.Logic.{dite}
 use native.Mathlib.Decide.{ℕ_discrete}
 use Rattle.dbp_plan.specs.declared.diagram.Out.{Out}
 use Rattle.dbp_plan.specs.declared.plan.Plan.{Plan}
-use Rattle.dbp_plan.specs.Lookups.{declared}
+use Rattle.dbp_plan.specs.Lookups.{declared_task}
 use Rattle.dbp_slots.specs.TableWords.{IsWord, Sizes, TableWord, SlotSizes, address_of, aim, claim, ended, gate, sizes_of, stamp, task_sizes, word, word_count}
 use Rattle.dbp_slots.proofs.Spots.{one_word, word_inside}
 use Rattle.dbp_rules.specs.LoadedWords.{start_number}
 use Rattle.dbp_rules.specs.SharedWords.{signed_value}
 use Rattle.dbp_rules.specs.Wired.{wiring_of}
-use Rattle.dbp_rules.specs.Places.{wired}
+use Rattle.dbp_rules.specs.Places.{wired_task}
 use Rattle.dbp_rules.specs.declared.step.Count.TheVariants.{All}
 use Rattle.dbp_rules.proofs.TableSizes.{same_sizes, sizes_of_task, task_count}
 use Rattle.dbp_rules.proofs.WiringParts.{wired_tasks}
@@ -82,10 +82,10 @@ module _ (p : Plan) where
   pub task_count_is : length (sizes_of p.diagram).tasks ≡ length p.diagram.tasks
   task_count_is = let a = ap (λ (x : Sizes). length x.tasks) (same_sizes p) in let b = task_count (wiring_of p All) in let c = wired_tasks p All in omega arith
 
-  sizes_are : (i : ℕ) → task_sizes (sizes_of p.diagram) i ≡ record { slots = (wired (wiring_of p All) i).slots; ports = (wired (wiring_of p All) i).ports }
+  sizes_are : (i : ℕ) → task_sizes (sizes_of p.diagram) i ≡ record { slots = (wired_task (wiring_of p All) i).slots; ports = (wired_task (wiring_of p All) i).ports }
   sizes_are i = ap (λ (x : Sizes). task_sizes x i) (sym (same_sizes p)) ∙ sizes_of_task (wiring_of p All) i
 
-  pub ports_are : (i : ℕ) → i < length p.diagram.tasks → length (declared p i).outs ≡ (task_sizes (sizes_of p.diagram) i).ports
+  pub ports_are : (i : ℕ) → i < length p.diagram.tasks → length (declared_task p i).outs ≡ (task_sizes (sizes_of p.diagram) i).ports
   ports_are i below =
       let a = ap (λ (x : SlotSizes). x.ports) (sizes_are i) in
       let inside : i < length (wiring_of p All).tasks = let c = wired_tasks p All in omega arith in
@@ -119,7 +119,7 @@ module _ (p : Plan) where
 
   -- ---- one task more
 
-  module _ (old words : List ℕ) (n : ℕ) (below : n < length p.diagram.tasks) (so_far : HasNumbersSoFar p n old) (filled : HasSlotFilled (sizes_of p.diagram) n (declared p n).outs (length (declared p n).outs) old words) where
+  module _ (old words : List ℕ) (n : ℕ) (below : n < length p.diagram.tasks) (so_far : HasNumbersSoFar p n old) (filled : HasSlotFilled (sizes_of p.diagram) n (declared_task p n).outs (length (declared_task p n).outs) old words) where
     kept : (q : TableWord) → IsWord (sizes_of p.diagram) q → IsNotInFirstSlot n q → get_or words (address_of (sizes_of p.diagram) q) 0 ≡ number_so_far p n q
     kept q inside apart = filled.others q inside apart ∙ so_far.each q inside
 
@@ -137,7 +137,7 @@ module _ (p : Plan) where
     word_next : (i port : ℕ) → IsWord (sizes_of p.diagram) (word i 0 port) → get_or words (address_of (sizes_of p.diagram) (word i 0 port)) 0 ≡ number_so_far p (n + 1) (word i 0 port)
     word_next i port inside = dite (ℕ_discrete i n)
         (λ same.
-        let few : port < length (declared p n).outs = let a = inside.1 in let b = ap (λ (k : ℕ). (task_sizes (sizes_of p.diagram) k).ports) same in let c = ports_are n below in omega arith in
+        let few : port < length (declared_task p n).outs = let a = inside.1 in let b = ap (λ (k : ℕ). (task_sizes (sizes_of p.diagram) k).ports) same in let c = ports_are n below in omega arith in
         rw (lt_here i n same) (ap (λ (k : ℕ). get_or words (address_of (sizes_of p.diagram) (word k 0 port)) 0) same ∙ (filled.values port few ∙ ap (λ (k : ℕ). start_number p (word k 0 port)) (sym same))))
         (λ other. rw (lt_next i n other) (kept (word i 0 port) inside (word_apart i port other)))
 

@@ -6,12 +6,12 @@ use Rattle.std.proofs.lemmas.Option.{same_Some}
 use Rattle.std.specs.Prelude.{FitsSigned, slice_index_or}
 use Rattle.std.specs.Int.{w64}
 use Rattle.dbp_plan.specs.declared.plan.Plan.{Plan}
-use Rattle.dbp_plan.specs.Lookups.{declared, no_read}
+use Rattle.dbp_plan.specs.Lookups.{declared_task, no_read}
 use Rattle.sync_meaning.specs.SomeMeaning.{meaning_of, meaning_of-is}
 use Rattle.dbp_slots.specs.TableWords.{IsWord, Sizes, TableWord, sizes_of}
 use Rattle.dbp_rules.specs.LoadedWords.{loaded_by, loaded_in, loaded_of, number_of_releaser, number_of_task, number_to_load, stored_number}
 use Rattle.dbp_rules.specs.PartyRules.{Loaded, is_stamp_of, no_word, read_order_in, releaser_after, releaser_refusal, task_after, task_refusal, turn_at}
-use Rattle.dbp_rules.specs.Places.{link, task, wired}
+use Rattle.dbp_rules.specs.Places.{link, task, wired_task}
 use Rattle.dbp_rules.specs.Promises.{IsMeant}
 use Rattle.dbp_rules.specs.Rules as rule
 use Rattle.dbp_rules.specs.SharedWords.{made_by, maker_part, stored_by, stored_in, value_in}
@@ -88,7 +88,7 @@ stores_silent t (Done i) q is = refl
 stores_silent t (End i) q is = refl
 
 module _ (p : Plan) (split : ℕ) (s : State) (sound : Sound p (run_wiring p) (meaning_row p) s) (fit : SlotWordsFit s) (id : ℕ) where
-  few_slots : (i : ℕ) → i < length (run_wiring p).tasks → (wired (run_wiring p) i).slots < 2 ^ 32
+  few_slots : (i : ℕ) → i < length (run_wiring p).tasks → (wired_task (run_wiring p) i).slots < 2 ^ 32
   few_slots i below = slots_few p All i (let n = wired_tasks p All in omega arith)
 
   -- ---- refusal and the maker's part
@@ -99,7 +99,7 @@ module _ (p : Plan) (split : ℕ) (s : State) (sound : Sound p (run_wiring p) (m
       releaser_refused (run_wiring p) s e mine ∙ (ap (λ (x : ReleaserPart). releaser_refusal (run_wiring p) x e) (sym me.1) ∙ free)
   allowed (Task i t) shown e mine free =
       let me = task_at split s id i t shown in
-      task_refused (run_wiring p) s e i refl mine ∙ (ap (λ (x : TaskPart). task_refusal (wired (run_wiring p) i) x e) (sym me.1) ∙ free)
+      task_refused (run_wiring p) s e i refl mine ∙ (ap (λ (x : TaskPart). task_refusal (wired_task (run_wiring p) i) x e) (sym me.1) ∙ free)
 
   pub maker : (v : Role) → ShowsRole split s id v → (e : Step) → made_by e ≡ task_of v → maker_part s e ≡ task_part_of v
   maker (Releaser r seats) shown e mine = rw mine refl
@@ -124,7 +124,7 @@ module _ (p : Plan) (split : ℕ) (s : State) (sound : Sound p (run_wiring p) (m
         rw me.0 (ap (λ (x : ReleaserPart). releaser_after (run_wiring p) x e l) me.1 ∙ sym (releaser_moved p (run_wiring p) s e mine), me.2)
     moved (Task i t) shown mine below =
         let me = task_at split s id i t shown in
-        rw me.0 (refl, ap (λ (x : TaskPart). task_after (wired (run_wiring p) i) x e l) me.1 ∙ sym (task_moved p (run_wiring p) s e i (task_there i (below i refl)) mine))
+        rw me.0 (refl, ap (λ (x : TaskPart). task_after (wired_task (run_wiring p) i) x e l) me.1 ∙ sym (task_moved p (run_wiring p) s e i (task_there i (below i refl)) mine))
 
     pub in_range : (v : Role) → ShowsRole split s id v → made_by e ≡ task_of v → ((i : ℕ) → task_of v ≡ Some i → i < length p.diagram.tasks) → RoleLoads (run_wiring p) v e l
     in_range (Releaser r seats) shown mine below =
@@ -231,13 +231,13 @@ module _ (p : Plan) (split : ℕ) (s : State) (sound : Sound p (run_wiring p) (m
       (subst (λ (y : TaskPart × ℤ). IsMeant p (meaning_of p) i (y.0.ended + 1) r y.1) (λ z. (sym is z, word z)) takes.meant)
 
   look_promised : (i j r : ℕ) (t : TaskPart) → i < length p.diagram.tasks → t ≡ (task s i).part → j ≡ i → rule.refusal (run_wiring p) s (Look j r) ≡ None
-      → 0 < (link (run_wiring p) (slice_index_or (declared p i).reads r no_read).link).delay
-      → is_stamp_of (read_order_in (wired (run_wiring p) i) t (turn_at t.place)) (rule.read_slot (run_wiring p) s j (turn_at (task s j).part.place)).stamp ≡ true
+      → 0 < (link (run_wiring p) (slice_index_or (declared_task p i).reads r no_read).link).delay
+      → is_stamp_of (read_order_in (wired_task (run_wiring p) i) t (turn_at t.place)) (rule.read_slot (run_wiring p) s j (turn_at (task s j).part.place)).stamp ≡ true
   look_promised i j r t named is one free late =
       let free_here = subst (λ (k : ℕ). rule.refusal (run_wiring p) s (Look k r) ≡ None) one free in
       let ready = ready_is i r (delayed_hears p (run_wiring p) (meaning_row p) s (own_wiring p All) sound i r named free_here late) in
-      subst (λ (k : ℕ). is_stamp_of (read_order_in (wired (run_wiring p) i) t (turn_at t.place)) (rule.read_slot (run_wiring p) s k (turn_at (task s k).part.place)).stamp ≡ true) (sym one)
-      (ap (λ (x : TaskPart). is_stamp_of (read_order_in (wired (run_wiring p) i) x (turn_at x.place)) (rule.read_slot (run_wiring p) s i (turn_at (task s i).part.place)).stamp) is ∙ ready)
+      subst (λ (k : ℕ). is_stamp_of (read_order_in (wired_task (run_wiring p) i) t (turn_at t.place)) (rule.read_slot (run_wiring p) s k (turn_at (task s k).part.place)).stamp ≡ true) (sym one)
+      (ap (λ (x : TaskPart). is_stamp_of (read_order_in (wired_task (run_wiring p) i) x (turn_at x.place)) (rule.read_slot (run_wiring p) s i (turn_at (task s i).part.place)).stamp) is ∙ ready)
 
   pub promised : (v : Role) → ShowsRole split s id v → (e : Step) → made_by e ≡ task_of v → ((i : ℕ) → task_of v ≡ Some i → i < length p.diagram.tasks) → rule.refusal (run_wiring p) s e ≡ None → RolePromise p v e (rule.loaded_value (run_wiring p) s e)
   promised (Releaser r seats) shown e mine below free = tt

@@ -2,14 +2,14 @@
 use Rattle.std.specs.Prelude.{◌≡◌, ℕ, ℤ, pos, ◌+◌, ◌<◌, true, FitsSigned, slice_index_or, List, Option, Some, None}
 use Rattle.std.specs.Int.{w64}
 use Rattle.dbp_plan.specs.declared.plan.Plan.{Plan}
-use Rattle.dbp_plan.specs.Lookups.{declared, no_read}
+use Rattle.dbp_plan.specs.Lookups.{declared_task, no_read}
 use Rattle.dbp_slots.specs.TableWords.{TableWord}
 use Rattle.sync_meaning.specs.SomeMeaning.{meaning_of}
 use Rattle.dbp_plan.specs.Table.{table_row}
 use Rattle.dbp_rules.specs.LoadedWords.{loaded_in, loaded_word, number_of_releaser, number_of_task}
 use Rattle.dbp_rules.specs.PartyRules.{Loaded, is_stamp_of, loaded_number, read_order_in, releaser_after, releaser_refusal, task_after, task_refusal, turn_at}
 use Rattle.dbp_rules.specs.PartyShapes.{ReleaserLoads, ReleaserShape, TaskLoads, TaskPartShape}
-use Rattle.dbp_rules.specs.Places.{link, no_task, wired}
+use Rattle.dbp_rules.specs.Places.{link, no_task, wired_task}
 use Rattle.dbp_rules.specs.Promises.{IsMeant}
 use Rattle.dbp_rules.specs.SharedWords.{stored_in}
 use Rattle.dbp_rules.specs.Wired.{wiring_of}
@@ -43,12 +43,12 @@ task_part_of (Task i t) = t
 -- why its part doesn't allow the step, if so
 abbrev pub role_refusal : Wiring → Role → Step → Option Illegal
 role_refusal w (Releaser r seats) e = releaser_refusal w r e
-role_refusal w (Task i t) e = task_refusal (wired w i) t e
+role_refusal w (Task i t) e = task_refusal (wired_task w i) t e
 
 -- what an allowed step makes of it, from what it loads
 abbrev pub role_after : Wiring → Role → Step → Loaded → Role
 role_after w (Releaser r seats) e l = Releaser (releaser_after w r e l) seats
-role_after w (Task i t) e l = Task i (task_after (wired w i) t e l)
+role_after w (Task i t) e l = Task i (task_after (wired_task w i) t e l)
 
 -- the word that the step loads, and the one that it stores, if there is one
 abbrev pub word_loaded : Wiring → Role → Step → Option TableWord
@@ -81,6 +81,6 @@ RoleShape p (Task i t) = TaskPartShape (run_wiring p) i t
 -- instance, and a look over a delayed link finds its row.
 abbrev pub RolePromise : Plan → Role → Step → Loaded → Type 0
 RolePromise p (Task i t) (Take j r) l = IsMeant p (meaning_of p) i (t.ended + 1) r (loaded_word l)
-RolePromise p (Task i t) (Look j r) l = 0 < (link (run_wiring p) (slice_index_or (declared p i).reads r no_read).link).delay
-    → is_stamp_of (read_order_in (wired (run_wiring p) i) t (turn_at t.place)) (loaded_number l) ≡ true
+RolePromise p (Task i t) (Look j r) l = 0 < (link (run_wiring p) (slice_index_or (declared_task p i).reads r no_read).link).delay
+    → is_stamp_of (read_order_in (wired_task (run_wiring p) i) t (turn_at t.place)) (loaded_number l) ≡ true
 RolePromise p _ _ _ = Unit {0}

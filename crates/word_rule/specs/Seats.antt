@@ -1,7 +1,7 @@
 -- What ties a seat to its table, and a step to its seat.
 use Rattle.std.specs.Prelude.{◌≡◌, ℕ, ◌+◌, None}
 use Rattle.dbp_rules.specs.PartyRules.{task_refusal}
-use Rattle.dbp_rules.specs.Places.{wired}
+use Rattle.dbp_rules.specs.Places.{wired_task}
 use Rattle.dbp_rules.specs.declared.step.Step.TheVariants.{Start}
 use Rattle.word_rule.specs.declared.seats.ReleaserSeat.{ReleaserSeat}
 use Rattle.word_rule.specs.declared.seats.SlotWords.{SlotWords}
@@ -37,4 +37,4 @@ pub record TaskSteps (old new : TaskSeat) : Type 0 where
 
 -- the task may load its gate
 abbrev pub MayStart : SlotWords → TaskSeat → Type 0
-MayStart w s = TaskSits w s × (task_refusal (wired w.wiring s.task) s.part (Start s.task) ≡ None)
+MayStart w s = TaskSits w s × (task_refusal (wired_task w.wiring s.task) s.part (Start s.task) ≡ None)

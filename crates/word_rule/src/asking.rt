@@ -2,7 +2,7 @@
 
 ghost use Rattle.std.specs.Prelude.{◌≡◌};
 ghost use Rattle.dbp_rules.specs.PartyRules.{releaser_refusal, task_refusal};
-ghost use Rattle.dbp_rules.specs.Places.{wired};
+ghost use Rattle.dbp_rules.specs.Places.{wired_task};
 ghost use Rattle.dbp_rules.specs.Rules.{IsNamed};
 ghost use Rattle.word_rule.specs.Seats.{ReleaserSits, TaskSits};
 
@@ -45,7 +45,7 @@ impl TaskSeat {
     /// Why its part doesn't allow the step, if so.
     pub fn refusal(&self, words: &SlotWords, step: Step) -> Option<Illegal>
         requires { TaskSits words.now self.now }
-        ensures { result ≡ task_refusal (wired words.now.wiring self.now.task) self.now.part step }
+        ensures { result ≡ task_refusal (wired_task words.now.wiring self.now.task) self.now.part step }
     {
         self.part.refusal(words.wiring.task(self.task), step)
     }

@@ -4,7 +4,7 @@ ghost use Rattle.std.specs.Prelude.{◌≡◌, ℕ, ◌<◌, ◌≤◌, MatchBoo
 ghost use Rattle.dbp_slots.specs.TableWords.{address_of, sizes_of};
 ghost use Rattle.dbp_rules.specs.LoadedWords.{word_of_order};
 ghost use Rattle.dbp_rules.specs.PartyRules.{a_number, an_order, hears_at, is_opened_by, task_after, task_refusal};
-ghost use Rattle.dbp_rules.specs.Places.{wired};
+ghost use Rattle.dbp_rules.specs.Places.{wired_task};
 ghost use Rattle.dbp_rules.specs.Shapes.{OrderFits, PlaceIn, slot_owner};
 ghost use Rattle.dbp_rules.specs.declared.step.Step.TheVariants.{Hear, Start};
 ghost use Rattle.word_rule.specs.Seats.{TaskSits, TaskSteps};
@@ -18,9 +18,9 @@ impl SlotWords {
     /// Loads the task's gate, and begins the task's next instance if it is open for that. Else it returns the gate.
     pub fn start(&self, seat: &mut TaskSeat) -> Opened
         requires here { TaskSits self.now seat.old }
-        requires allowed { task_refusal (wired self.now.wiring seat.old.task) seat.old.part (Start seat.old.task) ≡ None }
+        requires allowed { task_refusal (wired_task self.now.wiring seat.old.task) seat.old.part (Start seat.old.task) ≡ None }
         ensures step { TaskSteps seat.old seat.new }
-        ensures part { (gate : ℕ) × (seat.new.part ≡ task_after (wired self.now.wiring seat.old.task) seat.old.part (Start seat.old.task) (a_number gate))
+        ensures part { (gate : ℕ) × (seat.new.part ≡ task_after (wired_task self.now.wiring seat.old.task) seat.old.part (Start seat.old.task) (a_number gate))
             × MatchBool (is_opened_by seat.old.part gate) (result ≡ Started) (result ≡ Closed gate) }
     {
         let address = self.layout.gate(seat.task);
@@ -38,10 +38,10 @@ impl SlotWords {
     /// Loads the task's next order and returns it: first its own, then that of each link into it.
     pub fn hear(&self, seat: &mut TaskSeat) -> Order
         requires here { TaskSits self.now seat.old }
-        requires allowed { task_refusal (wired self.now.wiring seat.old.task) seat.old.part (Hear seat.old.task) ≡ None }
+        requires allowed { task_refusal (wired_task self.now.wiring seat.old.task) seat.old.part (Hear seat.old.task) ≡ None }
         ensures step { TaskSteps seat.old seat.new }
-        ensures part { seat.new.part ≡ task_after (wired self.now.wiring seat.old.task) seat.old.part (Hear seat.old.task) (an_order result) }
-        ensures fits { OrderFits (wired self.now.wiring (slot_owner self.now.wiring seat.old.task (hears_at seat.old.part.place))) result }
+        ensures part { seat.new.part ≡ task_after (wired_task self.now.wiring seat.old.task) seat.old.part (Hear seat.old.task) (an_order result) }
+        ensures fits { OrderFits (wired_task self.now.wiring (slot_owner self.now.wiring seat.old.task (hears_at seat.old.part.place))) result }
     {
         let address = self.order_address(seat.task, seat.part.place);
         let found = self
@@ -56,7 +56,7 @@ impl SlotWords {
     // The address of the order that a task hears at the place.
     fn order_address(&self, task: u32, place: Place) -> u32
         requires task { task < length self.now.plan.diagram.tasks }
-        requires place { PlaceIn (wired self.now.wiring task) place }
+        requires place { PlaceIn (wired_task self.now.wiring task) place }
         ensures { result ≡ address_of (sizes_of self.now.plan.diagram) (word_of_order self.now.wiring task (hears_at place)) }
     {
         match place {

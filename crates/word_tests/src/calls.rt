@@ -2,7 +2,7 @@
 
 ghost use Rattle.std.specs.Prelude.{◌≡◌, IsTrue, None, OnOk};
 ghost use Rattle.dbp_rules.specs.PartyRules.{task_refusal};
-ghost use Rattle.dbp_rules.specs.Places.{wired};
+ghost use Rattle.dbp_rules.specs.Places.{wired_task};
 ghost use Rattle.dbp_rules.specs.Rules.{IsNamed};
 ghost use Rattle.sync_meaning.specs.SomeMeaning.{meaning_of};
 ghost use Rattle.word_rule.specs.Seats.{ReleaserSits, TaskSits};
@@ -61,7 +61,7 @@ pub(crate) fn seen(words: &SlotWords, seat: &mut ReleaserSeat, task: u32) -> Res
 // Fails if the task's part doesn't allow the step.
 fn ask(words: &SlotWords, seat: &TaskSeat, step: Step) -> Result<(), Fail>
     requires { TaskSits words.now seat.now }
-    ensures { OnOk result (task_refusal (wired words.now.wiring seat.now.task) seat.now.part step ≡ None) }
+    ensures { OnOk result (task_refusal (wired_task words.now.wiring seat.now.task) seat.now.part step ≡ None) }
 {
     if seat.refusal(words, step).is_some() {
         return Err(Fail::from("not allowed"));

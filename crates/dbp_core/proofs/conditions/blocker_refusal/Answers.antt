@@ -1,5 +1,5 @@
 use Rattle.std.proofs.Common.{◌≡◌, ◌<◌, ℕ, None, false, length, arith, refl, subst}
-use Rattle.dbp_rules.specs.Places.{wired}
+use Rattle.dbp_rules.specs.Places.{wired_task}
 use Rattle.dbp_rules.specs.Rules as rule
 use Rattle.dbp_rules.specs.declared.wiring.TaskWiring.{TaskWiring}
 use Rattle.dbp_core.specs.Unfinished.{has_rank}
@@ -9,7 +9,7 @@ use Rattle.dbp_core.proofs.conditions.blocker_refusal.Goals as goal
 pub returns-then-not-has_above : goal.returns-then-not-has_above
 returns-then-not-has_above c =
     let w = c.args.wiring.now in
-    let above : (r : ℕ) → r < (wired c.args.wiring.now c.args.i).rank → has_rank c.args.unfinished r ≡ false =
+    let above : (r : ℕ) → r < (wired_task c.args.wiring.now c.args.i).rank → has_rank c.args.unfinished r ≡ false =
     subst (λ (t : TaskWiring). (r : ℕ) → r < t.rank → has_rank c.args.unfinished r ≡ false) c.wired_at.ensures (c.has_above.ensures.none (search)) in
     let none : rule.highest c.args.wiring.now (rule.blocks c.args.wiring.now c.args.state.now c.args.i) (length c.args.wiring.now.tasks) ≡ None =
     none_blocks c.args.wiring.now c.args.state.now c.args.unfinished c.args.i c.requires.ranks above (length c.args.wiring.now.tasks) (omega arith) in

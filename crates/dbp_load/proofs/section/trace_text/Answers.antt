@@ -3,7 +3,7 @@ use Rattle.std.specs.Prelude.{codes}
 use Rattle.std.proofs.lemmas.List.{append_assoc}
 use Rattle.trace_rows.specs.Written.{written_row, written_section}
 use Rattle.dbp_load.specs.Bodies.{trace_row}
-use Rattle.dbp_load.specs.Listed.{listed}
+use Rattle.dbp_load.specs.Listed.{first_items}
 use Rattle.dbp_load.proofs.SectionText.{one-row-more}
 use Rattle.dbp_load.proofs.section.trace_text.Goals as goal
 
@@ -12,7 +12,7 @@ loop-number-preserved c =
     let size = c.args.size in
     let n = c.loop-number.number in
     let row = written_row (trace_row size n) in
-    let before = written_section (codes "g" ∷ []) (listed (trace_row size) n) in
+    let before = written_section (codes "g" ∷ []) (first_items (trace_row size) n) in
     record {
       text = c.in_ok-push_row.ensures.text
           ∙ ap (λ (text : List ℕ). (text ++ row) ++ 10 ∷ []) c.loop-number.invariant.text

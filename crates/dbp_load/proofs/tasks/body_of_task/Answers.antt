@@ -7,7 +7,7 @@ use Rattle.dbp_plan.specs.Tree.{nodes_of}
 use Rattle.dbp_load.specs.Bodies.{early_count, early_read, few_early, few_reads, has_late, late_read, late_reads, names_of_reads}
 use Rattle.dbp_load.specs.Draws.{after_draws}
 use Rattle.dbp_load.specs.Expressions.{next_expr, out_expr, out_tree}
-use Rattle.dbp_load.specs.Listed.{listed}
+use Rattle.dbp_load.specs.Listed.{first_items}
 use Rattle.dbp_load.proofs.DrawLaws.{draws-add}
 use Rattle.dbp_load.proofs.ExpressionNodes.{same-nodes}
 use Rattle.dbp_load.proofs.ListedItems.{length-listed}
@@ -23,7 +23,7 @@ out_value-requires c =
 pub push_late_read-requires-clause-room : goal.push_late_read-requires-clause-room
 push_late_read-requires-clause-room c =
     let n = c.args.number in
-    let reads = listed (early_read c.args.draws.now n) (early_count n) in
+    let reads = first_items (early_read c.args.draws.now n) (early_count n) in
     omega (
       arith,
       ap length c.in_ok-push_early_reads.ensures.parts,
@@ -40,7 +40,7 @@ push_late_read-requires-clause-room c =
 pub push-requires-3 : goal.push-requires-3
 push-requires-3 c =
     let n = c.args.number in
-    let reads = listed (early_read c.args.draws.now n) (early_count n) in
+    let reads = first_items (early_read c.args.draws.now n) (early_count n) in
     let read = late_read c.args.size c.push_early_reads.new.draws n 0 in
     omega (
       arith,
@@ -61,7 +61,7 @@ push-requires-3 c =
 pub push-requires-4 : goal.push-requires-4
 push-requires-4 c =
     let n = c.args.number in
-    let reads = listed (early_read c.args.draws.now n) (early_count n) in
+    let reads = first_items (early_read c.args.draws.now n) (early_count n) in
     let read = late_read c.args.size c.push_early_reads.new.draws n 0 in
     omega (
       arith,
@@ -96,7 +96,7 @@ returns-clause-parts c =
     let two : c.push-2.new.self ≡ first =
     c.in_ok-push-2.ensures.ok ∙ ap (λ (ps : List Part). ps ++ Sense c.name-2.result c.name-3.result ∷ []) c.in_ok-push.ensures.ok
     ∙ (λ j. (c.new-parts.ensures j ++ State (c.name.ensures j) (pos 0) ∷ []) ++ Sense (c.name-2.ensures j) (c.name-3.ensures j) ∷ []) in
-    let reads = listed (early_read start n) early in
+    let reads = first_items (early_read start n) early in
     let drawn_read : late_read size c.push_early_reads.new.draws n 0 ≡ late_read size start n early =
     ap (λ (d : ℕ). late_read size d n 0) c.in_ok-push_early_reads.ensures.draws in
     let next = Next c.name-4.result c.in_ok-next.next in

@@ -1,7 +1,7 @@
 use Rattle.std.proofs.Common.{◌⊎◌, Contains, below_more, ap, arith}
 use Rattle.dbp_slots.proofs.FreeSlots.{one_free}
 use Rattle.dbp_rules.specs.PartyRules.{claimed_in, kept_after_aim}
-use Rattle.dbp_rules.specs.Places.{entry_in, wired}
+use Rattle.dbp_rules.specs.Places.{entry_in, wired_task}
 use Rattle.dbp_rules.specs.declared.wiring.TaskWiring.{TaskWiring}
 use Rattle.dbp_rules.proofs.aiming.least_of_few.Goals as goal
 
@@ -12,5 +12,5 @@ loop-slot-preserved c =
 
 pub unreachable-requires : goal.unreachable-requires
 unreachable-requires c =
-    one_free (claimed_in c.args.wiring.now c.args.part.now c.args.i) (kept_after_aim (entry_in c.args.part.now c.args.i)) (wired c.args.wiring.now c.args.i).slots
+    one_free (claimed_in c.args.wiring.now c.args.part.now c.args.i) (kept_after_aim (entry_in c.args.part.now c.args.i)) (wired_task c.args.wiring.now c.args.i).slots
     c.requires.room (λ s below. c.loop-slot.invariant s (omega (arith, below, c.loop-slot-test.false, ap (λ (t : TaskWiring). t.slots) c.task.ensures)))

@@ -4,7 +4,7 @@ use Rattle.std.specs.Prelude.{◌==◌}
 use Rattle.std.proofs.lemmas.Bool.{and_parts}
 use Rattle.std.proofs.lemmas.List.{take_all}
 use Rattle.std.specs.List.{find}
-use Rattle.dbp_rules.specs.Places.{link, wired}
+use Rattle.dbp_rules.specs.Places.{link, wired_task}
 use Rattle.dbp_rules.specs.PartyRules as rule
 use Rattle.dbp_rules.specs.Wired.{links_at}
 use Rattle.dbp_rules.specs.declared.parts.ReleaserPart.{ReleaserPart}
@@ -16,7 +16,7 @@ use Rattle.dbp_rules.proofs.Searches.{find_among, find_at, find_past}
 use Rattle.dbp_rules.proofs.releaser_steps.claiming_link.Goals as goal
 
 -- the items of the loop are the links that leave the task
-leaving : (w : Wiring) (i : ℕ) (t : TaskWiring) (items : List ℕ) → items ≡ t.leaving → t ≡ wired w i → (wired w i).leaving ≡ links_at Writer w.links i → items ≡ links_at Writer w.links i
+leaving : (w : Wiring) (i : ℕ) (t : TaskWiring) (items : List ℕ) → items ≡ t.leaving → t ≡ wired_task w i → (wired_task w i).leaving ≡ links_at Writer w.links i → items ≡ links_at Writer w.links i
 leaving w i t items own is all = own ∙ ap (λ (x : TaskWiring). x.leaving) is ∙ all
 
 -- the first of them that claims the slot is the least link that does

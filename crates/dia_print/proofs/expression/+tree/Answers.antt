@@ -6,7 +6,7 @@ use Rattle.dia_tokens.specs.declared.token.Word.TheVariants.{If, Then, Else}
 use Rattle.dia_tokens.specs.declared.token.Symbol.TheVariants.{Open, Close, Comma}
 use Rattle.dia_print.specs.ExpressionTokens.{tokens_of, operand_tokens, enclosed, prefix_token, operator_token}
 use Rattle.dia_print.specs.Printed.{with_tokens}
-use Rattle.dia_print.proofs.PrintedTokens.{behind, OnOk-map}
+use Rattle.dia_print.proofs.PrintedTokens.{after, OnOk-map}
 use Rattle.dia_print.proofs.TreePlaces.{within, found, compound-at, at-number, at-variable, at-unary, at-binary, at-choice}
 use Rattle.dia_print.proofs.expression.+tree.Goals as goal
 
@@ -66,7 +66,7 @@ push_tree-returns-in_ok-push-in-Un t c x s =
     let n = at-unary c.args.nodes.now c.args.place x c.in-Un.op c.in-Un.operand (found c.args.nodes.now c.args.place x _ _ s c.index-nodes-place.is c.in-Un.is) s in
     let token = c.prefix_token.ensures in
     let first = rw token at (c.in_ok-push-in-Un.ensures) in
-    rw n.1 (OnOk-map c.push_operand.result (c.push_operand.ensures n.0 n.3) (λ e. behind _ _ _ (prefix_token c.in-Un.op ∷ []) (operand_tokens n.0) first e))
+    rw n.1 (OnOk-map c.push_operand.result (c.push_operand.ensures n.0 n.3) (λ e. after _ _ _ (prefix_token c.in-Un.op ∷ []) (operand_tokens n.0) first e))
 
 pub push_tree-returns-then-is_call : goal.push_tree-returns-then-is_call
 push_tree-returns-then-is_call t c x s =
@@ -81,7 +81,7 @@ push_tree-returns-in_ok-push-in-Bin t c x s =
     let first = c.in_ok-push_operand-in-Bin.ensures n.0 n.5 in
     let second = rw c.operator_token.ensures at (c.in_ok-push-in-Bin.ensures) in
     rw (n.2, ← call) (OnOk-map c.push_operand-in-Bin-2.result (c.push_operand-in-Bin-2.ensures n.1 n.6) (λ e.
-    behind _ _ _ (operand_tokens n.0) (operator_token c.in-Bin.op ∷ operand_tokens n.1) first (behind _ _ _ (operator_token c.in-Bin.op ∷ []) (operand_tokens n.1) second e)))
+    after _ _ _ (operand_tokens n.0) (operator_token c.in-Bin.op ∷ operand_tokens n.1) first (after _ _ _ (operator_token c.in-Bin.op ∷ []) (operand_tokens n.1) second e)))
 
 pub push_tree-returns-in-Pick : goal.push_tree-returns-in-Pick
 push_tree-returns-in-Pick t c x s =
@@ -92,22 +92,22 @@ pub push_call-returns : goal.push_call-returns
 push_call-returns t c x y s u =
     let first = rw c.operator_token.ensures at (c.in_ok-push.ensures) in
     OnOk-map c.push-4.result c.push-4.ensures (λ e.
-    behind _ _ _ (operator_token c.args.op ∷ []) (Symbol Open ∷ (tokens_of x ++ Symbol Comma ∷ (tokens_of y ++ Symbol Close ∷ []))) first
-    (behind _ _ _ (Symbol Open ∷ []) (tokens_of x ++ Symbol Comma ∷ (tokens_of y ++ Symbol Close ∷ [])) (c.in_ok-push-2.ensures)
-    (behind _ _ _ (tokens_of x) (Symbol Comma ∷ (tokens_of y ++ Symbol Close ∷ [])) (c.in_ok-push_tree.ensures x s)
-    (behind _ _ _ (Symbol Comma ∷ []) (tokens_of y ++ Symbol Close ∷ []) (c.in_ok-push-3.ensures)
-    (behind _ _ _ (tokens_of y) (Symbol Close ∷ []) (c.in_ok-push_tree-2.ensures y u) e)))))
+    after _ _ _ (operator_token c.args.op ∷ []) (Symbol Open ∷ (tokens_of x ++ Symbol Comma ∷ (tokens_of y ++ Symbol Close ∷ []))) first
+    (after _ _ _ (Symbol Open ∷ []) (tokens_of x ++ Symbol Comma ∷ (tokens_of y ++ Symbol Close ∷ [])) (c.in_ok-push-2.ensures)
+    (after _ _ _ (tokens_of x) (Symbol Comma ∷ (tokens_of y ++ Symbol Close ∷ [])) (c.in_ok-push_tree.ensures x s)
+    (after _ _ _ (Symbol Comma ∷ []) (tokens_of y ++ Symbol Close ∷ []) (c.in_ok-push-3.ensures)
+    (after _ _ _ (tokens_of y) (Symbol Close ∷ []) (c.in_ok-push_tree-2.ensures y u) e)))))
 
 pub push_choice-returns : goal.push_choice-returns
 push_choice-returns t c d x y s u v =
     let last = operand_tokens y in
     let second = operand_tokens x in
     OnOk-map c.push_operand-3.result (c.push_operand-3.ensures y v) (λ e.
-    behind _ _ _ (Word If ∷ []) (operand_tokens d ++ Word Then ∷ (second ++ Word Else ∷ last)) (c.in_ok-push.ensures)
-    (behind _ _ _ (operand_tokens d) (Word Then ∷ (second ++ Word Else ∷ last)) (c.in_ok-push_operand.ensures d s)
-    (behind _ _ _ (Word Then ∷ []) (second ++ Word Else ∷ last) (c.in_ok-push-2.ensures)
-    (behind _ _ _ second (Word Else ∷ last) (c.in_ok-push_operand-2.ensures x u)
-    (behind _ _ _ (Word Else ∷ []) last (c.in_ok-push-3.ensures) e)))))
+    after _ _ _ (Word If ∷ []) (operand_tokens d ++ Word Then ∷ (second ++ Word Else ∷ last)) (c.in_ok-push.ensures)
+    (after _ _ _ (operand_tokens d) (Word Then ∷ (second ++ Word Else ∷ last)) (c.in_ok-push_operand.ensures d s)
+    (after _ _ _ (Word Then ∷ []) (second ++ Word Else ∷ last) (c.in_ok-push-2.ensures)
+    (after _ _ _ second (Word Else ∷ last) (c.in_ok-push_operand-2.ensures x u)
+    (after _ _ _ (Word Else ∷ []) last (c.in_ok-push-3.ensures) e)))))
 
 pub push_operand-returns-then-not-is_compound : goal.push_operand-returns-then-not-is_compound
 push_operand-returns-then-not-is_compound t c x s =
@@ -121,5 +121,5 @@ push_operand-returns t c x s =
     let compound = c.if-not-is_compound.ensures ∙ compound-at c.args.nodes.now c.args.place x c.index-nodes-place.result s place in
     subst (λ b. OnOk c.push-2.result (c.push-2.new.self ≡ with_tokens c.args.printer.now (enclosed b (tokens_of x)))) compound
     (OnOk-map c.push-2.result c.push-2.ensures (λ e.
-    behind _ _ _ (Symbol Open ∷ []) (tokens_of x ++ Symbol Close ∷ []) (c.in_ok-push.ensures)
-    (behind _ _ _ (tokens_of x) (Symbol Close ∷ []) (c.in_ok-push_tree.ensures x s) e)))
+    after _ _ _ (Symbol Open ∷ []) (tokens_of x ++ Symbol Close ∷ []) (c.in_ok-push.ensures)
+    (after _ _ _ (tokens_of x) (Symbol Close ∷ []) (c.in_ok-push_tree.ensures x s) e)))

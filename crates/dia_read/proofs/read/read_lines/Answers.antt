@@ -16,7 +16,7 @@ loop-rest-init c = rw c.new-draft.ensures (reached-start c.args.bytes.now c.star
 pub add-requires-clause-kept : goal.add-requires-clause-kept
 add-requires-clause-kept c =
     let i = c.loop-rest.invariant in
-    let read = c.in-Ok.ensures.found i.before i.behind in
+    let read = c.in-Ok.ensures.found i.before i.after in
     kept-short i.before c.next_line.result.0.now read.0 c.in-Ok.item read.1 read.2
 
 pub returns-in-Err-clause-fault : goal.returns-in-Err-clause-fault
@@ -24,12 +24,12 @@ returns-in-Err-clause-fault c =
     let i = c.loop-rest.invariant in
     let first = first-line c.args.bytes.now c.loop-rest.rest.now c.loop-rest.number c.loop-rest.position c.loop-rest.draft i c.next_line.result.0.now c.next_line.result.1.now
     c.next_line.ensures.value c.next_line.ensures.shorter c.next_line.ensures.within in
-    rw c.refused_at.ensures (refused c.args.bytes.now c.loop-rest.number i.before c.next_line.result.0.now c.in-Err.error c.requires.full (c.in-Err.ensures.fault i.before i.behind) first)
+    rw c.refused_at.ensures (refused c.args.bytes.now c.loop-rest.number i.before c.next_line.result.0.now c.in-Err.error c.requires.full (c.in-Err.ensures.fault i.before i.after) first)
 
 pub loop-rest-preserved : goal.loop-rest-preserved
 loop-rest-preserved c =
     let i = c.loop-rest.invariant in
-    let read = c.in-Ok.ensures.found i.before i.behind in
+    let read = c.in-Ok.ensures.found i.before i.after in
     let kept = kept-is i.before c.next_line.result.0.now read.0 c.in-Ok.item read.1 read.2 in
     let more = reached-more c.args.bytes.now c.loop-rest.rest.now c.loop-rest.number c.loop-rest.position c.loop-rest.draft i c.next_line.result.0.now c.next_line.result.1.now
     c.next_line.ensures.value c.next_line.ensures.shorter c.next_line.ensures.within c.in-Ok.item c.in-Ok.next read in

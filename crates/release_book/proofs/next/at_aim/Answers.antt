@@ -1,5 +1,5 @@
 use Rattle.std.proofs.Common.{◌≡◌, length, sym, subst, arith}
-use Rattle.dbp_rules.specs.Places.{entry_in, wired}
+use Rattle.dbp_rules.specs.Places.{entry_in, wired_task}
 use Rattle.dbp_rules.specs.Promises.{HasFreeSlotIn}
 use Rattle.dbp_rules.specs.declared.step.Count.TheVariants.{All}
 use Rattle.dbp_rules.specs.declared.wiring.Wiring.{Wiring}
@@ -31,4 +31,4 @@ least_aim-slot-requires-clause-room c =
     let kept = (c.requires.shape.each_entry c.args.task inside).kept in
     subst (λ (w : Wiring). HasFreeSlotIn w part c.args.task) (sym c.requires.wired)
     (has_free_slot plan All part c.args.task (omega (arith, inside, whole.tasks))
-    (subst (λ (w : Wiring). length (entry_in part c.args.task).kept ≡ (wired w c.args.task).kept) c.requires.wired kept))
+    (subst (λ (w : Wiring). length (entry_in part c.args.task).kept ≡ (wired_task w c.args.task).kept) c.requires.wired kept))

@@ -2,8 +2,8 @@
 use Rattle.std.proofs.Common.{◌≡◌, None, length}
 use Rattle.std.specs.Prelude.{nat_lt}
 use Rattle.dbp_rules.specs.PartyRules.{least}
-use Rattle.dbp_rules.specs.Places.{entry_in, wired}
+use Rattle.dbp_rules.specs.Places.{entry_in, wired_task}
 use Rattle.release_book.proofs.next.first_unended.Given as goal
 
 abbrev pub invariant-loop-task : goal.invariant-loop-task
-invariant-loop-task l = least (λ i. nat_lt (entry_in l.part i).known (length (wired l.wiring i).times)) l.task ≡ None
+invariant-loop-task l = least (λ i. nat_lt (entry_in l.part i).known (length (wired_task l.wiring i).times)) l.task ≡ None

@@ -9,14 +9,14 @@ use Rattle.dbp_plan.proofs.FirstFaults.{first-here, first-later}
 use Rattle.trace_rows.specs.Cells.{cell_under, is_one, time_of}
 use Rattle.trace_rows.specs.Columns.{HasSaid, nothing, said_samples, times_with}
 use Rattle.trace_rows.specs.Headers.{kind_of_column}
-use Rattle.trace_rows.specs.Rows.{fault_behind, row_fault, row_faults}
+use Rattle.trace_rows.specs.Rows.{fault_after, row_fault, row_faults}
 use Rattle.trace_rows.specs.declared.cell.Said.{Said}
 use Rattle.trace_rows.specs.declared.rows.TheConstants.{MAX_ROWS}
 use Rattle.trace_rows.specs.Values.{event_times, row_samples}
 use Rattle.trace_rows.proofs.ColumnCells.{mark-of-event, row-samples}
 use Rattle.trace_rows.proofs.EventTimes.{room-times, row-times}
 use Rattle.trace_rows.proofs.Timetable.{event-times-count}
-use Rattle.trace_rows.proofs.RowTimes.{fault-at, few-behind}
+use Rattle.trace_rows.proofs.RowTimes.{fault-at, few-after}
 use Rattle.trace_rows.proofs.rows.row_values.Goals as goal
 
 pub returns-in-Err-clause-fault : goal.returns-in-Err-clause-fault
@@ -34,12 +34,12 @@ returns-in-Err-clause-fault c line code same =
     c.copied-before.ensures ∙ c.last.ensures.value ∙ ap (λ (ts : List ℕ). slice_get ts (length ts - 1)) c.items.ensures.value in
     let told : row_fault c.args.until kinds (k + 1) c.copied-before.result row ≡ Some c.in-Err.code =
     ap (λ ks. row_fault c.args.until ks (k + 1) c.copied-before.result row) (sym c.deref.ensures.value) ∙ c.in-Err.ensures.fault in
-    let fault : Some c.in-Err.code ≡ fault_behind c.args.until kinds (take k rows) row =
+    let fault : Some c.in-Err.code ≡ fault_after c.args.until kinds (take k rows) row =
     sym told ∙ ap (λ b. row_fault c.args.until kinds (k + 1) b row) before ∙ fault-at c.args.until kinds rows k c.loop-place.times row (omega arith) c.loop-place.invariant.timed in
     let number : get_or lines k 0 ≡ line = cc (same, c.from.ensures) in
     let which : c.in-Err.code ≡ code = cc (same, c.from.ensures) in
     ap (λ ks. first_fault (row_faults c.args.until ks rows lines)) (sym c.in_ok-columns.ensures.kinds)
-    ∙ sym (first-here (fault_behind c.args.until kinds) rows lines k row (get_or lines k 0) c.in-Err.code c.loop-place.invariant.from below in_lines is (at-any lines k 0 in_lines) fault)
+    ∙ sym (first-here (fault_after c.args.until kinds) rows lines k row (get_or lines k 0) c.in-Err.code c.loop-place.invariant.from below in_lines is (at-any lines k 0 in_lines) fault)
     ∙ λ j. Some (number j, which j)
 
 pub push_times-requires-clause-few : goal.push_times-requires-clause-few
@@ -70,7 +70,7 @@ loop-place-preserved c =
     c.copied-before.ensures ∙ c.last.ensures.value ∙ ap (λ (ts : List ℕ). slice_get ts (length ts - 1)) c.items.ensures.value in
     let told : row_fault c.args.until kinds (k + 1) c.copied-before.result row ≡ None =
     ap (λ ks. row_fault c.args.until ks (k + 1) c.copied-before.result row) (sym c.deref.ensures.value) ∙ c.in-Ok.ensures.fault.0 in
-    let none : None ≡ fault_behind c.args.until kinds (take k rows) row =
+    let none : None ≡ fault_after c.args.until kinds (take k rows) row =
     sym told ∙ ap (λ b. row_fault c.args.until kinds (k + 1) b row) before ∙ fault-at c.args.until kinds rows k c.loop-place.times row (omega arith) c.loop-place.invariant.timed in
     let kinds_are : c.deref.result.now ≡ map (kind_of_column inputs) names = c.deref.ensures.value ∙ c.in_ok-columns.ensures.kinds in
     let count : length c.deref.result.now ≡ length names = ap (λ ks. length ks) kinds_are ∙ length-map names (kind_of_column inputs) in
@@ -96,7 +96,7 @@ loop-place-preserved c =
     ap (λ (es : List (List ℕ)). length es) times ∙ event-times-count names (take k rows ++ row ∷ []) c.args.events.now
     ∙ sym (ap (λ (es : List (List ℕ)). length es) c.loop-place.invariant.marked ∙ event-times-count names (take k rows) c.args.events.now) in
     record {
-      from = first-later (fault_behind c.args.until kinds) rows lines k row c.loop-place.invariant.from below fit is none;
+      from = first-later (fault_after c.args.until kinds) rows lines k row c.loop-place.invariant.from below fit is none;
       timed =
           c.in_ok-push-in-Ok.ensures.ok ∙ (λ j. c.loop-place.invariant.timed j ++ c.in-Ok.ensures.fault.1 j ∷ []) ∙ sym (ap (map time_of) (take-next rows k row below is) ∙ map-append time_of (take k rows) (row ∷ []));
       marked = refilled c.loop-place.marked.len c.loop-place.marked.items c.push_times.new.events marked_len marked_same ∙ times ∙ ap (λ rs. event_times names rs c.args.events.now) (sym (take-next rows k row below is));
@@ -104,6 +104,6 @@ loop-place-preserved c =
           pushed ∙ ap (λ old. old ++ row_samples names 0 inputs row) c.loop-place.invariant.sampled
           ∙ flat_map_more (row_samples names 0 inputs) [] (take k rows) row ∙ ap (flat_map (row_samples names 0 inputs)) (sym (take-next rows k row below is));
       places = ap (λ (ss : List Said). length ss) (refilled c.loop-place.said.len c.loop-place.said.items said len same) ∙ same ∙ c.loop-place.invariant.places;
-      room = few-behind c.args.until kinds (k + 1) c.copied-before.result row told;
+      room = few-after c.args.until kinds (k + 1) c.copied-before.result row told;
       few = omega (arith, c.in_ok-push_samples-in-Ok.ensures.few, c.loop-place.invariant.few, column_count, c.requires.inputs);
     }

@@ -1,7 +1,7 @@
 use Rattle.std.proofs.Common.{◌≡◌, ◌<◌, ℕ, List, ◌++◌, take, drop, length, get_or, sym, ap, ◌∙◌, subst, arith}
 use Rattle.dbp_plan.specs.declared.diagram.Task.{Task}
 use Rattle.dbp_plan.specs.declared.diagram.Out.{Out}
-use Rattle.dbp_plan.specs.Lookups.{declared, no_declared}
+use Rattle.dbp_plan.specs.Lookups.{declared_task, no_declared}
 use Rattle.std.proofs.lemmas.List.{get_or_default, take-append-le, take_all}
 use Rattle.dbp_slots.specs.TableWords.{Sizes, sizes_of, task_sizes}
 use Rattle.word_rule.specs.FirstWords.{HasNumbersSoFar, HasSlotFilled}
@@ -40,7 +40,7 @@ loop-task-preserved c =
     let below = c.loop-task-test.true in
     let named : c.loop-task.task < length c.args.plan.now.diagram.tasks = omega (arith, ap length c.items-declared-items.ensures.value) in
     let outs = outs_are c.args.plan.now.diagram.tasks c.items-declared-items.result.now c.loop-task.task c.declared-item.result no_declared c.items.result.now c.items-declared-items.ensures.value below c.declared-item.is c.items.ensures.value in
-    let filled : HasSlotFilled (sizes_of c.args.plan.now.diagram) c.loop-task.task (declared c.args.plan.now c.loop-task.task).outs (length (declared c.args.plan.now c.loop-task.task).outs) c.loop-task.words.items c.fill_first_slot.new.words =
+    let filled : HasSlotFilled (sizes_of c.args.plan.now.diagram) c.loop-task.task (declared_task c.args.plan.now c.loop-task.task).outs (length (declared_task c.args.plan.now c.loop-task.task).outs) c.loop-task.words.items c.fill_first_slot.new.words =
     subst (λ (y : Sizes × List Out × List ℕ). HasSlotFilled y.0 c.loop-task.task y.1 (length y.1) y.2 c.fill_first_slot.new.words) (λ i. (c.requires i, outs i, c.deref_mut.ensures.value i)) c.fill_first_slot.ensures in
     let size : c.loop-task.words.len ≡ length c.fill_first_slot.new.words = sym (c.fill_first_slot.ensures.size ∙ c.deref_mut.ensures.len) in
     rw (whole_slice c.loop-task.words.len c.fill_first_slot.new.words c.loop-task.words.items size)

@@ -1,5 +1,5 @@
 use Rattle.std.proofs.Common.{◌≡◌, length, sym, subst, ap, arith}
-use Rattle.dbp_rules.specs.Places.{task_entry, wired}
+use Rattle.dbp_rules.specs.Places.{task_entry, wired_task}
 use Rattle.dbp_rules.specs.Promises.{HasFreeSlot}
 use Rattle.dbp_rules.specs.declared.wiring.Wiring.{Wiring}
 use Rattle.dbp_rules.proofs.FreeAims.{has_free_slot}
@@ -20,4 +20,4 @@ least_aim-requires-clause-room c =
     let named = (core.shape.wiring.releases.at_aim core.state.releaser.place task c.requires.next).named in
     let kept = (core.shape.each_entry task (omega (arith, named, core.shape.wiring.tasks))).kept in
     subst (λ (w : Wiring). HasFreeSlot w core.state task) (sym core.wired)
-    (has_free_slot core.plan.value core.wiring.count core.state.releaser task named (subst (λ (w : Wiring). length (task_entry core.state task).kept ≡ (wired w task).kept) core.wired kept))
+    (has_free_slot core.plan.value core.wiring.count core.state.releaser task named (subst (λ (w : Wiring). length (task_entry core.state task).kept ≡ (wired_task w task).kept) core.wired kept))

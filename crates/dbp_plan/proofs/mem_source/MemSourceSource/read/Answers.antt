@@ -9,7 +9,7 @@ served bytes buf copied at n within is_copied =
     let front : copied ≡ take n (drop at bytes) = is_copied ∙ ap (λ (k : ℕ). take k (drop at bytes)) count in
     let size : length copied ≡ n = ap length front ∙ length-take-le n (drop at bytes) (omega (arith, length-drop at bytes)) in
     let given : take n (copied ++ buf) ≡ copied = take_at copied buf n size in
-    let behind : drop n (drop at bytes) ≡ drop (at + n) bytes = drop-drop n at bytes in
+    let later : drop n (drop at bytes) ≡ drop (at + n) bytes = drop-drop n at bytes in
     let whole : take n (drop at bytes) ++ drop n (drop at bytes) ≡ drop at bytes = take-append-drop n (drop at bytes) in
     cc
 

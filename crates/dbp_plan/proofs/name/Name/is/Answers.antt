@@ -1,4 +1,4 @@
-use Rattle.std.proofs.Common.{◌≡◌, ℕ, ◌/◌, Bool, true, false, nat_eq, List, take, length, refl, sym, ◌∙◌, ap, arith}
+use Rattle.std.proofs.Common.{◌≡◌, ℕ, ◌/◌, Bool, nat_eq, List, take, length, refl, sym, ◌∙◌, ap}
 use Rattle.std.proofs.lemmas.Bool.Decides.{Decides-eqb}
 use Rattle.std.proofs.lemmas.Slice.Eq.{slice_eq-Decides}
 use Rattle.std.specs.Bool.{Decides}
@@ -23,19 +23,22 @@ held-Decides : (xs ys : List ℕ) (fronts backs : List (List ℕ)) (r : Bool) �
 held-Decides xs ys fronts backs r size_x size_y front back is =
     let three_x : fronts ≡ first_chunks 8 3 xs = front ∙ ap (λ n. first_chunks 8 (n / 8) xs) size_x in
     let three_y : backs ≡ first_chunks 8 3 ys = back ∙ ap (λ n. first_chunks 8 (n / 8) ys) size_y in
-    let decided = chunks-Decides fronts backs r is in
-    ((λ yes. same_chunks 8 3 xs ys size_x size_y (sym three_x ∙ decided.0 yes ∙ three_y)),
-    (λ same. decided.1 (front ∙ ap (λ l. first_chunks 8 (length l / 8) l) same ∙ sym back)))
+    let decided = chunks-Decides fronts backs r is in (
+      (λ yes. same_chunks 8 3 xs ys size_x size_y (sym three_x ∙ decided.0 yes ∙ three_y)),
+      (λ same. decided.1 (front ∙ ap (λ l. first_chunks 8 (length l / 8) l) same ∙ sym back)),
+    )
 
 pub returns-then-eq : goal.returns-then-eq
 returns-then-eq c =
     let decided = held-Decides _ _ _ _ c.eq.result c.self.told c.other.told c.as_chunks.ensures.front c.as_chunks-2.ensures.front c.eq.ensures in
-    let counted = Decides-eqb c.self.inside.count c.other.inside.count in
-    ((λ yes. sym c.self.view_is ∙ (λ i. take (counted.0 yes i) (decided.0 c.if-eq.true i)) ∙ c.other.view_is),
-    (λ same. counted.1 (ap (λ n. n.count) (same_inside c.self.inside c.other.inside c.self.invariant c.other.invariant (c.self.view_is ∙ same ∙ sym c.other.view_is)))))
+    let counted = Decides-eqb c.self.inside.count c.other.inside.count in (
+      (λ yes. sym c.self.view_is ∙ (λ i. take (counted.0 yes i) (decided.0 c.if-eq.true i)) ∙ c.other.view_is),
+      (λ same. counted.1 (ap (λ n. n.count) (same_inside c.self.inside c.other.inside c.self.invariant c.other.invariant (c.self.view_is ∙ same ∙ sym c.other.view_is)))),
+    )
 
 pub returns-else-eq : goal.returns-else-eq
 returns-else-eq c =
-    let decided = held-Decides _ _ _ _ c.eq.result c.self.told c.other.told c.as_chunks.ensures.front c.as_chunks-2.ensures.front c.eq.ensures in
-    ((λ yes. absurd (cc (yes, c.if-eq.false))),
-    (λ same. decided.1 (ap (λ n. n.held) (same_inside c.self.inside c.other.inside c.self.invariant c.other.invariant (c.self.view_is ∙ same ∙ sym c.other.view_is)))))
+    let decided = held-Decides _ _ _ _ c.eq.result c.self.told c.other.told c.as_chunks.ensures.front c.as_chunks-2.ensures.front c.eq.ensures in (
+      (λ yes. absurd (cc (yes, c.if-eq.false))),
+      (λ same. decided.1 (ap (λ n. n.held) (same_inside c.self.inside c.other.inside c.self.invariant c.other.invariant (c.self.view_is ∙ same ∙ sym c.other.view_is)))),
+    )

@@ -1,6 +1,6 @@
 use Rattle.std.proofs.Common.{refl, sym, subst}
 use Rattle.dbp_rules.specs.PartyRules.{no_word}
-use Rattle.dbp_rules.specs.Places.{wired}
+use Rattle.dbp_rules.specs.Places.{wired_task}
 use Rattle.dbp_rules.specs.Work.{WorkWords}
 use Rattle.dbp_rules.specs.declared.step.Step.TheVariants.{End}
 use Rattle.party_exec.specs.Computed.{HasComputed, plan_of_task}
@@ -9,7 +9,7 @@ use Rattle.party_exec.proofs.Turned.{has_ended}
 use Rattle.party_exec.proofs.task_party.TaskParty.end.Goals as goal
 
 pub end-requires-clause-allowed : goal.end-requires-clause-allowed
-end-requires-clause-allowed c = may_end (wired c.args.words.now.wiring c.args.self.now.seat.task) c.args.self.now.seat.part c.args.self.now.seat.task c.requires.place
+end-requires-clause-allowed c = may_end (wired_task c.args.words.now.wiring c.args.self.now.seat.task) c.args.self.now.seat.part c.args.self.now.seat.task c.requires.place
 
 pub invariant_of-self : goal.invariant_of-self
 invariant_of-self c = record { computed = subst (λ (x : WorkWords). HasComputed (plan_of_task c.end.new.seat) c.end.new.seat.task c.end.new.seat.part x c.args.self.now.rows) (sym c.advance.ensures) (has_ended c.args.words.now c.args.self.now c.requires.here c.end.new.seat c.end.ensures.step c.requires.place c.end.ensures.part) }
@@ -20,7 +20,7 @@ returns-clause-turn c = record {
   loaded = no_word;
   seat = c.end.ensures.step;
   turns = refl;
-  allowed = may_end (wired c.args.words.now.wiring c.args.self.now.seat.task) c.args.self.now.seat.part c.args.self.now.seat.task c.requires.place;
+  allowed = may_end (wired_task c.args.words.now.wiring c.args.self.now.seat.task) c.args.self.now.seat.part c.args.self.now.seat.task c.requires.place;
   part = c.end.ensures.part;
   answer = refl;
   delayed = λ r is late. refl;

@@ -1,6 +1,6 @@
 use Rattle.std.proofs.Common.{refl, ap, sym, ◌∙◌}
 use Rattle.dbp_rules.specs.PartyRules.{a_number, is_stamp_of, read_order_in, turn_at}
-use Rattle.dbp_rules.specs.Places.{read_at, wired}
+use Rattle.dbp_rules.specs.Places.{read_at, wired_task}
 use Rattle.dbp_rules.specs.declared.step.Step.TheVariants.{Look}
 use Rattle.dbp_rules.specs.declared.wiring.TaskWiring.{TaskWiring}
 use Rattle.party_exec.proofs.Seats.{look_inside, may_look}
@@ -13,14 +13,14 @@ read_number-read-requires c = rw c.wired_of.ensures (look_inside c.args.words.no
 pub look-requires-clause-allowed : goal.look-requires-clause-allowed
 look-requires-clause-allowed c =
     let read = c.read_number-read.ensures ∙ ap (λ (x : TaskWiring). (read_at x c.args.turn).read) c.wired_of.ensures in
-    may_look (wired c.args.words.now.wiring c.args.self.now.seat.task) c.args.self.now.seat.part c.args.self.now.seat.task c.args.turn c.read_number-read.result c.requires.place (sym read)
+    may_look (wired_task c.args.words.now.wiring c.args.self.now.seat.task) c.args.self.now.seat.part c.args.self.now.seat.task c.args.turn c.read_number-read.result c.requires.place (sym read)
 
 pub invariant_of-self : goal.invariant_of-self
 invariant_of-self c = record { computed = has_looked c.args.words.now c.args.self.now c.requires.here c.look.new.seat c.look.ensures.step c.args.turn c.read_number-read.result c.look.ensures.part.0 c.requires.place c.look.ensures.part.1 }
 
 pub returns-in-Ready-clause-turn : goal.returns-in-Ready-clause-turn
 returns-in-Ready-clause-turn c =
-    let w = wired c.args.words.now.wiring c.args.self.now.seat.task in
+    let w = wired_task c.args.words.now.wiring c.args.self.now.seat.task in
     let part = c.args.self.now.seat.part in
     let read = c.read_number-read.ensures ∙ ap (λ (x : TaskWiring). (read_at x c.args.turn).read) c.wired_of.ensures in
     record {
@@ -36,7 +36,7 @@ returns-in-Ready-clause-turn c =
 
 pub returns-in-NotYet-clause-turn : goal.returns-in-NotYet-clause-turn
 returns-in-NotYet-clause-turn c =
-    let w = wired c.args.words.now.wiring c.args.self.now.seat.task in
+    let w = wired_task c.args.words.now.wiring c.args.self.now.seat.task in
     let part = c.args.self.now.seat.part in
     let read = c.read_number-read.ensures ∙ ap (λ (x : TaskWiring). (read_at x c.args.turn).read) c.wired_of.ensures in
     record {

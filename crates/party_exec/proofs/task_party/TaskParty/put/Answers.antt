@@ -1,6 +1,6 @@
 use Rattle.std.proofs.Common.{ℤ, List, length, ap, ◌∙◌, refl, arith}
 use Rattle.dbp_rules.specs.PartyRules.{no_word}
-use Rattle.dbp_rules.specs.Places.{wired}
+use Rattle.dbp_rules.specs.Places.{wired_task}
 use Rattle.dbp_rules.specs.declared.step.Step.TheVariants.{Put}
 use Rattle.party_exec.proofs.Seats.{may_put}
 use Rattle.party_exec.proofs.Turned.{has_put, port_inside}
@@ -10,7 +10,7 @@ pub bounds-words-port : goal.bounds-words-port
 bounds-words-port c = let row = ap (λ (x : List ℤ). length x) (c.words.ensures.value ∙ c.row.ensures) in omega (arith, row, port_inside c.args.words.now c.args.self.now c.requires.here c.args.port c.requires.place)
 
 pub put-requires-clause-allowed : goal.put-requires-clause-allowed
-put-requires-clause-allowed c = may_put (wired c.args.words.now.wiring c.args.self.now.seat.task) c.args.self.now.seat.part c.args.self.now.seat.task c.args.port c.requires.place
+put-requires-clause-allowed c = may_put (wired_task c.args.words.now.wiring c.args.self.now.seat.task) c.args.self.now.seat.part c.args.self.now.seat.task c.args.port c.requires.place
 
 pub invariant_of-self : goal.invariant_of-self
 invariant_of-self c = record { computed = has_put c.args.words.now c.args.self.now c.requires.here c.put.new.seat c.put.ensures.step c.args.port c.requires.place c.put.ensures.part }
@@ -21,7 +21,7 @@ returns-clause-turn c = record {
   loaded = no_word;
   seat = c.put.ensures.step;
   turns = refl;
-  allowed = may_put (wired c.args.words.now.wiring c.args.self.now.seat.task) c.args.self.now.seat.part c.args.self.now.seat.task c.args.port c.requires.place;
+  allowed = may_put (wired_task c.args.words.now.wiring c.args.self.now.seat.task) c.args.self.now.seat.part c.args.self.now.seat.task c.args.port c.requires.place;
   part = c.put.ensures.part;
   answer = refl;
   delayed = λ r is late. refl;

@@ -1,13 +1,13 @@
 use Rattle.std.proofs.Common.{refl}
 use Rattle.dbp_rules.specs.PartyRules.{no_word}
-use Rattle.dbp_rules.specs.Places.{wired}
+use Rattle.dbp_rules.specs.Places.{wired_task}
 use Rattle.dbp_rules.specs.declared.step.Step.TheVariants.{Shut}
 use Rattle.party_exec.proofs.Seats.{may_shut}
 use Rattle.party_exec.proofs.Turned.{has_shut}
 use Rattle.party_exec.proofs.task_party.TaskParty.shut.Goals as goal
 
 pub shut-requires-clause-allowed : goal.shut-requires-clause-allowed
-shut-requires-clause-allowed c = may_shut (wired c.args.words.now.wiring c.args.self.now.seat.task) c.args.self.now.seat.part c.args.self.now.seat.task c.requires.place
+shut-requires-clause-allowed c = may_shut (wired_task c.args.words.now.wiring c.args.self.now.seat.task) c.args.self.now.seat.part c.args.self.now.seat.task c.requires.place
 
 pub invariant_of-self : goal.invariant_of-self
 invariant_of-self c = record { computed = has_shut c.args.words.now c.args.self.now c.requires.here c.shut.new.seat c.shut.ensures.step c.compute.new.work c.compute.new.rows c.compute.ensures c.shut.ensures.part }
@@ -18,7 +18,7 @@ returns-clause-turn c = record {
   loaded = no_word;
   seat = c.shut.ensures.step;
   turns = refl;
-  allowed = may_shut (wired c.args.words.now.wiring c.args.self.now.seat.task) c.args.self.now.seat.part c.args.self.now.seat.task c.requires.place;
+  allowed = may_shut (wired_task c.args.words.now.wiring c.args.self.now.seat.task) c.args.self.now.seat.part c.args.self.now.seat.task c.requires.place;
   part = c.shut.ensures.part;
   answer = refl;
   delayed = λ r is late. refl;

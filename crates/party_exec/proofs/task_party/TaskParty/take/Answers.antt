@@ -2,7 +2,7 @@ use Rattle.std.proofs.Common.{ℕ, ℤ, ◌+◌, FitsSigned, w64, length, set, r
 use Rattle.std.proofs.lemmas.Int.{to_z-of_z}
 use Rattle.dbp_plan.specs.declared.diagram.Task.{Task}
 use Rattle.dbp_rules.specs.PartyRules.{a_value}
-use Rattle.dbp_rules.specs.Places.{read_at, wired}
+use Rattle.dbp_rules.specs.Places.{read_at, wired_task}
 use Rattle.dbp_rules.specs.Work.{WorkWords}
 use Rattle.dbp_rules.specs.declared.step.Step.TheVariants.{Take}
 use Rattle.dbp_rules.specs.declared.wiring.TaskWiring.{TaskWiring}
@@ -31,7 +31,7 @@ overflow_add-place-2 c =
 pub take-word-requires-clause-allowed : goal.take-word-requires-clause-allowed
 take-word-requires-clause-allowed c =
     let read = c.read_number-read.ensures ∙ ap (λ (x : TaskWiring). (read_at x c.args.turn).read) c.wired_of.ensures in
-    may_take (wired c.args.words.now.wiring c.args.self.now.seat.task) c.args.self.now.seat.part c.args.self.now.seat.task c.args.turn c.read_number-read.result c.requires.place (sym read)
+    may_take (wired_task c.args.words.now.wiring c.args.self.now.seat.task) c.args.self.now.seat.part c.args.self.now.seat.task c.args.turn c.read_number-read.result c.requires.place (sym read)
 
 pub set-requires : goal.set-requires
 set-requires c =
@@ -60,7 +60,7 @@ returns-clause-turn c =
       loaded = a_value c.take-word.result;
       seat = c.take-word.ensures.step;
       turns = refl;
-      allowed = may_take (wired c.args.words.now.wiring c.args.self.now.seat.task) c.args.self.now.seat.part c.args.self.now.seat.task c.args.turn c.read_number-read.result c.requires.place (sym read);
+      allowed = may_take (wired_task c.args.words.now.wiring c.args.self.now.seat.task) c.args.self.now.seat.part c.args.self.now.seat.task c.args.turn c.read_number-read.result c.requires.place (sym read);
       part = c.take-word.ensures.part;
       answer = refl;
       delayed = λ r is late. refl;

@@ -7,7 +7,7 @@ use Rattle.sync_meaning.specs.Meaning.{AreStatesAfter, IsRead}
 use Rattle.sync_meaning.specs.Shape.{AreWritten, IsEnvOf}
 use Rattle.sync_meaning.proofs.Sets.{item_at}
 use Rattle.sync_meaning.specs.Nexts.{length-later}
-use Rattle.sync_meaning.proofs.ExactRuns.{IsInstance, env_exact, states_behind, states_kept, streams_more, time_more}
+use Rattle.sync_meaning.proofs.ExactRuns.{IsInstance, env_exact, states_later, states_kept, streams_more, time_more}
 use Rattle.sync_meaning.proofs.Runs.{is_next, next_reads, next_fits, next_more, next_writers, advanced}
 use Rattle.sync_meaning.proofs.run.Run.compute.Goals as goal
 
@@ -75,8 +75,8 @@ returns-clause-streams c =
     (next_writers d c.args.task t run next) in
     let kept = states_kept d run.table t run.inputs.values.items run.named.items before.now c.set_senses.new.env.now c.set_reads.new.env.now env work in
     let size = c.work.ensures.now ∙ c.set_reads.ensures.now.size ∙ c.set_senses.ensures.now.size ∙ old.now in
-    let behind = states_behind t c.work.new.env.later env c.advance.new.self.now (length-later t env c.work.new.env.later size c.work.ensures.later) c.advance.ensures.now in
-    let states = subst (λ (l : List ℤ). AreStatesAfter t env (take (length t.states) before.now) l) (sym behind)
+    let after = states_later t c.work.new.env.later env c.advance.new.self.now (length-later t env c.work.new.env.later size c.work.ensures.later) c.advance.ensures.now in
+    let states = subst (λ (l : List ℤ). AreStatesAfter t env (take (length t.states) before.now) l) (sym after)
     (subst (λ (l : List ℤ). AreStatesAfter t env l c.work.new.env.later) kept c.work.ensures.later) in
     let words = c.in_ok-push_row.ensures.words ∙ ap (λ (l : List ℤ). (get_or c.items_mut.result.now c.args.task c.index-items_mut-place.result).words ++ l) c.work.ensures.outs in
     streams_more d plan.samples plan.batches c.args.task c.index_mut.result.now t run _ before c.advance.new.self env c.items_mut.result.now c.index-items_mut-place.result c.push_row.new.rows

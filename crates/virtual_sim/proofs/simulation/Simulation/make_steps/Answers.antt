@@ -1,6 +1,6 @@
 use Rattle.std.proofs.Common.{arith, ◌≡◌, ◌<◌, ◌∙◌, length, sym, ap, subst, length-append}
 use Rattle.dbp_plan.specs.declared.plan.Plan.{Plan}
-use Rattle.dbp_plan.specs.Lookups.{declared}
+use Rattle.dbp_plan.specs.Lookups.{declared_task}
 use Rattle.rank_order.specs.ServiceOf.{service}
 use Rattle.dbp_rules.specs.Places.{task}
 use Rattle.dbp_rules.specs.declared.wiring.Wiring.{Wiring}
@@ -35,7 +35,7 @@ make_reads-requires c =
           let begin = begin_few p i (service p) c.args.served in
           let all = length-append (events_so_far p (service p) s.run.released s.run.time) (begin_events_at p (service p) i c.args.served) in
           let reads = (closed_task p i small).reads in
-          let same = ap (λ (q : Plan). length (declared q i).reads) g.plan in
+          let same = ap (λ (q : Plan). length (declared_task q i).reads) g.plan in
           omega (arith, few, long, begin, all, reads, same);
     }
 

@@ -2,7 +2,7 @@ use Rattle.std.proofs.Common.{arith, ◌<◌, ◌+◌, ◌-◌, ◌++◌, ◌∷
 use Rattle.std.proofs.lemmas.List.{get_or_read}
 use Rattle.dbp_plan.specs.declared.diagram.Task.{Task}
 use Rattle.dbp_plan.specs.declared.plan.Plan.{Plan}
-use Rattle.dbp_plan.specs.Lookups.{declared}
+use Rattle.dbp_plan.specs.Lookups.{declared_task}
 use Rattle.rank_order.specs.Queue.{IsServedFirst}
 use Rattle.rank_order.specs.ServiceOf.{service}
 use Rattle.dbp_rules.specs.declared.wiring.Wiring.{Wiring}
@@ -242,7 +242,7 @@ end_instance-requires c =
           let all = length-append (events_so_far p (service p) s.run.released s.run.time) (begin_events_at p (service p) i (t.cost - rest) ++ read_events p i (t.cost - rest)) in
           let two = length-append (begin_events_at p (service p) i (t.cost - rest)) (read_events p i (t.cost - rest)) in
           let outs = (closed_task p i f.there).outs.1 in
-          let same = ap (λ (q : Plan). length (declared q i).outs) g.plan in
+          let same = ap (λ (q : Plan). length (declared_task q i).outs) g.plan in
           omega (arith, few, long, begin, reads, all, two, outs, same);
     }
 
