@@ -1,7 +1,8 @@
+-- Definitions that public clauses cite.
 pub mod Codes
-pub mod Places
 pub mod Names
-pub mod StepForms
-pub mod Texts
+pub mod Places
 pub mod Replays
 pub mod Scripts
+pub mod StepForms
+pub mod Texts

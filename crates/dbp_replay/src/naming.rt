@@ -11,7 +11,6 @@ use crate::form::{Form, Operand, form_in};
 use crate::look_up::task_at;
 use dbp_core::{Step, StepKind};
 use dbp_plan::{Diagram, Link, Name, Out, Read, Task};
-use dia_check::is_same_name;
 use dia_tokens::Token;
 
 /// The step that the tokens of a line name: `BadStep` if they have no form, else `StepName` if a name or a link isn't
@@ -131,7 +130,7 @@ fn task_place(tasks: &[Task], name: &Name) -> usize
 {
     tasks
         .iter()
-        .take_while(|task| !is_same_name(&task.name, name))
+        .take_while(|task| task.name != *name)
         .count()
 }
 
@@ -140,7 +139,7 @@ fn read_place(reads: &[Read], name: &Name) -> usize
 {
     reads
         .iter()
-        .take_while(|read| !is_same_name(&read.name, name))
+        .take_while(|read| read.name != *name)
         .count()
 }
 
@@ -148,7 +147,7 @@ fn port_place(outs: &[Out], name: &Name) -> usize
     ensures { result ≡ position_or_len (λ o. bytes_eq o.name name.now) outs.now }
 {
     outs.iter()
-        .take_while(|out| !is_same_name(&out.name, name))
+        .take_while(|out| out.name != *name)
         .count()
 }
 

@@ -1,3 +1,4 @@
+-- Definitions that public clauses cite.
 pub mod Answer
 pub mod Commands
 pub mod Ends

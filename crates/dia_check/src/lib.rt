@@ -23,7 +23,6 @@ pub use fail::{CheckCode, CheckFail};
 pub use laws::{
     bare_bodies_decide_shapes, one_check, one_shape, one_shape_fault, the_script_is_not_checked,
 };
-pub use names::is_same_name;
 pub use rank_faults::ranked;
 pub use ranking::{ranks, ranks_are_distinct};
 pub use shaped::{ReadLine, Shaped};

@@ -9,7 +9,6 @@ ghost use Rattle.dbp_plan.specs.NameLists.{is_among};
 ghost use Rattle.dia_check.specs.Tests.{is_input, is_event, is_decl, is_task, is_state, is_out, is_next, is_place, is_declared};
 
 use crate::fail::LineFault;
-use crate::names::is_same_name;
 use crate::ports::{port_index, task_index};
 use dbp_plan::{Expr, Name, Node};
 use dia_lines::{Decl, Part, RawClock};
@@ -21,9 +20,9 @@ fn is_place(name: &Name, part: &Part) -> bool
 {
     match part {
         Part::State(other, _) | Part::Sense(other, _) | Part::Let(other, _) => {
-            is_same_name(other, name)
+            other == name
         }
-        Part::Read { name: other, .. } => is_same_name(other, name),
+        Part::Read { name: other, .. } => other == name,
         Part::Next(_, _) | Part::Out(_, _, _) => false,
     }
 }
@@ -32,32 +31,32 @@ fn is_place(name: &Name, part: &Part) -> bool
 fn is_declared(name: &Name, part: &Part) -> bool
     ensures { result ≡ is_declared name.now part.now }
 {
-    is_place(name, part) || matches!(part, Part::Out(other, _, _) if is_same_name(other, name))
+    is_place(name, part) || matches!(part, Part::Out(other, _, _) if other == name)
 }
 
 /// Whether an input has the name.
 fn has_input(decls: &[Decl], name: &Name) -> bool
     ensures { result ≡ list_any (is_input name.now) decls.now }
 {
-    decls.iter().any(|decl| matches!(decl, Decl::Input(other, _) if is_same_name(other, name)))
+    decls.iter().any(|decl| matches!(decl, Decl::Input(other, _) if other == name))
 }
 
 fn has_event(decls: &[Decl], name: &Name) -> bool
     ensures { result ≡ list_any (is_event name.now) decls.now }
 {
-    decls.iter().any(|decl| matches!(decl, Decl::Event(other) if is_same_name(other, name)))
+    decls.iter().any(|decl| matches!(decl, Decl::Event(other) if other == name))
 }
 
 fn has_state(parts: &[Part], name: &Name) -> bool
     ensures { result ≡ list_any (is_state name.now) parts.now }
 {
-    parts.iter().any(|part| matches!(part, Part::State(other, _) if is_same_name(other, name)))
+    parts.iter().any(|part| matches!(part, Part::State(other, _) if other == name))
 }
 
 fn has_next(parts: &[Part], name: &Name) -> bool
     ensures { result ≡ list_any (is_next name.now) parts.now }
 {
-    parts.iter().any(|part| matches!(part, Part::Next(other, _) if is_same_name(other, name)))
+    parts.iter().any(|part| matches!(part, Part::Next(other, _) if other == name))
 }
 
 fn has_place(parts: &[Part], name: &Name) -> bool
@@ -126,7 +125,7 @@ fn is_unknown(body: &Body, task: &RawTask, part: &Part) -> bool
 fn is_self_link(task: &RawTask, part: &Part) -> bool
     ensures { result ≡ is_self_link task.now part.now }
 {
-    matches!(part, Part::Read { task: writer, .. } if is_same_name(&task.name, writer))
+    matches!(part, Part::Read { task: writer, .. } if task.name == *writer)
 }
 
 fn is_past_cost(task: &RawTask, part: &Part) -> bool
@@ -172,7 +171,7 @@ fn decl_name(decl: &Decl) -> &Name
 fn has_decl(decls: &[Decl], name: &Name) -> bool
     ensures { result ≡ list_any (is_decl name.now) decls.now }
 {
-    decls.iter().any(|decl| is_same_name(decl_name(decl), name))
+    decls.iter().any(|decl| decl_name(decl) == name)
 }
 
 /// Whether a task has the name.

@@ -2,7 +2,6 @@
 
 ghost use Rattle.std.specs.Prelude.{◌≡◌, ◌+◌, ◌<◌, ◌≤◌, ◌^◌, ◌++◌, length, IfOk, OnOk};
 ghost use Rattle.std.specs.List.{flat_map};
-ghost use Rattle.std.specs.Str.{bytes_eq};
 ghost use Rattle.std.specs.Option.{option_to_list};
 ghost use Rattle.dia_check.specs.Kinds.{named};
 ghost use Rattle.dia_check.specs.Names.{input_name, event_name, state_name, env_names};
@@ -22,18 +21,6 @@ pub(crate) enum Kind {
     Let,
 }
 
-/// Whether the names are one. Their last bytes are compared first: names of one document mostly differ there.
-pub fn is_same_name(name: &Name, other: &Name) -> bool
-    ensures { result ≡ bytes_eq name.now other.now }
-{
-    let name = name.bytes();
-    let other = other.bytes();
-    if name[name.len() - 1] != other[other.len() - 1] {
-        return false;
-    }
-    name == other
-}
-
 /// The place of the name, the first of them; after all if it isn't among them.
 pub(crate) fn index_of(names: &[Name], name: &Name) -> u32
     requires { length names.now < 2 ^ 32 }
@@ -41,7 +28,7 @@ pub(crate) fn index_of(names: &[Name], name: &Name) -> u32
 {
     names
         .iter()
-        .take_while(|other| !is_same_name(other, name))
+        .take_while(|other| *other != name)
         .count() as u32
 }
 

@@ -6,7 +6,6 @@ ghost use Rattle.dia_check.specs.Indexes.{find_index, port_index};
 ghost use Rattle.dia_check.specs.Names.{out_name};
 ghost use Rattle.dia_check.specs.Tests.{is_task};
 
-use crate::names::is_same_name;
 use dbp_plan::{List, Name};
 use dia_lines::Part;
 use dia_read::RawTask;
@@ -15,7 +14,7 @@ use dia_read::RawTask;
 pub(crate) fn task_index(tasks: &[RawTask], name: &Name) -> Option<usize>
     ensures { result ≡ position (is_task name.now) tasks.now }
 {
-    tasks.iter().position(|task| is_same_name(&task.name, name))
+    tasks.iter().position(|task| task.name == *name)
 }
 
 /// The index of the name among the body's outs.
@@ -26,7 +25,7 @@ fn out_index(parts: &[Part], name: &Name) -> Option<u32>
     let mut index = 0;
     for part in parts {
         if let Part::Out(out, _, _) = part {
-            if is_same_name(out, name) {
+            if out == name {
                 return Some(index);
             }
             index += 1;

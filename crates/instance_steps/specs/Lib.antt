@@ -1,6 +1,7 @@
+-- Definitions that public clauses cite.
+pub mod EndedRows
 pub mod Events
 pub mod Plays
 pub mod Recorders
-pub mod TaskPieces
 pub mod Releases
-pub mod EndedRows
+pub mod TaskPieces

@@ -1,2 +1,3 @@
+-- Definitions that public clauses cite.
 pub mod Releases
 pub mod Schedule
