@@ -13,7 +13,7 @@ use Rattle.dbp_top.specs.declared.status.Status.{Status}
 use Rattle.dbp_top.specs.declared.status.Status.TheVariants.{NoMemory, WriteFault}
 use Rattle.dbp_top.specs.declared.stop.Stop.{Stop}
 use Rattle.dbp_top.specs.declared.stop.Stop.TheVariants as stop
-use Rattle.dbp_top.proofs.Endings.{whole-input}
+use Rattle.std.proofs.KnownBytes.{Consumes-whole}
 
 -- after an answer without a text: of a run that was refused nothing was run, and out of memory may come at any time
 pub runs-told : {A E : Type 0} (input : List ℕ) (a b : List CrewEntry) (why : Stop) (r : Result (Status × A) E) → IfOk r (λ told. told.0 ≡ status_of_stop why)
@@ -27,10 +27,10 @@ runs-told input a b stop.NoMemory (Err fail) status runs = runs
 
 module _ (old new : Option (List ℕ)) (input : List ℕ) (taken : Consumes old new input) (end : IsAtEnd new) (a b : List CrewEntry) where
   run-known : HasRunInput (Some input) a b → HasRunInput old a b
-  run-known runs = (runs.0, runs.1, whole-input old new input (λ bytes. Accepts bytes runs.0) taken end runs.2)
+  run-known runs = (runs.0, runs.1, Consumes-whole old new input (λ bytes. Accepts bytes runs.0) taken end runs.2)
 
   refusal-known : HasRefusedInput (Some input) a b → HasRefusedInput old a b
-  refusal-known runs = (runs.0, whole-input old new input (λ bytes. (line : ℕ) × (code : Code) × Refuses bytes line code) taken end runs.1)
+  refusal-known runs = (runs.0, Consumes-whole old new input (λ bytes. (line : ℕ) × (code : Code) × Refuses bytes line code) taken end runs.1)
 
   pub runs-written : (turns : Option ℕ) (status : Status) (text : List ℕ) → Answers input (Run turns) status text → RunsAfter status (Some input) a b → RunsAfter status old a b
   runs-written turns status text (made made_text makes) runs = run-known runs

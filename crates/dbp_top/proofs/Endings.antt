@@ -1,7 +1,6 @@
 -- How a call ends that read its input, and wrote its text.
 use Rattle.std.proofs.Common.{◌≡◌, ◌≤◌, ℕ, ◌++◌, Bool, true, List, Option, Some, None, length, sym, ◌∙◌, ap, subst, String, Global}
-use Rattle.std.specs.Prelude.{IfSome}
-use Rattle.std.proofs.lemmas.List.{append-nil}
+use Rattle.std.proofs.KnownBytes.{Consumes-whole}
 use Rattle.std.specs.Io.KnownBytes.{Appends, Consumes, IsAtEnd}
 use Rattle.dbp_plan.specs.Faults.{Rose}
 use Rattle.dbp_top.specs.Answer.{Answers, made, overran, refused}
@@ -11,12 +10,6 @@ use Rattle.dbp_top.specs.declared.command.Command.{Command}
 use Rattle.dbp_top.specs.declared.status.Status.{Status}
 use Rattle.dbp_top.specs.declared.status.Status.TheVariants.{Ok, Overrun, Refused, Usage, ReadFault, WriteFault, NoMemory, TooLarge}
 use Rattle.dbp_top.specs.declared.top.TheConstants.{MAX_DOCUMENT}
-
--- what was taken up to the end is the whole input
-pub whole-input : (old new : Option (List ℕ)) (bytes : List ℕ) (P : List ℕ → Type 0) → Consumes old new bytes → IsAtEnd new → P bytes → IfSome old P
-whole-input None new bytes P consumes end holds = tt
-whole-input (Some xs) (Some ys) bytes P consumes end holds = subst P (sym (consumes ∙ ap (λ (l : List ℕ). bytes ++ l) end ∙ append-nil bytes)) holds
-whole-input (Some xs) None bytes P consumes end holds = absurd consumes
 
 -- of a command that reads, and of one that doesn't
 pub where-read : (command : Command) (A B : Type 0) → reads_input command ≡ true → A → WhereRead (reads_input command) A B
@@ -39,11 +32,11 @@ module _ {S K : Type 0} (left : S → Option (List ℕ)) (source_faults : S → 
         read = where-read command (ReadWhole left source_faults written sink_faults source new_source) (new_source ≡ source) reads (record {
           end = end.0;
           taken = (input, bytes.1, bytes.0);
-          fits = whole-input _ _ input (λ l. length l ≤ MAX_DOCUMENT) bytes.1 end.0 bytes.0;
+          fits = Consumes-whole _ _ input (λ l. length l ≤ MAX_DOCUMENT) bytes.1 end.0 bytes.0;
           no_fault = end.1;
         });
         wrote = where-read command _ _ reads
-            (whole-input _ _ input (λ l. (x : List ℕ) × Answers l command status x × Appends (written sink) (written new_sink) x) bytes.1 end.0 (output, answered, wrote.0));
+            (Consumes-whole _ _ input (λ l. (x : List ℕ) × Answers l command status x × Appends (written sink) (written new_sink) x) bytes.1 end.0 (output, answered, wrote.0));
         no_fault = wrote.1;
       })
 

@@ -4,7 +4,7 @@ use Rattle.std.specs.Prelude.{slice_index, pos, replicate}
 use Rattle.std.proofs.Math.Nat.{mul-le-mul_left, mul-le-mul_right}
 use Rattle.std.proofs.Math.Seq.{take-append_seam}
 use Rattle.std.proofs.lemmas.Bool.{cases_eq}
-use Rattle.std.proofs.lemmas.List.{length-set, length-map, length-replicate}
+use Rattle.std.proofs.lemmas.List.{length-set, length-map, length-replicate, length_push}
 use Rattle.std.proofs.lemmas.Option.{get_or_from_slice_get, slice_get-map, slice_get_within, same_Some}
 use Rattle.dbp_plan.specs.declared.limits.TheConstants.{MAX_OCCURRENCES, MAX_OUTS}
 use Rattle.dbp_plan.specs.declared.diagram.Diagram.{Diagram}
@@ -172,13 +172,10 @@ push_cases [] x (suc i) y at = absurd (cc)
 push_cases (z ∷ xs) x zero y at = inl at
 push_cases (z ∷ xs) x (suc i) y at = elim (push_cases xs x i y at) [ inl there ↦ inl there | inr here ↦ inr (ap suc here.0, here.1) ]
 
-length-push : {X : Type 0} (xs : List X) (x : X) → length (xs ++ x ∷ []) ≡ length xs + 1
-length-push xs x = length-append xs (x ∷ [])
-
 -- the environments of one task more
 pub envs_more : (k : ℕ) (t : Task) (e : Env) (tasks : List Task) (envs : List Env) → slice_get tasks k ≡ Some t → IsEnvOf t e → HasEnvs (take k tasks) envs → HasEnvs (take (k + 1) tasks) (envs ++ e ∷ [])
 envs_more k t e tasks envs at is has = rw (take_push tasks k t at) (record {
-  size = length-push envs e ∙ ap (λ n. n + 1) has.size ∙ sym (length-push (take k tasks) t);
+  size = length_push envs e ∙ ap (λ n. n + 1) has.size ∙ sym (length_push (take k tasks) t);
   each = λ i u f at_u at_f. elim (push_cases (take k tasks) t i u at_u) [
     | inl there ↦
         let inside : i < length envs = omega (arith, slice_get_within (take k tasks) i u there, has.size) in
