@@ -7,7 +7,7 @@ use Rattle.std.proofs.lemmas.Nat.Bits.{bit_at-trailing_zeros, bit_at-zero}
 use Rattle.std.proofs.lemmas.Option.{same_Some, slice_get-get_or}
 use Rattle.dbp_plan.specs.declared.plan.Plan.{Plan}
 use Rattle.dbp_plan.proofs.RankLaws.{rank-below, length-ranks}
-use Rattle.dbp_rules.specs.Places.{no_task, no_task_entry, task, task_entry, wired_task}
+use Rattle.dbp_rules.specs.Lookups.{no_task, no_task_entry, task, task_entry, wired_task}
 use Rattle.dbp_rules.specs.Rules as rule
 use Rattle.dbp_rules.specs.Shapes.{IsShape, IsWired}
 use Rattle.dbp_rules.specs.Start.{start_of}

@@ -2,7 +2,7 @@
 use Rattle.std.specs.Prelude.{◌≡◌, ◌≢◌, ℕ, ◌<◌, ◌==◌, nat_lt, Bool, length, Option, Some, None}
 use Rattle.std.specs.Int.{bit_at}
 use Rattle.dbp_core.specs.declared.rank_mask.RankMask.{RankMask}
-use Rattle.dbp_rules.specs.Places.{task, task_entry, wired_task}
+use Rattle.dbp_rules.specs.Lookups.{task, task_entry, wired_task}
 use Rattle.dbp_rules.specs.declared.state.State.{State}
 use Rattle.dbp_rules.specs.declared.step.Step.{Step}
 use Rattle.dbp_rules.specs.declared.step.Step.TheVariants.{Aim, End}

@@ -1,7 +1,7 @@
 // What stands at a place of the state.
 
 ghost use Rattle.std.specs.Prelude.{◌≡◌, ◌<◌, length};
-ghost use Rattle.dbp_rules.specs.Places.{task, task_entry, wired_task};
+ghost use Rattle.dbp_rules.specs.Lookups.{task, task_entry, wired_task};
 ghost use Rattle.dbp_plan.specs.Lookups.{declared_task};
 
 use dbp_plan::{Plan, Task};

@@ -37,7 +37,7 @@ impl Core {
     ghost use Rattle.sync_meaning.specs.Meaning.{IsMeaning};
     ghost use Rattle.release_list.specs.declared.release.Release.TheVariants.{Aim as AimOf};
     ghost use Rattle.dbp_core.specs.Cores.{count_in, plan_in, state_in, wiring_in};
-    ghost use Rattle.dbp_rules.specs.Places.{task as state_of, task_entry};
+    ghost use Rattle.dbp_rules.specs.Lookups.{task as state_of, task_entry};
     ghost use Rattle.dbp_rules.specs.Promises.{IsLeastAim};
     ghost use Rattle.dbp_rules.specs.Rules.{IsNamed, IsStep, refusal};
     ghost use Rattle.dbp_rules.specs.SoundParts.{last_shut};

@@ -15,7 +15,7 @@ pub(crate) struct RankMask {
 
 impl RankMask {
     ghost use Rattle.std.specs.Prelude.{◌≡◌, ◌≢◌, ◌<◌, ◌≤◌, ℕ, Some, true, false, length};
-    ghost use Rattle.dbp_rules.specs.Places.{wired_task};
+    ghost use Rattle.dbp_rules.specs.Lookups.{wired_task};
     ghost use Rattle.dbp_core.specs.Unfinished.{HasRanks, HasUnfinished, has_rank, is_unfinished, recounted_task};
 
     /// No rank.

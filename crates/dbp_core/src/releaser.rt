@@ -2,7 +2,7 @@
 
 ghost use Rattle.std.specs.Prelude.{◌≡◌, ◌+◌, ◌<◌, ◌^◌, length};
 ghost use Rattle.dbp_rules.specs.Moves as move;
-ghost use Rattle.dbp_rules.specs.Places.{link, task, task_entry};
+ghost use Rattle.dbp_rules.specs.Lookups.{link, task, task_entry};
 ghost use Rattle.dbp_rules.specs.Rules.{further, with_claim, with_entry, with_task};
 
 use crate::look_up::task_at;

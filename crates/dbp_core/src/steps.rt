@@ -5,11 +5,12 @@ ghost use Rattle.dbp_plan.specs.Closed.{IsClosedTask, place_count};
 ghost use Rattle.dbp_plan.specs.Samples.{input_value};
 ghost use Rattle.dbp_plan.specs.Lookups.{declared_task};
 ghost use Rattle.dbp_rules.specs.Moves as move;
-ghost use Rattle.dbp_rules.specs.Places.{link, order, read_at, slot_at, task, wired_task};
+ghost use Rattle.dbp_rules.specs.Lookups.{link, order, read_at, slot_at, task, wired_task};
 ghost use Rattle.dbp_rules.specs.Rules as rule;
 ghost use Rattle.dbp_rules.specs.Rules.{with_part, with_task};
 ghost use Rattle.dbp_rules.specs.Shapes.{HasSamples};
 ghost use Rattle.dbp_rules.specs.declared.parts.Place.TheVariants as place;
+ghost use Rattle.dbp_rules.specs.declared.parts.TheConstants.{MAX_ORDERS};
 
 use crate::conditions::own_time;
 use crate::look_up::{declared_at, task_at, wired_at};
@@ -56,7 +57,7 @@ pub(crate) fn hear(wiring: &Wiring, state: &mut State, i: u32, n: u32) -> Order
     requires at { rule.hears_at (task state.old i).part.place ≡ n }
     requires links { n ≤ length (wired_task wiring.now i).links }
     requires orders { (j : ℕ) → j < length (wired_task wiring.now i).links → slice_index (wired_task wiring.now i).links j < length state.old.orders }
-    requires room { length (task state.old i).part.heard.items < 17 }
+    requires room { length (task state.old i).part.heard.items < MAX_ORDERS }
     requires few { 1 + length (wired_task wiring.now i).links < 2 ^ 32 }
     requires small { n + 1 < 2 ^ 32 }
     ensures order { result ≡ rule.order_word wiring.now state.old i n }

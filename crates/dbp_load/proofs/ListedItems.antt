@@ -10,7 +10,7 @@ use Rattle.std.proofs.lemmas.List.Elements.{All-push}
 use Rattle.std.proofs.lemmas.List.Folds.{find-append, list_any-append}
 use Rattle.std.proofs.lemmas.List.Sums.{sum_by_push}
 use Rattle.std.proofs.lemmas.Option.{get_or_from_slice_get, same_Some, slice_get_within}
-use Rattle.dbp_plan.specs.Places.{front_place, last_place}
+use Rattle.dbp_plan.specs.ListItems.{front_place, last_place}
 use Rattle.dbp_load.specs.Listed.{first_items}
 
 module _ {A : Type 0} (f : ℕ → A) where

@@ -5,7 +5,7 @@ use Rattle.std.proofs.lemmas.Bool.{cases_Bool, cases_lt, ltb-true}
 use Rattle.std.proofs.lemmas.List.{get_or_default}
 use Rattle.std.proofs.lemmas.Option.{cond_some, none-some, same_Some}
 use Rattle.dbp_plan.specs.Clocks.{time_at}
-use Rattle.dbp_plan.specs.Places.{all_place}
+use Rattle.dbp_plan.specs.ListItems.{all_place}
 use Rattle.dbp_plan.specs.declared.diagram.Clock.{Clock}
 use Rattle.dbp_plan.specs.declared.diagram.Clock.TheVariants.{Every, On}
 use Rattle.dbp_plan.specs.declared.limits.TheConstants.{MAX_OCCURRENCES}

@@ -5,7 +5,7 @@ use Rattle.dbp_plan.specs.declared.diagram.Task.{Task}
 use Rattle.dbp_plan.specs.declared.schedule.Batch.{Batch}
 use Rattle.dbp_plan.specs.declared.table.Table.{Table}
 use Rattle.dbp_plan.specs.Table.{HasAllRows, HasRows, row_at}
-use Rattle.dbp_plan.specs.Places.{at_place}
+use Rattle.dbp_plan.specs.ListItems.{at_place}
 
 pub has_rows : (tasks : List Task) (batches : List Batch) (table : Table) → HasAllRows tasks batches table → HasRows tasks batches table
 has_rows tasks batches table all i n fits few =

@@ -26,9 +26,9 @@ pub mod Table
 pub mod Tree
 pub mod WriteSink
 -- What private functions, the inside of types and proofs cite.
+pub mod ListItems
 pub mod NameInside
 pub mod Operands
-pub mod Places
 pub mod Ranges
 pub mod Ranking
 pub mod Rankings

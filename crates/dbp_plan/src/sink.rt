@@ -40,7 +40,7 @@ pub struct WriteSink<W> {
 }
 
 impl<W: io::Write> WriteSink<W> {
-    ghost use Rattle.dbp_plan.specs.WriteSink.{write_failures, inner_writer, put_of, failures_after};
+    ghost use Rattle.dbp_plan.specs.WriteSink.{write_failures, inner_writer, put_of, failures_after_write};
 
     /// A sink over the writer, which hasn't failed yet.
     pub fn new(writer: W) -> WriteSink<W>
@@ -54,7 +54,7 @@ impl<W: io::Write> WriteSink<W> {
     fn answered(&mut self, taken: io::Result<usize>) -> Put
         ensures put { result ≡ put_of taken }
         ensures writer { inner_writer self.new ≡ inner_writer self.old }
-        ensures faults { write_failures self.new ≡ failures_after taken (write_failures self.old) }
+        ensures faults { write_failures self.new ≡ failures_after_write taken (write_failures self.old) }
         ensures cause { TakesCause (write_failures self.old) (write_failures self.new) result }
     {
         match taken {

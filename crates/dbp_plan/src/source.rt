@@ -41,7 +41,7 @@ pub struct ReadSource<R> {
 }
 
 impl<R: io::Read> ReadSource<R> {
-    ghost use Rattle.dbp_plan.specs.ReadSource.{read_failures, inner_reader, got_of, failures_after};
+    ghost use Rattle.dbp_plan.specs.ReadSource.{read_failures, inner_reader, got_of, failures_after_read};
 
     /// A source over the reader, which hasn't failed yet.
     pub fn new(reader: R) -> ReadSource<R>
@@ -55,7 +55,7 @@ impl<R: io::Read> ReadSource<R> {
     fn answered(&mut self, given: io::Result<usize>) -> Got
         ensures got { result ≡ got_of given }
         ensures reader { inner_reader self.new ≡ inner_reader self.old }
-        ensures faults { read_failures self.new ≡ failures_after given (read_failures self.old) }
+        ensures faults { read_failures self.new ≡ failures_after_read given (read_failures self.old) }
         ensures cause { GivesCause (read_failures self.old) (read_failures self.new) result }
     {
         match given {

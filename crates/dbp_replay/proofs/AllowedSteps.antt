@@ -15,7 +15,7 @@ use Rattle.dbp_rules.specs.declared.step.Count.{Count}
 use Rattle.dbp_rules.specs.declared.step.Step.{Step}
 use Rattle.dbp_rules.specs.declared.step.Step.TheVariants.{Seen, Aim, Claim, OpenGate, Start, Hear, Look, Take, Shut, Put, Done, End}
 use Rattle.dbp_replay.specs.Names.{HasSlotNumber}
-use Rattle.dbp_replay.specs.Places.{HasOperand, IsThere, task_of}
+use Rattle.dbp_replay.specs.NamedItems.{HasOperand, IsThere, task_of}
 use Rattle.dbp_replay.specs.Replays.{first}
 
 module _ (p : Plan) (count : Count) (s : State) (shape : IsShape p (wiring_of p count) s) where

@@ -11,7 +11,7 @@ use Rattle.std.proofs.lemmas.Option.{slice_get-get_or}
 use Rattle.std.proofs.lemmas.Slice.Eq.{bytes_eq-Decides}
 use Rattle.dbp_plan.specs.declared.diagram.Diagram.{Diagram}
 use Rattle.dbp_plan.specs.declared.diagram.Task.{Task}
-use Rattle.dbp_plan.specs.Places.{all_place, take_place}
+use Rattle.dbp_plan.specs.ListItems.{all_place, take_place}
 use Rattle.dbp_plan.specs.NameLists.{is_among}
 use Rattle.dia_tokens.specs.Printable.{IsPrintableName}
 use Rattle.dia_lines.specs.declared.item.Part.{Part}

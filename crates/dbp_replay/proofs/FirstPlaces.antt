@@ -10,11 +10,11 @@ use Rattle.std.proofs.lemmas.Slice.Eq.{bytes_eq-Decides}
 use Rattle.dbp_plan.specs.declared.diagram.Diagram.{Diagram}
 use Rattle.dbp_plan.specs.declared.diagram.Link.{Link}
 use Rattle.dbp_plan.specs.declared.diagram.Out.{Out}
-use Rattle.dbp_plan.specs.Places.{all_place, at_place}
-use Rattle.dbp_plan.specs.Lookups.{no_declared, no_read, no_link}
+use Rattle.dbp_plan.specs.ListItems.{all_place, at_place}
+use Rattle.dbp_plan.specs.Lookups.{link_at, no_declared_task, no_link, no_read, task_at}
 use Rattle.dia_tokens.specs.Printable.{IsPrintableName}
 use Rattle.dbp_replay.specs.Names.{AreNamed, HasNames}
-use Rattle.dbp_replay.specs.Places.{link_in, out_name, port_name, read_name, task_in}
+use Rattle.dbp_replay.specs.NamedItems.{out_name, port_name, read_name}
 use Rattle.dbp_replay.specs.StepForms.{is_link, link_between, port_named, read_named, task_named, within}
 use Rattle.dbp_replay.proofs.There.{link-parts}
 
@@ -42,41 +42,41 @@ same-link k l passes =
     λ i. record { writer = parts.0 i; reader = parts.1 i; delay = parts.2 i }
 
 module _ (d : Diagram) (names : HasNames d) where
-  pub task-place : (i : ℕ) → i < length d.tasks → task_named d (task_in d i).name ≡ Some i
-  task-place i below = named-place (λ t. t.name) d.tasks i (task_in d i) names.tasks (slice_get-get_or d.tasks i no_declared below)
+  pub task-place : (i : ℕ) → i < length d.tasks → task_named d (task_at d i).name ≡ Some i
+  task-place i below = named-place (λ t. t.name) d.tasks i (task_at d i) names.tasks (slice_get-get_or d.tasks i no_declared_task below)
 
-  pub read-place : (i r : ℕ) → i < length d.tasks → r < length (task_in d i).reads → read_named d i (read_name d i r) ≡ Some r
+  pub read-place : (i r : ℕ) → i < length d.tasks → r < length (task_at d i).reads → read_named d i (read_name d i r) ≡ Some r
   read-place i r task below =
-      let reads = (task_in d i).reads in
-      named-place (λ q. q.name) reads r (get_or reads r no_read) (names.reads i no_declared task) (slice_get-get_or reads r no_read below)
+      let reads = (task_at d i).reads in
+      named-place (λ q. q.name) reads r (get_or reads r no_read) (names.reads i no_declared_task task) (slice_get-get_or reads r no_read below)
 
-  out-at : (i p : ℕ) → p < length (task_in d i).outs → (o : Out) × (slice_get (task_in d i).outs p ≡ Some o) × (port_name d i p ≡ o.name)
+  out-at : (i p : ℕ) → p < length (task_at d i).outs → (o : Out) × (slice_get (task_at d i).outs p ≡ Some o) × (port_name d i p ≡ o.name)
   out-at i p below =
-      let out = at_place (task_in d i).outs p below in
+      let out = at_place (task_at d i).outs p below in
       (out.0, out.1, ap out_name out.1)
 
-  pub port-place : (i p : ℕ) → i < length d.tasks → p < length (task_in d i).outs → port_named d i (port_name d i p) ≡ Some p
+  pub port-place : (i p : ℕ) → i < length d.tasks → p < length (task_at d i).outs → port_named d i (port_name d i p) ≡ Some p
   port-place i p task below =
       let out = out-at i p below in
-      ap (port_named d i) out.2 ∙ named-place (λ o. o.name) (task_in d i).outs p out.0 (names.outs i no_declared task) out.1
+      ap (port_named d i) out.2 ∙ named-place (λ o. o.name) (task_at d i).outs p out.0 (names.outs i no_declared_task task) out.1
 
-  pub link-place : (k : ℕ) → k < length d.links → (link_in d k).writer < length d.tasks
-      → link_between d (task_named d (task_in d (link_in d k).writer).name) (link_in d k).reader (link_in d k).delay ≡ Some k
+  pub link-place : (k : ℕ) → k < length d.links → (link_at d.links k).writer < length d.tasks
+      → link_between d (task_named d (task_at d (link_at d.links k).writer).name) (link_at d.links k).reader (link_at d.links k).delay ≡ Some k
   link-place k below writer =
-      let l = link_in d k in
+      let l = link_at d.links k in
       ap (λ w. link_between d w l.reader l.delay) (task-place l.writer writer)
       ∙ first-place (λ m n. m ≢ n) (is_link l.writer l.reader l.delay) d.links k l names.links (slice_get-get_or d.links k no_link below) (link-itself l)
       (λ m apart. false_from_ne_true (is_link l.writer l.reader l.delay m) (λ same. apart (same-link m l same)))
 
   -- the names can be written
 
-  pub task-printable : (i : ℕ) → i < length d.tasks → IsPrintableName (task_in d i).name
-  task-printable i below = names.tasks.each i no_declared below
+  pub task-printable : (i : ℕ) → i < length d.tasks → IsPrintableName (task_at d i).name
+  task-printable i below = names.tasks.each i no_declared_task below
 
-  pub read-printable : (i r : ℕ) → i < length d.tasks → r < length (task_in d i).reads → IsPrintableName (read_name d i r)
-  read-printable i r task below = (names.reads i no_declared task).each r no_read below
+  pub read-printable : (i r : ℕ) → i < length d.tasks → r < length (task_at d i).reads → IsPrintableName (read_name d i r)
+  read-printable i r task below = (names.reads i no_declared_task task).each r no_read below
 
-  pub port-printable : (i p : ℕ) → i < length d.tasks → p < length (task_in d i).outs → IsPrintableName (port_name d i p)
+  pub port-printable : (i p : ℕ) → i < length d.tasks → p < length (task_at d i).outs → IsPrintableName (port_name d i p)
   port-printable i p task below =
       let out = out-at i p below in
-      subst IsPrintableName (sym out.2) (all_place (λ o. IsPrintableName o.name) (task_in d i).outs p out.0 (names.outs i no_declared task).each out.1)
+      subst IsPrintableName (sym out.2) (all_place (λ o. IsPrintableName o.name) (task_at d i).outs p out.0 (names.outs i no_declared_task task).each out.1)

@@ -6,7 +6,7 @@ use Rattle.std.proofs.lemmas.List.Sums.{sum_by-append}
 use Rattle.std.proofs.lemmas.List.Elements.{All-append, All-head, All-nil, All-cons, All-tail}
 use Rattle.dbp_rules.specs.declared.step.Step.{Step}
 use Rattle.dbp_plan.specs.declared.diagram.Diagram.{Diagram}
-use Rattle.dbp_plan.specs.Places.{all_place, after_place}
+use Rattle.dbp_plan.specs.ListItems.{all_place, after_place}
 use Rattle.dia_tokens.specs.declared.token.Token.{Token}
 use Rattle.dia_tokens.specs.Line.{Spells}
 use Rattle.dia_tokens.proofs.SpellingLaws.{no-feed}
@@ -21,7 +21,7 @@ use Rattle.dia_read.proofs.Fitting.{fit-more}
 use Rattle.dia_read.proofs.Paired.{feeds}
 use Rattle.dia_read.proofs.Following.{all-inside, allowed-inside}
 use Rattle.dbp_replay.specs.declared.fail.ScriptCode.{ScriptCode}
-use Rattle.dbp_replay.specs.Places.{IsThere}
+use Rattle.dbp_replay.specs.NamedItems.{IsThere}
 use Rattle.dbp_replay.specs.Scripts.{IsFirstFault, IsScript, Name, Says}
 use Rattle.dbp_replay.proofs.There.{step-there}
 

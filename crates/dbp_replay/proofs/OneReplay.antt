@@ -11,7 +11,7 @@ use Rattle.dbp_rules.specs.Rules.{refusal}
 use Rattle.dbp_rules.specs.Wired.{wiring_of}
 use Rattle.dbp_rules.proofs.LeadsLaws.{IsAllowedAfter, leads_at, leads_once}
 use Rattle.dbp_plan.specs.declared.plan.Plan.{Plan}
-use Rattle.dbp_plan.specs.Places.{take_place}
+use Rattle.dbp_plan.specs.ListItems.{take_place}
 use Rattle.dbp_replay.specs.Replays.{IsIllegal, IsReplay, first}
 
 take-shorter : {X : Type 0} (xs : List X) (k n : ℕ) → k ≤ n → take k (take n xs) ≡ take k xs

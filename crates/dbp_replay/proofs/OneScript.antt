@@ -3,7 +3,7 @@ use Rattle.std.proofs.Common.{◌≡◌, ℕ, zero, suc, ◌<◌, List, [], leng
 use Rattle.std.specs.Prelude.{Result}
 use Rattle.std.proofs.lemmas.Bool.{cases_order}
 use Rattle.std.proofs.lemmas.Option.{same_Some, slice_get_within}
-use Rattle.dbp_plan.specs.Places.{take_place}
+use Rattle.dbp_plan.specs.ListItems.{take_place}
 use Rattle.dbp_rules.specs.declared.step.Step.{Step}
 use Rattle.dbp_plan.specs.declared.diagram.Diagram.{Diagram}
 use Rattle.dia_tokens.proofs.OneLine.{one-list}

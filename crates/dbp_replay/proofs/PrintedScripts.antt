@@ -9,7 +9,7 @@ use Rattle.dia_tokens.specs.Kinds.{is_allowed}
 use Rattle.dia_read.specs.declared.document.Doc.{Doc}
 use Rattle.dia_read.specs.Documents.{none, another}
 use Rattle.dbp_replay.specs.Names.{HasNames, HasSlotNumber}
-use Rattle.dbp_replay.specs.Places.{IsThere}
+use Rattle.dbp_replay.specs.NamedItems.{IsThere}
 use Rattle.dbp_replay.specs.Scripts.{IsScript, Name, Says}
 use Rattle.dbp_replay.specs.Texts.{script_text, step_text}
 use Rattle.dia_read.proofs.Following.{all-inside, allowed-inside}

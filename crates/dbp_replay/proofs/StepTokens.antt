@@ -9,7 +9,7 @@ use Rattle.dbp_rules.specs.declared.step.Step.{Step}
 use Rattle.dbp_rules.specs.declared.step.Step.TheVariants as step
 use Rattle.dbp_plan.specs.declared.diagram.Diagram.{Diagram}
 use Rattle.dbp_plan.specs.Limits.{max_delay, max_delay-le}
-use Rattle.dbp_plan.specs.Lookups.{no_link}
+use Rattle.dbp_plan.specs.Lookups.{link_at, no_link, task_at}
 use Rattle.dia_lines.specs.Delays.{delay_at, delay_tokens}
 use Rattle.dia_lines.proofs.DelayLaws.{given_delay, longer-tokens, short-given}
 use Rattle.dia_tokens.specs.declared.edge.Edge.TheVariants.{Loose}
@@ -26,7 +26,7 @@ use Rattle.dbp_replay.specs.declared.form.Operand.TheVariants as operand
 use Rattle.dbp_replay.specs.declared.kind.Takes.{Takes}
 use Rattle.dbp_replay.specs.declared.kind.Takes.TheVariants.{Nothing, Slot, Writer, Read, Port}
 use Rattle.dbp_replay.specs.Names.{HasNames, HasSlotNumber}
-use Rattle.dbp_replay.specs.Places.{IsThere, link_in, port_name, read_name, task_in, task_of}
+use Rattle.dbp_replay.specs.NamedItems.{IsThere, port_name, read_name, task_of}
 use Rattle.dbp_replay.specs.Scripts.{Says}
 use Rattle.dbp_replay.specs.StepForms.{form_of, named_step, number_of, step_numbered, of_kind, of_task, operand_of, small_delay, step_with, with_operand, writer_of}
 use Rattle.dbp_replay.specs.Texts.{delay_words, operand_words, spaced_words, step_text}
@@ -129,10 +129,10 @@ bare d e none takes again = record {
 operand-words : (d : Diagram) (e : Step) → HasNames d → IsThere d e → HasSlotNumber e → HasOperandWords d e
 operand-words d (step.Aim i slot) names there small = record { given = operand.Slot slot; words = slot-number slot small; number = slot; found = refl; again = refl }
 operand-words d (step.Claim k) names there small =
-    let l = link_in d k in
+    let l = link_at d.links k in
     record {
-      given = operand.Link l.delay (task_in d l.writer).name;
-      words = writer l.delay (task_in d l.writer).name (names.delays k no_link there.named) (task-printable d names l.writer there.operand);
+      given = operand.Link l.delay (task_at d l.writer).name;
+      words = writer l.delay (task_at d l.writer).name (names.delays k no_link there.named) (task-printable d names l.writer there.operand);
       number = k;
       found = link-place d names k there.named there.operand;
       again = refl;
@@ -166,7 +166,7 @@ pub says-step : (d : Diagram) (e : Step) → HasNames d → IsThere d e → HasS
 says-step d e names there small =
     let kind = kind_of e in
     let i = task_of d e in
-    let n = (task_in d i).name in
+    let n = (task_at d i).name in
     let o = operand-words d e names there small in
     let rest = token.Name n ∷ o.words.tokens in
     let tokens = first_token kind ∷ rest in

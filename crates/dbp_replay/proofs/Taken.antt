@@ -15,7 +15,7 @@ use Rattle.dbp_rules.specs.Wired.{wiring_of}
 use Rattle.dbp_rules.proofs.LeadsLaws.{answer_allowed, answer_refused, leads_more}
 use Rattle.dbp_plan.specs.declared.plan.Plan.{Plan}
 use Rattle.dbp_replay.proofs.OneReplay.{text-not-refused}
-use Rattle.dbp_replay.specs.Places.{IsThere}
+use Rattle.dbp_replay.specs.NamedItems.{IsThere}
 use Rattle.dbp_replay.specs.Replays.{AreTaken, IsIllegal, IsReplay, first, taken_text, with_heard}
 
 -- ---- one step more

@@ -10,7 +10,7 @@ use Rattle.std.proofs.lemmas.Option.{same_Some}
 use Rattle.dbp_rules.specs.declared.step.Step.{Step}
 use Rattle.dbp_plan.specs.declared.diagram.Diagram.{Diagram}
 use Rattle.dbp_plan.specs.declared.diagram.Link.{Link}
-use Rattle.dbp_plan.specs.Lookups.{no_link}
+use Rattle.dbp_plan.specs.Lookups.{link_at, no_link, task_at}
 use Rattle.dia_tokens.specs.declared.token.Token.{Token}
 use Rattle.dia_tokens.specs.declared.token.Token.TheVariants as token
 use Rattle.dia_lines.specs.Delays.{delay_at}
@@ -22,7 +22,7 @@ use Rattle.dbp_rules.specs.declared.kind.StepKind.{StepKind}
 use Rattle.dbp_rules.specs.declared.kind.StepKind.TheVariants.{Seen, Aim, Claim, OpenGate, Start, Hear, Look, Take, Shut, Put, Done, End}
 use Rattle.dbp_replay.specs.declared.kind.Takes.{Takes}
 use Rattle.dbp_replay.specs.declared.kind.Takes.TheVariants.{Nothing, Slot, Writer, Read, Port}
-use Rattle.dbp_replay.specs.Places.{IsThere, link_in, task_in}
+use Rattle.dbp_replay.specs.NamedItems.{IsThere}
 use Rattle.dbp_replay.specs.StepForms.{form_of, is_link, kind_with, link_between, named_step, number_of, step_numbered, of_kind, of_task, operand_of, name_text, small_delay, step_of, step_with, task_named, with_operand, within, writer_of}
 
 within-is : (len place n : ℕ) → within len place ≡ Some n → (place ≡ n) × (place < len)
@@ -75,12 +75,12 @@ link-parts writer reader delay l passes =
     (eqb-true _ _ first.0, eqb-true _ _ second.0, eqb-true _ _ second.1)
 
 linked : (d : Diagram) (i delay n : ℕ) (writer : Option ℕ) → ((w : ℕ) → writer ≡ Some w → w < length d.tasks) → i < length d.tasks → link_between d writer i delay ≡ Some n
-    → (n < length d.links) × ((link_in d n).reader < length d.tasks) × ((link_in d n).writer < length d.tasks)
+    → (n < length d.links) × ((link_at d.links n).reader < length d.tasks) × ((link_at d.links n).writer < length d.tasks)
 linked d i delay n None there below e = absurd (cc (e))
 linked d i delay n (Some w) there below e =
     let both = within-is (length d.links) (position_or_len (is_link w i delay) d.links) n e in
-    let passes : is_link w i delay (link_in d n) ≡ true = subst (λ (k : ℕ). is_link w i delay (link_in d k) ≡ true) both.0 (passes_at_first (is_link w i delay) d.links no_link both.1) in
-    let parts = link-parts w i delay (link_in d n) passes in
+    let passes : is_link w i delay (link_at d.links n) ≡ true = subst (λ (k : ℕ). is_link w i delay (link_at d.links k) ≡ true) both.0 (passes_at_first (is_link w i delay) d.links no_link both.1) in
+    let parts = link-parts w i delay (link_at d.links n) passes in
     (subst (λ (k : ℕ). k < length d.links) both.0 both.1, subst (λ (k : ℕ). k < length d.tasks) (sym parts.1) below, subst (λ (k : ℕ). k < length d.tasks) (sym parts.0) (there w refl))
 
 named-below : (d : Diagram) (name : List ℕ) (i : ℕ) → task_named d name ≡ Some i → i < length d.tasks
@@ -95,10 +95,10 @@ there d Claim i n (operand.Link delay w) below fits e =
 there d OpenGate i n o below fits e = record { named = below; task = below; operand = tt }
 there d Start i n o below fits e = record { named = below; task = below; operand = tt }
 there d Hear i n o below fits e = record { named = below; task = below; operand = tt }
-there d Look i n (operand.Read r) below fits e = record { named = below; task = below; operand = within-below (length (task_in d i).reads) (position_or_len (λ x. bytes_eq x.name r) (task_in d i).reads) n e }
-there d Take i n (operand.Read r) below fits e = record { named = below; task = below; operand = within-below (length (task_in d i).reads) (position_or_len (λ x. bytes_eq x.name r) (task_in d i).reads) n e }
+there d Look i n (operand.Read r) below fits e = record { named = below; task = below; operand = within-below (length (task_at d i).reads) (position_or_len (λ x. bytes_eq x.name r) (task_at d i).reads) n e }
+there d Take i n (operand.Read r) below fits e = record { named = below; task = below; operand = within-below (length (task_at d i).reads) (position_or_len (λ x. bytes_eq x.name r) (task_at d i).reads) n e }
 there d Shut i n o below fits e = record { named = below; task = below; operand = tt }
-there d Put i n (operand.Port p) below fits e = record { named = below; task = below; operand = within-below (length (task_in d i).outs) (position_or_len (λ x. bytes_eq x.name p) (task_in d i).outs) n e }
+there d Put i n (operand.Port p) below fits e = record { named = below; task = below; operand = within-below (length (task_at d i).outs) (position_or_len (λ x. bytes_eq x.name p) (task_at d i).outs) n e }
 there d Done i n o below fits e = record { named = below; task = below; operand = tt }
 there d End i n o below fits e = record { named = below; task = below; operand = tt }
 there d _ i n o below fits e = absurd (fits)

@@ -1,7 +1,7 @@
 -- Definitions that public clauses cite.
 pub mod Codes
+pub mod NamedItems
 pub mod Names
-pub mod Places
 pub mod Replays
 pub mod Scripts
 pub mod StepForms

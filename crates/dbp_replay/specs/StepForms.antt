@@ -11,7 +11,7 @@ use Rattle.dia_lines.specs.Limits.{delay_fits}
 use Rattle.dia_tokens.specs.declared.token.Token.{Token}
 use Rattle.dia_tokens.specs.declared.token.Token.TheVariants as token
 use Rattle.dia_tokens.specs.Words.{word_text}
-use Rattle.dbp_replay.specs.Places.{task_in}
+use Rattle.dbp_plan.specs.Lookups.{task_at}
 use Rattle.dbp_replay.specs.declared.fail.ScriptCode.{ScriptCode}
 use Rattle.dbp_replay.specs.declared.fail.ScriptCode.TheVariants.{BadStep, StepName}
 use Rattle.dbp_replay.specs.declared.form.Form.{Form}
@@ -110,10 +110,10 @@ task_named d n = within (length d.tasks) (position_or_len (λ t. bytes_eq t.name
 
 -- the first read of the task with the name, and the first out
 abbrev pub read_named : Diagram → ℕ → List ℕ → Option ℕ
-read_named d i n = within (length (task_in d i).reads) (position_or_len (λ r. bytes_eq r.name n) (task_in d i).reads)
+read_named d i n = within (length (task_at d i).reads) (position_or_len (λ r. bytes_eq r.name n) (task_at d i).reads)
 
 abbrev pub port_named : Diagram → ℕ → List ℕ → Option ℕ
-port_named d i n = within (length (task_in d i).outs) (position_or_len (λ o. bytes_eq o.name n) (task_in d i).outs)
+port_named d i n = within (length (task_at d i).outs) (position_or_len (λ o. bytes_eq o.name n) (task_at d i).outs)
 
 abbrev pub is_link : ℕ → ℕ → ℕ → Link → Bool
 is_link writer reader delay l = (l.writer == writer) && ((l.reader == reader) && (l.delay == delay))

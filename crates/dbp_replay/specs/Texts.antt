@@ -8,7 +8,8 @@ use Rattle.dbp_rules.specs.declared.step.Heard.TheVariants as heard
 use Rattle.dbp_rules.specs.declared.step.Step.{Step}
 use Rattle.dbp_rules.specs.declared.step.Step.TheVariants as step
 use Rattle.dbp_plan.specs.declared.diagram.Diagram.{Diagram}
-use Rattle.dbp_replay.specs.Places.{link_in, port_name, read_name, task_in, task_of}
+use Rattle.dbp_plan.specs.Lookups.{link_at, task_at}
+use Rattle.dbp_replay.specs.NamedItems.{port_name, read_name, task_of}
 use Rattle.dbp_replay.specs.StepForms.{form_of}
 
 -- each word after a space
@@ -27,7 +28,7 @@ delay_words delay = if delay == 0 then [] else codes "pre" ∷ delay_number dela
 -- the words after the task
 abbrev pub operand_words : Diagram → Step → List (List ℕ)
 operand_words d (step.Aim i slot) = decimal slot ∷ []
-operand_words d (step.Claim k) = delay_words (link_in d k).delay ++ (task_in d (link_in d k).writer).name ∷ []
+operand_words d (step.Claim k) = delay_words (link_at d.links k).delay ++ (task_at d (link_at d.links k).writer).name ∷ []
 operand_words d (step.Look i r) = read_name d i r ∷ []
 operand_words d (step.Take i r) = read_name d i r ∷ []
 operand_words d (step.Put i p) = port_name d i p ∷ []
@@ -35,7 +36,7 @@ operand_words d _ = []
 
 -- the words of a step, joined by one space
 abbrev pub step_text : Diagram → Step → List ℕ
-step_text d e = (form_of (kind_of e)).0 ++ spaced_words ((task_in d (task_of d e)).name ∷ operand_words d e)
+step_text d e = (form_of (kind_of e)).0 ++ spaced_words ((task_at d (task_of d e)).name ∷ operand_words d e)
 
 -- a line for each step, ended by a line feed
 abbrev pub script_text : Diagram → List Step → List ℕ

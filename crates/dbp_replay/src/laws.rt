@@ -14,7 +14,7 @@ ghost use Rattle.dia_read.specs.declared.document.Doc.{Doc as AnyDoc};
 ghost use Rattle.dia_read.specs.Printable.{HasItemLines, IsPrintable};
 ghost use Rattle.dbp_replay.specs.declared.fail.ScriptCode.{ScriptCode as AnyCode};
 ghost use Rattle.dbp_replay.specs.Names.{HasNames, HasSlotNumber};
-ghost use Rattle.dbp_replay.specs.Places.{IsThere};
+ghost use Rattle.dbp_replay.specs.NamedItems.{IsThere};
 ghost use Rattle.dbp_replay.specs.Replays.{IsReplay, IsIllegal, first};
 ghost use Rattle.dbp_replay.specs.Scripts.{IsScript, IsScriptFault};
 ghost use Rattle.dbp_replay.specs.Texts.{script_text};

@@ -2,21 +2,22 @@
 
 ghost use Rattle.std.specs.Prelude.{◌≡◌, ◌<◌, length};
 ghost use Rattle.dbp_rules.specs.Rules.{IsNamed};
-ghost use Rattle.dbp_replay.specs.Places.{link_in, port_name, read_name, task_in, task_of};
+ghost use Rattle.dbp_plan.specs.Lookups.{link_at, task_at};
+ghost use Rattle.dbp_replay.specs.NamedItems.{port_name, read_name, task_of};
 
 use dbp_core::Step;
 use dbp_plan::{Diagram, Link, Task};
 
 pub(crate) fn task_at(diagram: &Diagram, i: u32) -> &Task
     requires { i < length diagram.now.tasks }
-    ensures { result.now ≡ task_in diagram.now i }
+    ensures { result.now ≡ task_at diagram.now i }
 {
     &diagram.tasks.items()[i as usize]
 }
 
 pub(crate) fn link_at(diagram: &Diagram, k: u32) -> Link
     requires { k < length diagram.now.links }
-    ensures { result ≡ link_in diagram.now k }
+    ensures { result ≡ link_at diagram.now.links k }
 {
     diagram.links.items()[k as usize]
 }
@@ -24,7 +25,7 @@ pub(crate) fn link_at(diagram: &Diagram, k: u32) -> Link
 /// The name of the task.
 pub(crate) fn task_name(diagram: &Diagram, i: u32) -> &[u8]
     requires { i < length diagram.now.tasks }
-    ensures { result.now ≡ (task_in diagram.now i).name }
+    ensures { result.now ≡ (task_at diagram.now i).name }
 {
     task_at(diagram, i).name.bytes()
 }
@@ -32,7 +33,7 @@ pub(crate) fn task_name(diagram: &Diagram, i: u32) -> &[u8]
 /// The name of the task's read.
 pub(crate) fn read_name(diagram: &Diagram, i: u32, read: u32) -> &[u8]
     requires task { i < length diagram.now.tasks }
-    requires read { read < length (task_in diagram.now i).reads }
+    requires read { read < length (task_at diagram.now i).reads }
     ensures { result.now ≡ read_name diagram.now i read }
 {
     task_at(diagram, i).reads.items()[read as usize]
@@ -43,7 +44,7 @@ pub(crate) fn read_name(diagram: &Diagram, i: u32, read: u32) -> &[u8]
 /// The name of the task's out.
 pub(crate) fn port_name(diagram: &Diagram, i: u32, port: u32) -> &[u8]
     requires task { i < length diagram.now.tasks }
-    requires port { port < length (task_in diagram.now i).outs }
+    requires port { port < length (task_at diagram.now i).outs }
     ensures { result.now ≡ port_name diagram.now i port }
 {
     task_at(diagram, i).outs.items()[port as usize].name.bytes()

@@ -3,7 +3,7 @@
 ghost use Rattle.std.specs.Prelude.{◌≡◌, ◌<◌, ◌≤◌, ◌^◌, ◌==◌, ◌&&◌, length};
 ghost use Rattle.std.specs.List.{position_or_len};
 ghost use Rattle.std.specs.Str.{bytes_eq};
-ghost use Rattle.dbp_replay.specs.Places.{task_in};
+ghost use Rattle.dbp_plan.specs.Lookups.{task_at};
 ghost use Rattle.dbp_replay.specs.StepForms.{is_link, link_between, named_step, number_of, step_numbered, of_task, port_named, read_named, step_of, step_with, task_named, within};
 
 use crate::fail::ScriptCode;

@@ -1,7 +1,7 @@
 // Steps as text.
 
 ghost use Rattle.std.specs.Prelude.{◌≡◌, ◌∷◌, ◌++◌, All, IfOk, OnOk};
-ghost use Rattle.dbp_replay.specs.Places.{IsThere};
+ghost use Rattle.dbp_replay.specs.NamedItems.{IsThere};
 ghost use Rattle.dbp_replay.specs.Texts.{delay_words, heard_words, operand_words, script_text, spaced_words, step_text};
 
 use crate::kind::opening_of;

@@ -2,7 +2,7 @@
 
 ghost use Rattle.std.specs.Prelude.{◌≡◌, ◌<◌, ◌≤◌, ◌^◌, ℕ, [], All, Err, IfErr, IfOk, length, vec_capacity, vec_len};
 ghost use Rattle.dbp_core.specs.Cores.{count_in, plan_in, state_in};
-ghost use Rattle.dbp_replay.specs.Places.{IsThere};
+ghost use Rattle.dbp_replay.specs.NamedItems.{IsThere};
 ghost use Rattle.dbp_replay.specs.Replays.{IsIllegal, IsReplay, IsReplayRefusal, first, taken_text};
 ghost use Rattle.dbp_replay.specs.declared.fail.ReplayFail.TheVariants as replay_fail;
 ghost use Rattle.dbp_rules.specs.declared.step.Illegal.{Illegal as Refusal};

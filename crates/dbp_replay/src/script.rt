@@ -6,7 +6,7 @@ ghost use Rattle.dia_tokens.specs.declared.line.LineFail.TheVariants.{NoMemory a
 ghost use Rattle.dia_read.specs.Printable.{HasItemLines, IsPrintable};
 ghost use Rattle.dbp_replay.specs.declared.fail.ScriptCode.TheVariants.{NoScript as NoSection};
 ghost use Rattle.dbp_replay.specs.declared.fail.ScriptFail.TheVariants as script_fail;
-ghost use Rattle.dbp_replay.specs.Places.{IsThere};
+ghost use Rattle.dbp_replay.specs.NamedItems.{IsThere};
 ghost use Rattle.dbp_replay.specs.Scripts.{IsScript, IsScriptRefusal, Says};
 
 use crate::fail::{ScriptCode, ScriptFail};

@@ -2,7 +2,7 @@
 
 ghost use Rattle.std.specs.Prelude.{◌≡◌, ◌<◌, ◌≤◌, ◌^◌, [], All, IfErr, IfOk, length, vec_capacity, vec_len};
 ghost use Rattle.dbp_core.specs.Cores.{count_in, plan_in, state_in};
-ghost use Rattle.dbp_replay.specs.Places.{IsThere};
+ghost use Rattle.dbp_replay.specs.NamedItems.{IsThere};
 ghost use Rattle.dbp_replay.specs.Replays.{AreTaken, IsIllegal, first};
 
 use crate::fail::Refused;

@@ -5,7 +5,7 @@ use Rattle.std.specs.Option.{option_or}
 use Rattle.std.proofs.lemmas.Bool.{cases_Bool, cases_lt, eq-eqb, eqb-true, lt-ltb, ltb-true}
 use Rattle.release_list.specs.declared.release.Release.TheVariants as release
 use Rattle.dbp_rules.specs.PartyRules as rule
-use Rattle.dbp_rules.specs.Places.{entry_in, wired_task}
+use Rattle.dbp_rules.specs.Lookups.{entry_in, wired_task}
 use Rattle.dbp_rules.specs.declared.parts.ReleaserPart.{ReleaserPart}
 use Rattle.dbp_rules.specs.declared.step.Broken.TheVariants as broken
 use Rattle.dbp_rules.specs.declared.step.Step.TheVariants.{Aim}

@@ -2,7 +2,7 @@
 use Rattle.std.proofs.Common.{◌≡◌, ℕ, ◌<◌, length, None, sym, ◌∙◌, ap, arith}
 use Rattle.dbp_plan.specs.declared.plan.Plan.{Plan}
 use Rattle.dbp_plan.specs.Lookups.{declared_task}
-use Rattle.dbp_rules.specs.Places.{read_at, task, wired_task}
+use Rattle.dbp_rules.specs.Lookups.{read_at, task, wired_task}
 use Rattle.dbp_rules.specs.Rules as rule
 use Rattle.dbp_rules.specs.Shapes.{IsShape, place_number}
 use Rattle.dbp_rules.specs.Wired.{slot_count, wiring_of}

@@ -10,7 +10,7 @@ use Rattle.dbp_slots.specs.FreeSlot.{IsLeastFree}
 use Rattle.dbp_plan.specs.Lookups.{link_at}
 use Rattle.dbp_rules.specs.PartyRules.{claimed_in, has_claim_in, kept_after_aim}
 use Rattle.dbp_rules.specs.PartyShapes.{LinksFit}
-use Rattle.dbp_rules.specs.Places.{claim_in, link, wired_task}
+use Rattle.dbp_rules.specs.Lookups.{claim_in, link, wired_task}
 use Rattle.dbp_rules.specs.Wired.{links_at}
 use Rattle.dbp_rules.specs.declared.parts.ReleaserPart.{ReleaserPart}
 use Rattle.dbp_rules.specs.declared.parts.TaskEntry.{TaskEntry}

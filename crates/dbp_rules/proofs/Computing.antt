@@ -5,7 +5,7 @@ use Rattle.dbp_plan.specs.declared.diagram.Task.{Task}
 use Rattle.dbp_plan.specs.Closed.{IsClosedSomewhere, let_base, place_count}
 use Rattle.sync_meaning.specs.Meaning.{AreStatesAfter, HasLets, outs_in}
 use Rattle.sync_meaning.specs.SomeMeaningEnvs.{IsEnvFrom, env_from, env_from-is, one_env, states_after, states_after-are, one_states_after}
-use Rattle.dbp_plan.specs.Places.{take_place}
+use Rattle.dbp_plan.specs.ListItems.{take_place}
 use Rattle.dbp_rules.specs.Work.{WorkWords}
 use Rattle.dbp_rules.specs.Moves.{work_words_of}
 

@@ -6,7 +6,7 @@ use Rattle.dbp_plan.specs.declared.plan.Plan.{Plan}
 use Rattle.dbp_plan.specs.Lookups.{declared_task}
 use Rattle.release_list.specs.Schedule.{aims}
 use Rattle.dbp_rules.specs.Moves.{claim_order}
-use Rattle.dbp_rules.specs.Places.{no_link_entry, no_order, no_task, no_task_entry, task, task_entry, wired_task}
+use Rattle.dbp_rules.specs.Lookups.{no_link_entry, no_order, no_task, no_task_entry, task, task_entry, wired_task}
 use Rattle.dbp_rules.specs.Rules.{further, with_claim, with_entry, with_task}
 use Rattle.dbp_rules.specs.Shapes.{EntryShape, IsShape, LinkShape, TaskShape}
 use Rattle.dbp_rules.specs.declared.parts.LinkEntry.{LinkEntry}

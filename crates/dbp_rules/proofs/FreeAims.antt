@@ -16,7 +16,7 @@ use Rattle.dbp_plan.proofs.Counts.{count-cons}
 use Rattle.release_list.specs.declared.release.Release.TheVariants as release
 use Rattle.dbp_rules.specs.PartyRules as rule
 use Rattle.dbp_rules.specs.PartyRules.{claimed_in, has_claim_in}
-use Rattle.dbp_rules.specs.Places.{claim_in, entry_in, is_counted, link, wired_task}
+use Rattle.dbp_rules.specs.Lookups.{claim_in, entry_in, is_counted, link, wired_task}
 use Rattle.dbp_rules.specs.Promises.{HasFreeSlotIn, IsLeastAimIn}
 use Rattle.dbp_rules.specs.Shapes.{IsWired}
 use Rattle.dbp_rules.specs.Wired.{slot_count, wiring_of}

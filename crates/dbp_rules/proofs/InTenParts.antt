@@ -8,7 +8,7 @@ use Rattle.dbp_plan.specs.Occurrences.{times_of, time_of}
 use Rattle.dbp_plan.specs.Lookups.{link_at}
 use Rattle.release_list.specs.Schedule.{aims, seen_by}
 use Rattle.dbp_rules.specs.Moves.{heard_order}
-use Rattle.dbp_rules.specs.Places.{link, link_entry, order, task, task_entry, wired_task, is_counted}
+use Rattle.dbp_rules.specs.Lookups.{link, link_entry, order, task, task_entry, wired_task, is_counted}
 use Rattle.dbp_rules.specs.Rules.{order_word}
 use Rattle.dbp_rules.specs.Shapes.{IsShape, OrderFits, PlaceIn, TaskShape, heard_by, link_in, running_count, slot_owner}
 use Rattle.dbp_rules.specs.Sound.{Sound}

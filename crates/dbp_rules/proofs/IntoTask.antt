@@ -13,7 +13,7 @@ use Rattle.dbp_plan.specs.declared.diagram.Link.{Link}
 use Rattle.dbp_plan.specs.declared.diagram.Read.{Read}
 use Rattle.dbp_plan.specs.declared.diagram.Task.{Task}
 use Rattle.dbp_plan.specs.Closed.{IsClosed, IsClosedTask}
-use Rattle.dbp_plan.specs.Places.{all_place, read_place}
+use Rattle.dbp_plan.specs.ListItems.{all_place, read_place}
 use Rattle.dbp_plan.specs.Lookups.{link_at, no_link}
 use Rattle.release_list.specs.Releases.{links_into}
 use Rattle.dbp_rules.specs.Wired.{links_at, task_at_end}

@@ -6,7 +6,7 @@ use Rattle.dbp_slots.specs.TableWords.{IsSlot, IsWord, TableWord, ended, gate}
 use Rattle.dbp_rules.specs.LoadedWords.{heard_of, loaded_by, loaded_of, number_to_load, order_of, sizes_of_wiring, stamp_of_read, word_of_order, word_of_read}
 use Rattle.dbp_rules.specs.Moves.{heard_order}
 use Rattle.dbp_rules.specs.PartyRules.{a_value, an_order}
-use Rattle.dbp_rules.specs.Places.{read_at, task, task_entry, wired_task}
+use Rattle.dbp_rules.specs.Lookups.{read_at, task, task_entry, wired_task}
 use Rattle.dbp_rules.specs.Rules as rule
 use Rattle.dbp_rules.specs.Shapes.{IsReadWired, IsShape, OrderFits, TaskShape, heard_by, link_in, slot_owner}
 use Rattle.dbp_rules.specs.SharedWords.{maker_part, order_value, value_in}

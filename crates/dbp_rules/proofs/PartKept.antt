@@ -11,7 +11,7 @@ use Rattle.dbp_rules.specs.Moves as move
 use Rattle.dbp_rules.specs.PartyRules as rule
 use Rattle.dbp_rules.specs.PartyRules.{Loaded, loaded_number, loaded_order}
 use Rattle.dbp_rules.specs.PartyShapes.{IsNamedIn, ReleaserLoads, ReleaserShape, TaskLoads, TaskPartShape}
-use Rattle.dbp_rules.specs.Places.{entry_in, link, no_link_entry, no_task_entry, wired_task}
+use Rattle.dbp_rules.specs.Lookups.{entry_in, link, no_link_entry, no_task_entry, wired_task}
 use Rattle.dbp_rules.specs.Shapes.{EntryShape, IsWired, OrderFits, PlaceIn, heard_by, place_number, running_count, slot_owner}
 use Rattle.dbp_rules.specs.StepKinds.{kind_number, kind_of, subject_of}
 use Rattle.dbp_rules.specs.declared.parts.LinkEntry.{LinkEntry}

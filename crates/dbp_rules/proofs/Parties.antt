@@ -8,7 +8,7 @@ use Rattle.sync_meaning.specs.SomeMeaning.{meaning_of}
 use Rattle.dbp_plan.specs.Table.{table_row}
 use Rattle.dbp_rules.specs.PartyRules as party
 use Rattle.dbp_rules.specs.PartyShapes.{LinksFit, ReleaserLoads, ReleaserShape, TaskLoads, TaskPartShape}
-use Rattle.dbp_rules.specs.Places.{no_task, task, task_entry, wired_task}
+use Rattle.dbp_rules.specs.Lookups.{no_task, task, task_entry, wired_task}
 use Rattle.dbp_rules.specs.Rules as rule
 use Rattle.dbp_rules.specs.SharedWords.{made_by}
 use Rattle.dbp_rules.specs.Shapes.{IsTaskWired, IsWired, OrderFits, PlaceIn, TaskShape, place_number, slot_owner}

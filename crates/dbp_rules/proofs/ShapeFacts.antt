@@ -4,7 +4,7 @@ use Rattle.dbp_plan.specs.declared.limits.TheConstants.{MAX_OCCURRENCES}
 use Rattle.dbp_plan.specs.declared.plan.Plan.{Plan}
 use Rattle.dbp_plan.specs.Lookups.{declared_task}
 use Rattle.dbp_rules.specs.Moves as move
-use Rattle.dbp_rules.specs.Places.{task, task_entry, wired_task}
+use Rattle.dbp_rules.specs.Lookups.{task, task_entry, wired_task}
 use Rattle.dbp_rules.specs.Rules as rule
 use Rattle.dbp_rules.specs.Shapes.{IsShape, IsTaskWired, OrderFits, PlaceIn, TaskShape, heard_by, link_in, slot_owner}
 use Rattle.dbp_rules.specs.declared.parts.Place.{Place}

@@ -4,7 +4,7 @@ use Rattle.std.proofs.lemmas.Bool.{cases_Bool}
 use Rattle.dbp_plan.specs.declared.plan.Plan.{Plan}
 use Rattle.dbp_plan.specs.Lookups.{declared_task, no_read}
 use Rattle.dbp_rules.specs.Moves.{own_slot}
-use Rattle.dbp_rules.specs.Places.{link, link_entry, read_at, task, task_entry, wired_task}
+use Rattle.dbp_rules.specs.Lookups.{link, link_entry, read_at, task, task_entry, wired_task}
 use Rattle.dbp_rules.specs.Promises.{IsClaimFilled}
 use Rattle.dbp_rules.specs.Rules as rule
 use Rattle.dbp_rules.specs.Shapes.{TaskShape, heard_by, running_count}

@@ -7,13 +7,13 @@ use Rattle.dbp_plan.specs.declared.plan.Plan.{Plan}
 use Rattle.dbp_plan.specs.Closed.{let_base, place_count}
 use Rattle.dbp_plan.specs.Occurrences.{times_of}
 use Rattle.dbp_plan.specs.Samples.{input_value}
-use Rattle.dbp_plan.specs.Lookups.{declared_task, no_declared, no_read}
+use Rattle.dbp_plan.specs.Lookups.{declared_task, no_declared_task, no_read}
 use Rattle.sync_meaning.specs.Meaning.{outs_in}
 use Rattle.sync_meaning.specs.SomeMeaningEnvs.{IsEnvFrom, env_from-is, states_after}
 use Rattle.sync_meaning.specs.SomeMeaningRows.{Solves, env_at, given_at, states_at, states_at-more, word_at}
-use Rattle.dbp_plan.specs.Places.{same_item}
+use Rattle.dbp_plan.specs.ListItems.{same_item}
 use Rattle.dbp_rules.specs.Moves as move
-use Rattle.dbp_rules.specs.Places.{read_at, time, wired_task}
+use Rattle.dbp_rules.specs.Lookups.{read_at, time, wired_task}
 use Rattle.dbp_rules.specs.SoundParts.{meant_word, place_of_read, read_of}
 use Rattle.dbp_rules.specs.Work.{WorkWords}
 use Rattle.dbp_rules.specs.declared.wiring.Wiring.{Wiring}
@@ -136,7 +136,7 @@ module _ (p : Plan) (w : Wiring) (rows : ℕ → ℕ → List ℤ) (own : IsOwn 
   row_is : outs_in d env ≡ rows i (m + 1)
   row_is =
       let one : m + 1 ≡ suc m = omega arith in
-      sym (ap (rows i) one ∙ solves.each i (suc m) d (slice_get-get_or p.diagram.tasks i no_declared (omega (arith, below, own.whole.tasks))) (omega arith))
+      sym (ap (rows i) one ∙ solves.each i (suc m) d (slice_get-get_or p.diagram.tasks i no_declared_task (omega (arith, below, own.whole.tasks))) (omega arith))
 
   later_is : states_after d env (take (length d.states) env) ≡ states_at p.diagram p.samples p.batches rows i d (m + 1)
   later_is =

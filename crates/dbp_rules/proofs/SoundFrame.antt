@@ -4,7 +4,7 @@ use Rattle.std.proofs.lemmas.Bool.{cases_eq}
 use Rattle.dbp_plan.specs.declared.plan.Plan.{Plan}
 use Rattle.release_list.specs.Schedule.{claims, opens}
 use Rattle.dbp_rules.specs.Moves.{claim_order}
-use Rattle.dbp_rules.specs.Places.{link, link_entry, no_link_entry, no_order, no_task, no_task_entry, order, task, task_entry}
+use Rattle.dbp_rules.specs.Lookups.{link, link_entry, no_link_entry, no_order, no_task, no_task_entry, order, task, task_entry}
 use Rattle.dbp_rules.specs.Rules.{with_entry, with_task}
 use Rattle.dbp_rules.specs.Shapes.{IsShape}
 use Rattle.dbp_rules.specs.Sound.{Sound}

@@ -5,7 +5,7 @@ use Rattle.dbp_plan.specs.declared.plan.Plan.{Plan}
 use Rattle.dbp_plan.specs.Lookups.{declared_task}
 use Rattle.sync_meaning.specs.SomeMeaningRows.{states_at}
 use Rattle.dbp_rules.specs.Moves as move
-use Rattle.dbp_rules.specs.Places.{is_counted, link, slot_at, wired_task}
+use Rattle.dbp_rules.specs.Lookups.{is_counted, link, slot_at, wired_task}
 use Rattle.dbp_rules.specs.Shapes.{link_in, running_count}
 use Rattle.dbp_rules.specs.SoundParts.{LinkSound, TaskSound, filled_by, last_filled, last_shut, meant_word, last_passed, place_of_read, put_by, read_of, shut_by, taken_by}
 use Rattle.dbp_rules.specs.Work.{WorkWords}

@@ -9,7 +9,7 @@ use Rattle.sync_meaning.specs.SomeMeaning.{meaning_of, meaning_of-is}
 use Rattle.sync_meaning.specs.SomeMeaningRows.{Solves}
 use Rattle.dbp_plan.specs.Table.{table_row}
 use Rattle.dbp_rules.specs.Moves as move
-use Rattle.dbp_rules.specs.Places.{slot_at, task, task_entry, wired_task}
+use Rattle.dbp_rules.specs.Lookups.{slot_at, task, task_entry, wired_task}
 use Rattle.dbp_rules.specs.Rules as rule
 use Rattle.dbp_rules.specs.Shapes.{TaskShape, heard_by, running_count}
 use Rattle.dbp_rules.specs.Sound.{Sound}

@@ -11,7 +11,7 @@ use Rattle.dbp_plan.specs.Occurrences.{count_until, times_of, time_of}
 use Rattle.dbp_plan.specs.Times.{Rises, has_come, times-rise}
 use Rattle.dbp_plan.specs.Lookups.{link_at, declared_task}
 use Rattle.release_list.specs.Schedule.{aims, seen_by}
-use Rattle.dbp_rules.specs.Places.{counts_link, is_counted, link, link_entry, slot_at, task, task_entry, time, wired_task}
+use Rattle.dbp_rules.specs.Lookups.{counts_link, is_counted, link, link_entry, slot_at, task, task_entry, time, wired_task}
 use Rattle.dbp_rules.specs.Promises.{IsClaimFilled}
 use Rattle.dbp_rules.specs.Rules as rule
 use Rattle.dbp_rules.specs.Shapes.{IsWired, PlaceIn, TaskShape, heard_by, running_count}

@@ -10,7 +10,7 @@ use Rattle.dbp_plan.specs.declared.diagram.Task.{Task}
 use Rattle.dbp_plan.specs.declared.plan.Plan.{Plan}
 use Rattle.dbp_plan.specs.Closed.{IsClosed}
 use Rattle.dbp_plan.specs.Ranks.{ranks_of}
-use Rattle.dbp_plan.specs.Lookups.{link_at, no_link, declared_task, no_declared, no_read}
+use Rattle.dbp_plan.specs.Lookups.{link_at, no_link, declared_task, no_declared_task, no_read}
 use Rattle.dbp_plan.proofs.RankLaws.{kept-rank, ranks-apart}
 use Rattle.release_list.specs.Releases.{links_into}
 use Rattle.release_list.specs.Schedule.{aims, claims, opens, seen_by}
@@ -19,7 +19,7 @@ use Rattle.dbp_rules.specs.declared.step.Count.{Count}
 use Rattle.dbp_rules.specs.declared.wiring.ReadWiring.{ReadWiring}
 use Rattle.dbp_rules.specs.declared.wiring.TaskWiring.{TaskWiring}
 use Rattle.dbp_rules.specs.declared.wiring.Wiring.{Wiring}
-use Rattle.dbp_rules.specs.Places.{link, read_at, wired_task}
+use Rattle.dbp_rules.specs.Lookups.{link, read_at, wired_task}
 use Rattle.dbp_rules.specs.Shapes.{IsWired, link_in}
 use Rattle.dbp_rules.specs.SoundParts.{read_of}
 use Rattle.dbp_rules.specs.Wired.{in_turn, is_sooner, read_wiring, task_wiring, turn_of, wiring_of}
@@ -79,7 +79,7 @@ module _ (p : Plan) (count : Count) where
     t = declared_task p i
 
     here : slice_get p.diagram.tasks i ≡ Some t
-    here = slice_get-get_or p.diagram.tasks i no_declared below
+    here = slice_get-get_or p.diagram.tasks i no_declared_task below
 
     is : wired_task o i ≡ task_wiring p count (i, t)
     is = wired_is p count i below

@@ -13,7 +13,7 @@ use Rattle.dbp_plan.specs.Lookups.{link_at, no_link, declared_task}
 use Rattle.dbp_plan.proofs.ListEdits.{take_past}
 use Rattle.release_list.specs.Schedule.{seen_by}
 use Rattle.dbp_rules.specs.Moves as move
-use Rattle.dbp_rules.specs.Places.{link, link_entry, no_order, order, read_at, slot_at, task, task_entry, wired_task}
+use Rattle.dbp_rules.specs.Lookups.{link, link_entry, no_order, order, read_at, slot_at, task, task_entry, wired_task}
 use Rattle.dbp_rules.specs.Rules as rule
 use Rattle.dbp_rules.specs.Shapes.{IsShape, TaskShape, heard_by, link_in, place_number, running_count}
 use Rattle.dbp_rules.specs.Sound.{Sound}

@@ -11,7 +11,7 @@ use Rattle.dbp_plan.specs.Lookups.{declared_task}
 use Rattle.release_list.specs.Schedule.{aims, opens, seen_by}
 use Rattle.release_list.specs.declared.release.Release.TheVariants as release
 use Rattle.dbp_rules.specs.Moves as move
-use Rattle.dbp_rules.specs.Places.{is_counted, link, link_entry, slot_at, task, task_entry, wired_task}
+use Rattle.dbp_rules.specs.Lookups.{is_counted, link, link_entry, slot_at, task, task_entry, wired_task}
 use Rattle.dbp_rules.specs.Rules as rule
 use Rattle.dbp_rules.specs.Shapes.{EntryShape, TaskShape, heard_by}
 use Rattle.dbp_rules.specs.Sound.{Sound}

@@ -6,13 +6,13 @@ use Rattle.std.proofs.lemmas.Option.{slice_get-get_or}
 use Rattle.std.proofs.Math.ListN.{get_or-map}
 use Rattle.dbp_plan.specs.declared.plan.Plan.{Plan}
 use Rattle.dbp_plan.specs.Closed.{place_count}
-use Rattle.dbp_plan.specs.Lookups.{declared_task, no_declared}
+use Rattle.dbp_plan.specs.Lookups.{declared_task, no_declared_task}
 use Rattle.sync_meaning.proofs.OneMeaning.{meaning_solves}
 use Rattle.sync_meaning.specs.SomeMeaning.{meaning_of, meaning_of-is}
 use Rattle.dbp_plan.specs.Table.{table_row}
 use Rattle.sync_meaning.specs.SomeMeaningRows.{Solves, states_at-none}
 use Rattle.dbp_plan.proofs.ListParts.{repeated}
-use Rattle.dbp_rules.specs.Places.{is_counted, link, no_link_entry, no_order, no_slot, no_task, no_task_wiring, slot_at, task, task_entry, wired_task}
+use Rattle.dbp_rules.specs.Lookups.{is_counted, link, no_link_entry, no_order, no_slot, no_task, no_task_wiring, slot_at, task, task_entry, wired_task}
 use Rattle.dbp_rules.specs.Shapes.{IsWired}
 use Rattle.dbp_rules.specs.Sound.{Sound}
 use Rattle.dbp_rules.specs.SoundParts.{TaskSound, last_passed}
@@ -68,7 +68,7 @@ pub start_sound : (p : Plan) (w : Wiring) (rows : ℕ → ℕ → List ℤ) → 
 start_sound p w rows wires solves =
     let entries : (i : ℕ) → i < length w.tasks → task_entry (start_of p w) i ≡ start_entry (wired_task w i) = λ i below. get_or-map start_entry w.tasks i no_task_wiring in
     let tasks : (i : ℕ) → i < length w.tasks → task (start_of p w) i ≡ start_task (wired_task w i) (declared_task p i) = λ i below. get_or-map-range_with_len (λ (j : ℕ). start_task (wired_task w j) (declared_task p j)) 0 (length w.tasks) i i no_task below (omega arith) in
-    let first : (i : ℕ) → i < length w.tasks → first_row (declared_task p i) ≡ rows i 0 = λ i below. sym (solves.each i 0 (declared_task p i) (slice_get-get_or p.diagram.tasks i no_declared (omega (arith, below, wires.tasks))) (omega arith)) in
+    let first : (i : ℕ) → i < length w.tasks → first_row (declared_task p i) ≡ rows i 0 = λ i below. sym (solves.each i 0 (declared_task p i) (slice_get-get_or p.diagram.tasks i no_declared_task (omega (arith, below, wires.tasks))) (omega arith)) in
     record {
       shape = start_shape p w wires;
       place = omega arith;

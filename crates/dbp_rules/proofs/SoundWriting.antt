@@ -6,7 +6,7 @@ use Rattle.dbp_plan.specs.declared.plan.Plan.{Plan}
 use Rattle.dbp_plan.specs.Lookups.{declared_task}
 use Rattle.sync_meaning.specs.SomeMeaningRows.{states_at}
 use Rattle.dbp_rules.specs.Moves as move
-use Rattle.dbp_rules.specs.Places.{link, link_entry, no_slot, slot_at, task, task_entry, wired_task}
+use Rattle.dbp_rules.specs.Lookups.{link, link_entry, no_slot, slot_at, task, task_entry, wired_task}
 use Rattle.dbp_rules.specs.Rules as rule
 use Rattle.dbp_rules.specs.Shapes.{EntryShape, IsShape, PlaceIn, TaskShape, heard_by, place_number, running_count}
 use Rattle.dbp_rules.specs.Sound.{Sound}

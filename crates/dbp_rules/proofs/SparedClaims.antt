@@ -5,7 +5,7 @@ use Rattle.std.proofs.lemmas.Bool.{cases_eq, eq-eqb, lt-ltb}
 use Rattle.dbp_plan.specs.declared.plan.Plan.{Plan}
 use Rattle.dbp_plan.specs.Lookups.{declared_task}
 use Rattle.dbp_rules.specs.Moves as move
-use Rattle.dbp_rules.specs.Places.{counts_link, is_counted, link, link_entry, no_slot, slot_at, task, task_entry, wired_task}
+use Rattle.dbp_rules.specs.Lookups.{counts_link, is_counted, link, link_entry, no_slot, slot_at, task, task_entry, wired_task}
 use Rattle.dbp_rules.specs.Promises.{IsFilledByItsOwn, IsUnclaimed, SparesClaims, filled_of}
 use Rattle.dbp_rules.specs.Rules as rule
 use Rattle.dbp_rules.specs.Shapes.{heard_by, place_number, running_count}

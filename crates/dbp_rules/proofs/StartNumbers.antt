@@ -5,7 +5,7 @@ use Rattle.dbp_plan.specs.declared.plan.Plan.{Plan}
 use Rattle.dbp_plan.specs.Lookups.{declared_task}
 use Rattle.dbp_slots.specs.TableWords.{IsWord, TableWord, gate, ended, aim, claim, stamp, word, sizes_of}
 use Rattle.dbp_rules.specs.LoadedWords.{start_number}
-use Rattle.dbp_rules.specs.Places.{no_order, no_slot, no_task, slot_at, task, wired_task}
+use Rattle.dbp_rules.specs.Lookups.{no_order, no_slot, no_task, slot_at, task, wired_task}
 use Rattle.dbp_rules.specs.SharedWords.{order_value, signed_value, value_in}
 use Rattle.dbp_rules.specs.Start.{first_row, start_of, start_slots, start_task}
 use Rattle.dbp_rules.specs.Wired.{wiring_of}

@@ -8,7 +8,7 @@ use Rattle.dbp_plan.specs.declared.plan.Plan.{Plan}
 use Rattle.dbp_plan.specs.Closed.{place_count}
 use Rattle.dbp_plan.specs.Lookups.{declared_task}
 use Rattle.dbp_plan.proofs.ListParts.{repeated}
-use Rattle.dbp_rules.specs.Places.{link, no_link_entry, no_order, no_slot, no_task, no_task_wiring, slot_at, task, task_entry, wired_task}
+use Rattle.dbp_rules.specs.Lookups.{link, no_link_entry, no_order, no_slot, no_task, no_task_wiring, slot_at, task, task_entry, wired_task}
 use Rattle.dbp_rules.specs.Shapes.{EntryShape, IsShape, IsTaskWired, IsWired, SlotsFit, TaskShape}
 use Rattle.dbp_rules.specs.Start.{first_row, first_states, start_entry, start_of, start_slots, start_task}
 use Rattle.dbp_rules.specs.declared.state.Slot.{Slot}

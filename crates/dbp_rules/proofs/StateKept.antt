@@ -11,7 +11,7 @@ use Rattle.dbp_plan.specs.Lookups.{declared_task}
 use Rattle.release_list.specs.Schedule.{aims}
 use Rattle.release_list.specs.declared.release.Release.TheVariants as release
 use Rattle.dbp_rules.specs.Moves as move
-use Rattle.dbp_rules.specs.Places.{link, task, task_entry, wired_task}
+use Rattle.dbp_rules.specs.Lookups.{link, task, task_entry, wired_task}
 use Rattle.dbp_rules.specs.Rules as rule
 use Rattle.dbp_rules.specs.Shapes.{EntryShape, IsShape, IsTaskWired, TaskShape, heard_by, running_count}
 use Rattle.dbp_rules.specs.Work.{WorkWords}

@@ -1,6 +1,6 @@
 -- The place of a task whose step is allowed.
 use Rattle.std.proofs.Common.{◌≡◌, ℕ, Option, None, sym, ◌∙◌, ap}
-use Rattle.dbp_rules.specs.Places.{task, wired_task}
+use Rattle.dbp_rules.specs.Lookups.{task, wired_task}
 use Rattle.dbp_rules.specs.Rules as rule
 use Rattle.dbp_rules.specs.Shapes.{place_number}
 use Rattle.dbp_rules.specs.declared.parts.Place.{Place}

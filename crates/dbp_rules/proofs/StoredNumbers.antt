@@ -7,7 +7,7 @@ use Rattle.dbp_plan.specs.Lookups.{declared_task}
 use Rattle.dbp_slots.specs.TableWords.{IsSlot, IsWord, TableWord, aim, claim, ended, gate, stamp, word}
 use Rattle.dbp_rules.specs.LoadedWords.{sizes_of_wiring, stored_number}
 use Rattle.dbp_rules.specs.Moves as move
-use Rattle.dbp_rules.specs.Places.{link, no_order, no_slot, no_task, order, slot_at, task, task_entry, wired_task}
+use Rattle.dbp_rules.specs.Lookups.{link, no_order, no_slot, no_task, order, slot_at, task, task_entry, wired_task}
 use Rattle.dbp_rules.specs.Rules as rule
 use Rattle.dbp_rules.specs.Shapes.{IsShape, OrderFits, PlaceIn, TaskShape}
 use Rattle.dbp_rules.specs.SharedWords.{order_value, signed_value, stored_by, value_in}

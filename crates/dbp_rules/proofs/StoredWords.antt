@@ -5,7 +5,7 @@ use Rattle.dbp_slots.specs.TableWords.{TableWord, gate, ended, aim, claim, stamp
 use Rattle.dbp_plan.specs.declared.plan.Plan.{Plan}
 use Rattle.dbp_plan.specs.Lookups.{declared_task}
 use Rattle.dbp_rules.specs.Moves as move
-use Rattle.dbp_rules.specs.Places.{link, no_order, no_slot, no_task, slot_at, task, task_entry, wired_task}
+use Rattle.dbp_rules.specs.Lookups.{link, no_order, no_slot, no_task, slot_at, task, task_entry, wired_task}
 use Rattle.dbp_rules.specs.Rules as rule
 use Rattle.dbp_rules.specs.Shapes.{IsShape, TaskShape, heard_by, place_number}
 use Rattle.dbp_rules.specs.SharedWords.{KeepsOtherParts, KeepsOtherWords, made_by, order_value, signed_value, stored_by, value_in}

@@ -11,7 +11,7 @@ use Rattle.dbp_slots.specs.Slots.{is_to_higher, is_to_lower}
 use Rattle.dbp_slots.specs.TableWords.{IsSlot, IsWord, SlotSizes, TableWord, sizes_of, task_sizes}
 use Rattle.dbp_slots.proofs.Links.{delay_short, links_few}
 use Rattle.dbp_rules.specs.LoadedWords.{sizes_of_wiring}
-use Rattle.dbp_rules.specs.Places.{no_task_wiring, wired_task}
+use Rattle.dbp_rules.specs.Lookups.{no_task_wiring, wired_task}
 use Rattle.dbp_rules.specs.Shapes.{OrderFits}
 use Rattle.dbp_rules.specs.Wired.{slot_count, task_wiring, wiring_of}
 use Rattle.dbp_rules.specs.declared.parts.Order.{Order}

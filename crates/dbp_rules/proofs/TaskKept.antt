@@ -7,7 +7,7 @@ use Rattle.dbp_plan.specs.declared.diagram.Task.{Task}
 use Rattle.dbp_plan.specs.Closed.{IsClosedTask, let_base, place_count}
 use Rattle.sync_meaning.specs.SomeMeaningEnvs.{env_from, env_from-is, states_after-are}
 use Rattle.dbp_rules.specs.Moves as move
-use Rattle.dbp_rules.specs.Places.{no_order, no_slot, slot_at, wired_task}
+use Rattle.dbp_rules.specs.Lookups.{no_order, no_slot, slot_at, wired_task}
 use Rattle.dbp_rules.specs.Shapes.{OrderFits, PlaceIn, SlotsFit, TaskShape, heard_by, running_count, slot_owner}
 use Rattle.dbp_rules.specs.Work.{WorkWords}
 use Rattle.dbp_rules.specs.declared.parts.Order.{Order}

@@ -9,13 +9,13 @@ use Rattle.dbp_plan.specs.declared.diagram.Link.{Link}
 use Rattle.dbp_plan.specs.declared.plan.Plan.{Plan}
 use Rattle.dbp_plan.specs.declared.schedule.Sample.{Sample}
 use Rattle.dbp_plan.specs.Occurrences.{occurrence_count}
-use Rattle.dbp_plan.specs.Places.{at_place}
-use Rattle.dbp_plan.specs.Lookups.{link_at, no_link, declared_task, no_declared}
+use Rattle.dbp_plan.specs.ListItems.{at_place}
+use Rattle.dbp_plan.specs.Lookups.{link_at, no_link, declared_task, no_declared_task}
 use Rattle.dbp_slots.specs.Slots.{longest_delay}
 use Rattle.release_list.specs.Releases.{releases_of}
 use Rattle.release_list.proofs.Room.{released_few}
 use Rattle.dbp_rules.specs.declared.step.Count.{Count}
-use Rattle.dbp_rules.specs.Places.{no_task_wiring, wired_task}
+use Rattle.dbp_rules.specs.Lookups.{no_task_wiring, wired_task}
 use Rattle.dbp_rules.specs.Shapes.{HasSamples}
 use Rattle.dbp_rules.specs.Wired.{task_wiring, wiring_of}
 use Rattle.dbp_rules.proofs.Numbered.{length-made, made_or, made_place}
@@ -24,7 +24,7 @@ pub wired_tasks : (p : Plan) (count : Count) → length (wiring_of p count).task
 wired_tasks p count = length-made (task_wiring p count) p.diagram.tasks
 
 pub wired_is : (p : Plan) (count : Count) (i : ℕ) → i < length p.diagram.tasks → wired_task (wiring_of p count) i ≡ task_wiring p count (i, declared_task p i)
-wired_is p count i below = made_or (task_wiring p count) p.diagram.tasks i no_declared no_task_wiring below
+wired_is p count i below = made_or (task_wiring p count) p.diagram.tasks i no_declared_task no_task_wiring below
 
 -- ---- delays
 

@@ -9,7 +9,7 @@ use Rattle.dbp_plan.specs.declared.diagram.Read.{Read}
 use Rattle.dbp_plan.specs.declared.diagram.Task.{Task}
 use Rattle.dbp_plan.specs.declared.plan.Plan.{Plan}
 use Rattle.dbp_plan.specs.Closed.{IsClosed}
-use Rattle.dbp_plan.specs.Lookups.{link_at, no_link, declared_task, no_declared, no_read}
+use Rattle.dbp_plan.specs.Lookups.{link_at, no_link, declared_task, no_declared_task, no_read}
 use Rattle.release_list.specs.Releases.{links_into}
 use Rattle.release_list.proofs.Schedules.{scheduled}
 use Rattle.dbp_plan.proofs.TaskTimes.{times_few}
@@ -17,7 +17,7 @@ use Rattle.dbp_rules.specs.declared.step.Count.{Count}
 use Rattle.dbp_rules.specs.declared.step.Count.TheVariants.{Ranked, All}
 use Rattle.dbp_rules.specs.declared.wiring.TaskWiring.{TaskWiring}
 use Rattle.dbp_rules.specs.declared.wiring.Wiring.{Wiring}
-use Rattle.dbp_rules.specs.Places.{link, no_read_wiring, read_at, wired_task}
+use Rattle.dbp_rules.specs.Lookups.{link, no_read_wiring, read_at, wired_task}
 use Rattle.dbp_rules.specs.Shapes.{IsReadWired, IsTaskWired, IsWired, link_in, slot_owner}
 use Rattle.dbp_rules.specs.Wired.{in_turn, read_wiring, slot_count, task_wiring, wiring_of}
 use Rattle.dbp_rules.proofs.IntoTask.{into_below, into_no_more, link_below, link_place, link_there}
@@ -52,7 +52,7 @@ module _ (p : Plan) (count : Count) where
     into = links_into d.links i
 
     here : slice_get d.tasks i ≡ Some t
-    here = slice_get-get_or d.tasks i no_declared below
+    here = slice_get-get_or d.tasks i no_declared_task below
 
     is : wired_task w i ≡ task_wiring p count (i, t)
     is = wired_is p count i below
@@ -81,7 +81,7 @@ module _ (p : Plan) (count : Count) where
       port =
           let v : ℕ = (link_at d.links r.link).writer in
           let there : v < length d.tasks = writer_below r.link linked in
-          rw (wired_is p count v there) (closed.ports t (declared_task p v) r (link_at d.links r.link) i m here at (slice_get-get_or d.links r.link no_link linked) (slice_get-get_or d.tasks v no_declared there))
+          rw (wired_is p count v there) (closed.ports t (declared_task p v) r (link_at d.links r.link) i m here at (slice_get-get_or d.links r.link no_link linked) (slice_get-get_or d.tasks v no_declared_task there))
 
       read_wired : IsReadWired w (length t.reads) i (read_wiring d.links into t.reads m)
       read_wired = record {
@@ -107,13 +107,13 @@ module _ (p : Plan) (count : Count) where
 
     made_wired : IsTaskWired p w i (task_wiring p count (i, t))
     made_wired = record {
-      closed = closed.each i no_declared below;
+      closed = closed.each i no_declared_task below;
       times = refl;
       few = omega (arith, times_few p.batches i, p.rules.few);
       ports = refl;
-      some_port = omega (arith, (closed.each i no_declared below).outs);
+      some_port = omega (arith, (closed.each i no_declared_task below).outs);
       some_slot = slots_some p count i;
-      links = omega (arith, into_no_more d closed i t here, (closed.each i no_declared below).reads);
+      links = omega (arith, into_no_more d closed i t here, (closed.each i no_declared_task below).reads);
       into = λ n inside. into_below d.links i n 0 inside;
       leaving = refl;
       reads = reads_size;

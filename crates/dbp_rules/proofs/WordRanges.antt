@@ -6,9 +6,9 @@ use Rattle.dbp_plan.specs.declared.diagram.Diagram.{Diagram}
 use Rattle.dbp_plan.specs.declared.diagram.Out.{Out}
 use Rattle.dbp_plan.specs.declared.diagram.Task.{Task}
 use Rattle.dbp_plan.specs.declared.plan.Plan.{Plan}
-use Rattle.dbp_plan.specs.Lookups.{declared_task, no_declared}
+use Rattle.dbp_plan.specs.Lookups.{declared_task, no_declared_task}
 use Rattle.dbp_rules.specs.Moves as move
-use Rattle.dbp_rules.specs.Places.{no_slot, no_task, slot_at, task, wired_task}
+use Rattle.dbp_rules.specs.Lookups.{no_slot, no_task, slot_at, task, wired_task}
 use Rattle.dbp_rules.specs.Rules as rule
 use Rattle.dbp_rules.specs.Start.{first_row, start_of, start_slots, start_task}
 use Rattle.dbp_rules.specs.WordRanges.{FirstValuesFit, PutWordFits, SlotWordsFit}
@@ -61,13 +61,13 @@ nothing_fits = record { sfits = omega arith }
 
 -- ---- the start
 
-first_fits : (d : Diagram) → FirstValuesFit d → (i : ℕ) → All (λ (o : Out). Fits o.first) (get_or d.tasks i no_declared).outs
+first_fits : (d : Diagram) → FirstValuesFit d → (i : ℕ) → All (λ (o : Out). Fits o.first) (get_or d.tasks i no_declared_task).outs
 first_fits d fit i = elim (cases_lt i (length d.tasks)) [
-  | inl below ↦ fit i no_declared below
+  | inl below ↦ fit i no_declared_task below
   | inr past ↦ outside d.tasks i past
 ]
   where
-    outside : (tasks : List Task) (j : ℕ) → length tasks ≤ j → All (λ (o : Out). Fits o.first) (get_or tasks j no_declared).outs
+    outside : (tasks : List Task) (j : ℕ) → length tasks ≤ j → All (λ (o : Out). Fits o.first) (get_or tasks j no_declared_task).outs
     outside [] j past = λ k o below. absurd (omega arith)
     outside (t ∷ tasks) zero past = absurd (omega arith)
     outside (t ∷ tasks) (suc j) past = outside tasks j (omega arith)

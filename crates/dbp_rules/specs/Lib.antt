@@ -1,10 +1,10 @@
 -- Definitions that public clauses cite.
 pub mod Lawful
 pub mod LoadedWords
+pub mod Lookups
 pub mod Moves
 pub mod PartyRules
 pub mod PartyShapes
-pub mod Places
 pub mod Promises
 pub mod Rules
 pub mod Shapes

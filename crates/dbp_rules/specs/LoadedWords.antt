@@ -7,7 +7,7 @@ use Rattle.dbp_plan.specs.Lookups.{declared_task}
 use Rattle.dbp_slots.specs.TableWords.{Sizes, TableWord, gate, ended, aim, claim, stamp, word}
 use Rattle.dbp_rules.specs.Moves.{claim_order}
 use Rattle.dbp_rules.specs.PartyRules.{Loaded, a_number, a_value, an_order, hears_at, is_stamp_of, loaded_number, loaded_order, next_claim, no_word, is_opened_by, read_order_in, turn_at}
-use Rattle.dbp_rules.specs.Places.{entry_in, read_at, task, wired_task}
+use Rattle.dbp_rules.specs.Lookups.{entry_in, read_at, task, wired_task}
 use Rattle.dbp_rules.specs.Shapes.{link_in}
 use Rattle.dbp_rules.specs.SharedWords.{made_by, maker_part, order_value, signed_value, value_in}
 use Rattle.dbp_rules.specs.Start.{first_row}

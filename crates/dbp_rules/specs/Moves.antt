@@ -13,7 +13,7 @@ use Rattle.dbp_rules.specs.declared.parts.TaskEntry.{TaskEntry}
 use Rattle.dbp_rules.specs.declared.parts.TaskPart.{TaskPart}
 use Rattle.dbp_rules.specs.declared.state.TaskWords.{TaskWords}
 use Rattle.dbp_rules.specs.declared.wiring.TaskWiring.{TaskWiring}
-use Rattle.dbp_rules.specs.Places.{no_order, slot_at}
+use Rattle.dbp_rules.specs.Lookups.{no_order, slot_at}
 
 -- ---- of the releaser
 

@@ -6,7 +6,7 @@ use Rattle.std.specs.Option.{option_or}
 use Rattle.release_list.specs.declared.release.Release.{Release}
 use Rattle.release_list.specs.declared.release.Release.TheVariants as release
 use Rattle.dbp_rules.specs.Moves as move
-use Rattle.dbp_rules.specs.Places.{claim_in, entry_in, is_counted, link, no_order, read_at, wired_task}
+use Rattle.dbp_rules.specs.Lookups.{claim_in, entry_in, is_counted, link, no_order, read_at, wired_task}
 use Rattle.dbp_rules.specs.StepKinds.{kind_number, kind_of, other_subject, subject_of}
 use Rattle.dbp_rules.specs.declared.kind.StepKind.TheVariants as kind
 use Rattle.dbp_rules.specs.declared.parts.LinkEntry.{LinkEntry}

@@ -4,7 +4,7 @@ use Rattle.dbp_plan.specs.declared.plan.Plan.{Plan}
 use Rattle.release_list.specs.Schedule.{aims, claims, seen_by}
 use Rattle.dbp_rules.specs.Moves.{heard_order}
 use Rattle.dbp_rules.specs.PartyRules.{Loaded, hears_at, loaded_number, loaded_order}
-use Rattle.dbp_rules.specs.Places.{claim_in, entry_in, link, wired_task}
+use Rattle.dbp_rules.specs.Lookups.{claim_in, entry_in, link, wired_task}
 use Rattle.dbp_rules.specs.Rules.{IsNamedWithin}
 use Rattle.dbp_rules.specs.Shapes.{EntryShape, OrderFits, PlaceIn, heard_by, running_count, slot_owner}
 use Rattle.dbp_rules.specs.Wired.{links_at}

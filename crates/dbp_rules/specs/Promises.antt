@@ -9,7 +9,7 @@ use Rattle.dbp_slots.specs.FreeSlot.{IsLeastFree}
 use Rattle.sync_meaning.specs.Meaning.{IsRead}
 use Rattle.dbp_rules.specs.Moves.{own_slot}
 use Rattle.dbp_rules.specs.PartyRules.{claimed_in, releaser_refusal, kept_after_aim}
-use Rattle.dbp_rules.specs.Places.{entry_in, link, link_entry, slot_at, task, wired_task}
+use Rattle.dbp_rules.specs.Lookups.{entry_in, link, link_entry, slot_at, task, wired_task}
 use Rattle.dbp_rules.specs.Rules.{hears, next}
 use Rattle.dbp_rules.specs.SoundParts.{last_filled}
 use Rattle.dbp_rules.specs.TenParts.{IsStanding, slot_of_claim}

@@ -8,7 +8,7 @@ use Rattle.dbp_plan.specs.Lookups.{declared_task}
 use Rattle.dbp_rules.specs.Moves as move
 use Rattle.dbp_rules.specs.PartyRules.{Loaded, a_number, a_value, an_order, next_claim, no_word, is_opened_by, is_stamp_of, read_order_in, releaser_after, releaser_next, releaser_refusal, task_after, task_next, task_refusal, with_entry_in, with_claim_in, one_further}
 pub use Rattle.dbp_rules.specs.PartyRules.{claims_slot_in, hears_at, is_next, least, none_of, or_else, place_kind, release_kind, kept_after_aim, stays_kept, turn_at, unless}
-use Rattle.dbp_rules.specs.Places.{task, task_entry, order, slot_at, wired_task, read_at, time}
+use Rattle.dbp_rules.specs.Lookups.{task, task_entry, order, slot_at, wired_task, read_at, time}
 use Rattle.dbp_rules.specs.declared.parts.LinkEntry.{LinkEntry}
 use Rattle.dbp_rules.specs.declared.parts.Order.{Order}
 use Rattle.dbp_rules.specs.declared.parts.ReleaserPart.{ReleaserPart}

@@ -9,7 +9,7 @@ use Rattle.dbp_plan.specs.Occurrences.{times_of}
 use Rattle.dbp_plan.specs.Lookups.{declared_task}
 use Rattle.release_list.specs.Schedule.{IsSchedule, aims}
 use Rattle.dbp_rules.specs.Moves.{heard_order}
-use Rattle.dbp_rules.specs.Places.{link, link_entry, order, read_at, slot_at, task, task_entry, wired_task}
+use Rattle.dbp_rules.specs.Lookups.{link, link_entry, order, read_at, slot_at, task, task_entry, wired_task}
 use Rattle.dbp_rules.specs.Wired.{links_at}
 use Rattle.dbp_rules.specs.declared.parts.LinkEntry.{LinkEntry}
 use Rattle.dbp_rules.specs.declared.parts.Order.{Order}

@@ -3,7 +3,7 @@ use Rattle.std.specs.Prelude.{◌≡◌, ◌≢◌, ℕ, ℤ, pos, negsuc, ◌+�
 use Rattle.std.specs.Option.{option_map_or}
 use Rattle.dbp_slots.specs.TableWords.{TableWord, gate, ended, aim, claim, stamp, word}
 use Rattle.dbp_rules.specs.Moves.{own_slot}
-use Rattle.dbp_rules.specs.Places.{no_task, order, slot_at, task}
+use Rattle.dbp_rules.specs.Lookups.{no_task, order, slot_at, task}
 use Rattle.dbp_rules.specs.declared.parts.Order.{Order}
 use Rattle.dbp_rules.specs.declared.parts.TaskPart.{TaskPart}
 use Rattle.dbp_rules.specs.declared.state.State.{State}

@@ -2,7 +2,7 @@
 use Rattle.std.specs.Prelude.{◌≡◌, ℕ, ℤ, ◌<◌, ◌≤◌, List, length}
 use Rattle.dbp_plan.specs.declared.plan.Plan.{Plan}
 use Rattle.release_list.specs.Schedule.{opens}
-use Rattle.dbp_rules.specs.Places.{link, link_entry, order, task, task_entry}
+use Rattle.dbp_rules.specs.Lookups.{link, link_entry, order, task, task_entry}
 use Rattle.dbp_rules.specs.Shapes.{IsShape}
 use Rattle.dbp_rules.specs.SoundParts.{ClaimSound, LinkSound, TaskSound}
 use Rattle.dbp_rules.specs.declared.state.State.{State}

@@ -7,7 +7,7 @@ use Rattle.dbp_plan.specs.Lookups.{declared_task, no_read}
 use Rattle.release_list.specs.Schedule.{claims, seen_by}
 use Rattle.sync_meaning.specs.SomeMeaningRows.{states_at, word_at}
 use Rattle.dbp_rules.specs.Moves.{heard_order, claim_order}
-use Rattle.dbp_rules.specs.Places.{is_counted, link, read_at, slot_at, wired_task}
+use Rattle.dbp_rules.specs.Lookups.{is_counted, link, read_at, slot_at, wired_task}
 use Rattle.dbp_rules.specs.Shapes.{link_in}
 use Rattle.dbp_rules.specs.declared.parts.LinkEntry.{LinkEntry}
 use Rattle.dbp_rules.specs.declared.parts.Order.{Order}

@@ -5,7 +5,7 @@ use Rattle.dbp_plan.specs.declared.diagram.Task.{Task}
 use Rattle.dbp_plan.specs.declared.plan.Plan.{Plan}
 use Rattle.dbp_plan.specs.Closed.{place_count}
 use Rattle.dbp_plan.specs.Lookups.{declared_task}
-use Rattle.dbp_rules.specs.Places.{no_link_entry, no_order, wired_task}
+use Rattle.dbp_rules.specs.Lookups.{no_link_entry, no_order, wired_task}
 use Rattle.dbp_rules.specs.declared.parts.Place.TheVariants.{Idle}
 use Rattle.dbp_rules.specs.declared.parts.ReleaserPart.{ReleaserPart}
 use Rattle.dbp_rules.specs.declared.parts.TaskEntry.{TaskEntry}

@@ -8,7 +8,7 @@ use Rattle.dbp_plan.specs.Lookups.{declared_task}
 use Rattle.release_list.specs.Schedule.{aims, claims, opens, seen_by}
 use Rattle.sync_meaning.specs.SomeMeaningRows.{states_at}
 use Rattle.dbp_rules.specs.Moves.{heard_order, claim_order}
-use Rattle.dbp_rules.specs.Places.{is_counted, link, link_entry, order, slot_at, task, task_entry, wired_task}
+use Rattle.dbp_rules.specs.Lookups.{is_counted, link, link_entry, order, slot_at, task, task_entry, wired_task}
 use Rattle.dbp_rules.specs.Rules.{order_word}
 use Rattle.dbp_rules.specs.Shapes.{PlaceIn, SlotsFit, heard_by, running_count}
 use Rattle.dbp_rules.specs.SoundParts.{Stands, last_filled, last_shut, meant_word, place_of_read, put_by, read_of, shut_by, taken_by}

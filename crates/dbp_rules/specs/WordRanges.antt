@@ -2,7 +2,7 @@
 use Rattle.std.specs.Prelude.{ℕ, ℤ, pos, All, FitsSigned, slice_index_or}
 use Rattle.std.specs.Int.{w64}
 use Rattle.dbp_plan.specs.declared.diagram.Diagram.{Diagram}
-use Rattle.dbp_rules.specs.Places.{slot_at, task}
+use Rattle.dbp_rules.specs.Lookups.{slot_at, task}
 use Rattle.dbp_rules.specs.declared.state.State.{State}
 use Rattle.dbp_rules.specs.declared.step.Step.{Step}
 use Rattle.dbp_rules.specs.declared.step.Step.TheVariants.{Put}

@@ -4,7 +4,7 @@ ghost use Rattle.std.specs.Prelude.{◌≡◌, ◌<◌, ◌≤◌, ◌↔◌, �
 ghost use Rattle.dbp_plan.specs.declared.limits.TheConstants.{MAX_READ_LINES};
 ghost use Rattle.dbp_rules.specs.PartyRules.{claimed_in, has_claim_in, kept_after_aim};
 ghost use Rattle.dbp_rules.specs.PartyShapes.{LinksFit};
-ghost use Rattle.dbp_rules.specs.Places.{entry_in, wired_task};
+ghost use Rattle.dbp_rules.specs.Lookups.{entry_in, wired_task};
 ghost use Rattle.dbp_rules.specs.Promises.{HasFreeSlotIn, IsLeastAimIn};
 ghost use Rattle.dbp_slots.specs.FreeSlot.{IsLeastFree};
 ghost use Rattle.release_list.specs.declared.release.Release.TheVariants.{Aim as AimOf};

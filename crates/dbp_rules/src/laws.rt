@@ -8,7 +8,7 @@ ghost use Rattle.dbp_plan.specs.Lookups.{declared_task, no_read};
 ghost use Rattle.sync_meaning.specs.Meaning.{IsMeaning};
 ghost use Rattle.dbp_plan.specs.Table.{table_row};
 ghost use Rattle.dbp_rules.specs.Lawful.{Leads};
-ghost use Rattle.dbp_rules.specs.Places.{link};
+ghost use Rattle.dbp_rules.specs.Lookups.{link};
 ghost use Rattle.dbp_rules.specs.Promises.{IsUnclaimed, SparesClaims, TakesTheMeaning};
 ghost use Rattle.dbp_rules.specs.Rules.{IsNamed, hears, refusal};
 ghost use Rattle.dbp_rules.specs.Sound.{Sound};

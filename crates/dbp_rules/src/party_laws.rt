@@ -6,7 +6,7 @@ ghost use Rattle.dbp_slots.specs.FreeSlot.{IsLeastFree};
 ghost use Rattle.release_list.specs.declared.release.Release.TheVariants.{Aim as AimOf};
 ghost use Rattle.dbp_rules.specs.PartyRules.{Loaded, claimed_in, releaser_after, releaser_refusal, kept_after_aim, task_after, task_refusal};
 ghost use Rattle.dbp_rules.specs.PartyShapes.{IsNamedIn, ReleaserLoads, ReleaserShape, TaskLoads, TaskPartShape};
-ghost use Rattle.dbp_rules.specs.Places.{entry_in, task, wired_task};
+ghost use Rattle.dbp_rules.specs.Lookups.{entry_in, task, wired_task};
 ghost use Rattle.dbp_rules.specs.Promises.{HasFreeSlotIn, IsLeastAimIn};
 ghost use Rattle.dbp_rules.specs.Rules.{IsNamed, loaded_value, next, refusal};
 ghost use Rattle.dbp_rules.specs.SharedWords.{made_by};

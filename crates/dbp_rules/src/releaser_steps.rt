@@ -5,7 +5,7 @@ ghost use Rattle.dbp_rules.specs.Moves as move;
 ghost use Rattle.dbp_rules.specs.PartyRules as rule;
 ghost use Rattle.dbp_rules.specs.PartyShapes.{IsNamedIn, LinksFit};
 ghost use Rattle.dbp_rules.specs.StepKinds.{kind_number, kind_of, subject_of};
-ghost use Rattle.dbp_rules.specs.Places.{claim_in, entry_in, is_counted, link as link_of};
+ghost use Rattle.dbp_rules.specs.Lookups.{claim_in, entry_in, is_counted, link as link_of};
 
 use crate::next_steps::{next_release, not_next};
 use crate::parts::{LinkEntry, Order, ReleaserPart, TaskEntry};

@@ -9,7 +9,7 @@ ghost use Rattle.dbp_slots.specs.FreeSlot.{IsLeastFree};
 ghost use Rattle.release_list.specs.declared.release.Release.TheVariants.{Aim as AimOf};
 ghost use Rattle.sync_meaning.specs.Meaning.{IsMeaning};
 ghost use Rattle.dbp_plan.specs.Table.{table_row};
-ghost use Rattle.dbp_rules.specs.Places.{link, task_entry, wired_task};
+ghost use Rattle.dbp_rules.specs.Lookups.{link, task_entry, wired_task};
 ghost use Rattle.dbp_rules.specs.Promises.{HasFreeSlot, IsClaimFilled, IsLeastAim, IsUnclaimed, SparesClaims, TakesTheMeaning, claimed_of};
 ghost use Rattle.dbp_rules.specs.Rules.{IsNamed, hears, next, refusal, kept_after_aim};
 ghost use Rattle.dbp_rules.specs.SharedWords.{KeepsOtherParts, KeepsOtherWords, made_by, stored_by};

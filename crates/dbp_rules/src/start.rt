@@ -5,7 +5,7 @@ ghost use Rattle.std.specs.List.{range_with_len};
 ghost use Rattle.dbp_plan.specs.Closed.{place_count};
 ghost use Rattle.dbp_plan.specs.declared.limits.TheConstants.{MAX_BODY, MAX_OUTS};
 ghost use Rattle.dbp_plan.specs.Lookups.{declared_task};
-ghost use Rattle.dbp_rules.specs.Places.{no_link_entry, no_order, wired_task};
+ghost use Rattle.dbp_rules.specs.Lookups.{no_link_entry, no_order, wired_task};
 ghost use Rattle.dbp_rules.specs.Shapes.{IsWired};
 ghost use Rattle.dbp_rules.specs.Start as start;
 

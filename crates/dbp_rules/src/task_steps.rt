@@ -3,7 +3,7 @@
 ghost use Rattle.std.specs.Prelude.{◌≡◌, ◌+◌, ◌<◌, ◌^◌, length};
 ghost use Rattle.dbp_rules.specs.Moves as move;
 ghost use Rattle.dbp_rules.specs.PartyRules as rule;
-ghost use Rattle.dbp_rules.specs.Places.{read_at};
+ghost use Rattle.dbp_rules.specs.Lookups.{read_at};
 ghost use Rattle.dbp_rules.specs.Shapes.{PlaceIn};
 ghost use Rattle.dbp_rules.specs.declared.parts.TheConstants.{MAX_ORDERS};
 

@@ -1,7 +1,7 @@
 // What the steps look up in a plan, made once.
 
 ghost use Rattle.std.specs.Prelude.{◌≡◌, ◌<◌, length};
-ghost use Rattle.dbp_rules.specs.Places.{wired_task};
+ghost use Rattle.dbp_rules.specs.Lookups.{wired_task};
 
 use crate::step::Count;
 use dbp_plan::{Link, List, Sample};

@@ -5,7 +5,7 @@ ghost use Rattle.std.specs.Int.{w64};
 ghost use Rattle.dbp_plan.specs.declared.plan.Plan.{Plan};
 ghost use Rattle.dbp_slots.specs.TableWords.{IsWord, TableWord, sizes_of};
 ghost use Rattle.dbp_rules.specs.LoadedWords.{heard_of, loaded_by, loaded_of, number_to_load, order_of, sizes_of_wiring, start_number, stored_number, value_of_word};
-ghost use Rattle.dbp_rules.specs.Places.{wired_task};
+ghost use Rattle.dbp_rules.specs.Lookups.{wired_task};
 ghost use Rattle.dbp_rules.specs.Rules.{IsNamed, hears, loaded_value, next, refusal};
 ghost use Rattle.dbp_rules.specs.Shapes.{OrderFits};
 ghost use Rattle.dbp_rules.specs.SharedWords.{maker_part, order_value, signed_value, stored_by, value_in};

@@ -6,7 +6,7 @@ ghost use Rattle.sync_meaning.specs.Meaning.{outs_in};
 ghost use Rattle.sync_meaning.specs.SomeMeaningEnvs.{env_from, states_after};
 ghost use Rattle.dbp_plan.specs.declared.limits.TheConstants.{MAX_BODY, MAX_OUTS};
 ghost use Rattle.dbp_rules.specs.Moves as move;
-ghost use Rattle.dbp_rules.specs.Places.{no_task_wiring};
+ghost use Rattle.dbp_rules.specs.Lookups.{no_task_wiring};
 ghost use Rattle.dbp_rules.specs.Start as start;
 
 use dbp_plan::{NoMemory, Out, Row, Task};

@@ -11,7 +11,7 @@ use Rattle.dbp_plan.specs.declared.diagram.Diagram.{Diagram}
 use Rattle.dbp_plan.specs.declared.diagram.Task.{Task}
 use Rattle.dbp_plan.specs.declared.limits.TheConstants.{MAX_OUTS}
 use Rattle.dbp_plan.specs.Closed.{IsClosed}
-use Rattle.dbp_plan.specs.Places.{at_place}
+use Rattle.dbp_plan.specs.ListItems.{at_place}
 use Rattle.dbp_slots.specs.declared.layouts.Block.{Block}
 use Rattle.dbp_slots.specs.LayoutBlocks.{block_sizes, sizes_by, BeginInOrder, no_block}
 use Rattle.dbp_slots.specs.Slots.{counts_of, is_to_higher, is_to_lower}

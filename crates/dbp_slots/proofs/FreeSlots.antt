@@ -8,11 +8,11 @@ use Rattle.std.proofs.lemmas.List.Elements.{contains_decides, Decides-contains, 
 use Rattle.std.proofs.lemmas.Map.Made.{is_member-Decides}
 use Rattle.std.proofs.lemmas.Map.Steps.{le-length_from_below}
 
-pub tells_listed : (xs : List ℕ) (x : ℕ) (r : Bool) → IsAnyAnswer (λ y t. eqb y x ≡ t) xs r → Decides r (Contains xs x)
-tells_listed xs x r answer = Decides-contains xs x r (contains_decides eqb Decides-eqb xs x r answer)
+pub listed-Decides : (xs : List ℕ) (x : ℕ) (r : Bool) → IsAnyAnswer (λ y t. eqb y x ≡ t) xs r → Decides r (Contains xs x)
+listed-Decides xs x r answer = Decides-contains xs x r (contains_decides eqb Decides-eqb xs x r answer)
 
 pub unlisted : (xs : List ℕ) (x : ℕ) (r : Bool) → IsAnyAnswer (λ y t. eqb y x ≡ t) xs r → r ≡ false → Contains xs x → ⊥
-unlisted xs x r answer fails among = let passes : r ≡ true = (tells_listed xs x r answer).1 among in cc
+unlisted xs x r answer fails among = let passes : r ≡ true = (listed-Decides xs x r answer).1 among in cc
 
 -- lists that are shorter together than the number of slots leave one free
 pub one_free : (claims kept : List ℕ) (slots : ℕ) → length claims + length kept < slots → ((s : ℕ) → s < slots → Contains claims s ⊎ Contains kept s) → ⊥

@@ -13,10 +13,10 @@ use Rattle.dbp_top.specs.declared.status.Status.TheVariants.{Ok, Overrun, Refuse
 use Rattle.dbp_top.specs.declared.top.TheConstants.{MAX_DOCUMENT}
 
 -- the statuses with which a command's answer is written
-pub data TellsAnswer : Status → Type 0 where
-  text : TellsAnswer Ok
-  refusal : TellsAnswer Refused
-  overrun : TellsAnswer Overrun
+pub data PrintsAnswer : Status → Type 0 where
+  text : PrintsAnswer Ok
+  refusal : PrintsAnswer Refused
+  overrun : PrintsAnswer Overrun
 
 -- of a command that reads the one, of another the other
 abbrev pub WhereRead : Bool → Type 0 → Type 0 → Type 0
@@ -97,5 +97,5 @@ module _ {S K : Type 0} (left : S → Option (List ℕ)) (source_faults : S → 
         → Answered serves words source new_source sink new_sink TooLarge
     no_memory : (command : Command) → Names words command → serves command ≡ true → RanOut source new_source sink new_sink command
         → Answered serves words source new_source sink new_sink NoMemory
-    whole : (command : Command) (status : Status) → TellsAnswer status → Names words command → serves command ≡ true → WroteWhole source new_source sink new_sink command status
+    whole : (command : Command) (status : Status) → PrintsAnswer status → Names words command → serves command ≡ true → WroteWhole source new_source sink new_sink command status
         → Answered serves words source new_source sink new_sink status

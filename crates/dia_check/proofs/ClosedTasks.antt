@@ -21,7 +21,7 @@ use Rattle.dbp_plan.specs.declared.expr.Expr.{Expr}
 use Rattle.dbp_plan.specs.declared.limits.TheConstants.{MAX_TASKS, MAX_INPUTS, MAX_EVENTS, MAX_TIME}
 use Rattle.dbp_plan.specs.Closed.{let_base, place_count, body_count, IsClosedTask}
 use Rattle.dbp_plan.specs.LetOrder.{VariablesBelow}
-use Rattle.dbp_plan.specs.Places.{all_place, at_place}
+use Rattle.dbp_plan.specs.ListItems.{all_place, at_place}
 use Rattle.dbp_plan.specs.NameLists.{is_among, index_of}
 use Rattle.dbp_plan.proofs.NameLaws.{index-below, same-bytes, same-index}
 use Rattle.dia_lines.specs.declared.item.Decl.{Decl}
@@ -37,7 +37,7 @@ use Rattle.expr_eval.specs.LetOrders.{IsFrontOrder}
 use Rattle.dia_check.specs.Diagrams.{clock_of, state_of, sense_of, read_of, let_of, next_of, out_of, lets_of, task_of, input_of, IsTaskOf, IsDiagramOf}
 use Rattle.dia_check.specs.Faults.{is_repeated, is_unknown, is_self_link, is_past_cost, is_unknown_clock, task_fault, part_fault, has_strange, base_of, IsWhole}
 use Rattle.dia_check.specs.Names.{input_name, event_name, state_name, sense_name, read_name, let_name, next_name, out_name, env_names}
-use Rattle.dia_check.specs.Placed.{placed}
+use Rattle.dia_check.specs.Placed.{placed_expr}
 use Rattle.dia_check.proofs.Faultless.{IsFaultless}
 use Rattle.dia_check.proofs.LinkLists.{all-made}
 use Rattle.dia_check.proofs.PlaceLaws.{made-alike, made-count, only-one, all-places, placed-below}
@@ -143,15 +143,15 @@ each-pointer : (cost : ℕ) (ts : List RawTask) (number : ℕ) (p : Part) → ((
 each-pointer cost ts number (part.Read n d w q a) each = only-one (λ (r : Read). r.at < cost) _ (each n d w q a refl)
 each-pointer cost ts number _ each = All-nil (λ (r : Read). r.at < cost)
 
-each-let : (P : Let → Type 0) (names : List (List ℕ)) (p : Part) → ((n : List ℕ) (e : Expr (List ℕ)) → p ≡ part.Let n e → P (record { name = n; expr = placed names e })) → All P (let_of names p)
+each-let : (P : Let → Type 0) (names : List (List ℕ)) (p : Part) → ((n : List ℕ) (e : Expr (List ℕ)) → p ≡ part.Let n e → P (record { name = n; expr = placed_expr names e })) → All P (let_of names p)
 each-let P names (part.Let n e) each = only-one P _ (each n e refl)
 each-let P names _ each = All-nil P
 
-each-next : (P : Next → Type 0) (states names : List (List ℕ)) (p : Part) → ((n : List ℕ) (e : Expr (List ℕ)) → p ≡ part.Next n e → P (record { state = index_of states n; expr = placed names e })) → All P (next_of states names p)
+each-next : (P : Next → Type 0) (states names : List (List ℕ)) (p : Part) → ((n : List ℕ) (e : Expr (List ℕ)) → p ≡ part.Next n e → P (record { state = index_of states n; expr = placed_expr names e })) → All P (next_of states names p)
 each-next P states names (part.Next n e) each = only-one P _ (each n e refl)
 each-next P states names _ each = All-nil P
 
-each-out : (P : Out → Type 0) (names : List (List ℕ)) (p : Part) → ((n : List ℕ) (v : _) (e : Expr (List ℕ)) → p ≡ part.Out n v e → P (record { name = n; first = v; expr = placed names e })) → All P (out_of names p)
+each-out : (P : Out → Type 0) (names : List (List ℕ)) (p : Part) → ((n : List ℕ) (v : _) (e : Expr (List ℕ)) → p ≡ part.Out n v e → P (record { name = n; first = v; expr = placed_expr names e })) → All P (out_of names p)
 each-out P names (part.Out n v e) each = only-one P _ (each n v e refl)
 each-out P names _ each = All-nil P
 
@@ -173,9 +173,9 @@ nexts-apart : (states names : List (List ℕ)) (ps : List Part)
     → AllPairs OtherState (flat_map (next_of states names) ps)
 nexts-apart states names [] apart = λ i j d less below. absurd (omega arith)
 nexts-apart states names (part.Next m e ∷ ps) apart =
-    AllPairs-cons OtherState (record { state = index_of states m; expr = placed names e }) (flat_map (next_of states names) ps)
-    (all-made (OtherState (record { state = index_of states m; expr = placed names e })) (next_of states names) ps (λ k p at.
-    each-next (OtherState (record { state = index_of states m; expr = placed names e })) states names p (λ n f is. apart 0 (suc k) m n e f (omega arith) refl (at ∙ ap (λ (q : Part). Some q) is))))
+    AllPairs-cons OtherState (record { state = index_of states m; expr = placed_expr names e }) (flat_map (next_of states names) ps)
+    (all-made (OtherState (record { state = index_of states m; expr = placed_expr names e })) (next_of states names) ps (λ k p at.
+    each-next (OtherState (record { state = index_of states m; expr = placed_expr names e })) states names p (λ n f is. apart 0 (suc k) m n e f (omega arith) refl (at ∙ ap (λ (q : Part). Some q) is))))
     (nexts-apart states names ps (λ i j m' n' e' f' less at_i at_j. apart (suc i) (suc j) m' n' e' f' (omega arith) at_i at_j))
 nexts-apart states names (_ ∷ ps) apart = nexts-apart states names ps (λ i j m n e f less at_i at_j. apart (suc i) (suc j) m n e f (omega arith) at_i at_j)
 

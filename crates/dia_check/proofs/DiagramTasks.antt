@@ -3,7 +3,7 @@ use Rattle.std.proofs.Common.{◌≡◌, ℕ, slice_get, Some, arith}
 use Rattle.std.proofs.lemmas.Option.{slice_get_within}
 use Rattle.dbp_plan.specs.declared.diagram.Diagram.{Diagram}
 use Rattle.dbp_plan.specs.declared.diagram.Task.{Task}
-use Rattle.dbp_plan.specs.Places.{at_place}
+use Rattle.dbp_plan.specs.ListItems.{at_place}
 use Rattle.dia_read.specs.declared.document.Body.{Body}
 use Rattle.dia_read.specs.declared.document.RawTask.{RawTask}
 use Rattle.dia_check.specs.Diagrams.{IsDiagramOf}

@@ -16,7 +16,7 @@ use Rattle.dbp_plan.specs.declared.diagram.Read.{Read}
 use Rattle.dbp_plan.specs.declared.diagram.Task.{Task}
 use Rattle.dbp_plan.specs.declared.limits.TheConstants.{MAX_READ_LINES}
 use Rattle.dbp_plan.specs.Limits.{max_delay}
-use Rattle.dbp_plan.specs.Places.{at_place, all_place}
+use Rattle.dbp_plan.specs.ListItems.{at_place, all_place}
 use Rattle.dbp_plan.specs.NameLists.{is_among, index_of}
 use Rattle.dbp_plan.proofs.FirstIndexes.{first-below, first-in-map, first-passes}
 use Rattle.dbp_plan.proofs.ListParts.{take-next}

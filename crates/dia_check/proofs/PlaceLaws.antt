@@ -12,7 +12,7 @@ use Rattle.dbp_plan.specs.declared.node.Node.TheVariants.{Num, Var, Un, Bin, Pic
 use Rattle.dbp_plan.specs.LetOrder.{VariablesBelow}
 use Rattle.dbp_plan.specs.NameLists.{is_among, index_of}
 use Rattle.dbp_plan.proofs.NameLaws.{index-below}
-use Rattle.dia_check.specs.Placed.{placed_node, placed, nodes-of-placed}
+use Rattle.dia_check.specs.Placed.{placed_node, placed_expr, nodes-of-placed}
 use Rattle.dia_check.specs.Faults.{is_strange, has_strange}
 
 -- parts that make as many items
@@ -46,5 +46,5 @@ nodes-below names (Bin op a b ∷ nodes) none zero v at = absurd cc
 nodes-below names (Pick c a b ∷ nodes) none zero v at = absurd cc
 nodes-below names (node ∷ nodes) none (suc k) v at = nodes-below names nodes (or_parts (is_strange names node) (list_any (is_strange names) nodes) none).1 k v at
 
-pub placed-below : (names : List (List ℕ)) (e : Expr (List ℕ)) → has_strange names e ≡ false → VariablesBelow (length names) (placed names e).nodes
+pub placed-below : (names : List (List ℕ)) (e : Expr (List ℕ)) → has_strange names e ≡ false → VariablesBelow (length names) (placed_expr names e).nodes
 placed-below names e none = subst (λ nodes. VariablesBelow (length names) nodes) (sym (nodes-of-placed names e)) (nodes-below names e.nodes none)

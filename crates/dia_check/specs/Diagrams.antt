@@ -25,7 +25,7 @@ use Rattle.dia_read.specs.declared.document.Body.{Body}
 use Rattle.dia_read.specs.declared.document.RawTask.{RawTask}
 use Rattle.expr_eval.specs.LetOrders.{IsFrontOrder}
 use Rattle.dia_check.specs.Names.{input_name, event_name, task_names, state_name, env_names, port_names}
-use Rattle.dia_check.specs.Placed.{placed}
+use Rattle.dia_check.specs.Placed.{placed_expr}
 
 -- ---- links
 
@@ -79,15 +79,15 @@ read_of tasks reader (part.Read n delay writer port at) =
 read_of tasks reader _ = []
 
 abbrev pub let_of : List (List ℕ) → Part → List Let
-let_of names (part.Let n e) = record { name = n; expr = placed names e } ∷ []
+let_of names (part.Let n e) = record { name = n; expr = placed_expr names e } ∷ []
 let_of names _ = []
 
 abbrev pub next_of : List (List ℕ) → List (List ℕ) → Part → List Next
-next_of states names (part.Next n e) = record { state = index_of states n; expr = placed names e } ∷ []
+next_of states names (part.Next n e) = record { state = index_of states n; expr = placed_expr names e } ∷ []
 next_of states names _ = []
 
 abbrev pub out_of : List (List ℕ) → Part → List Out
-out_of names (part.Out n first e) = record { name = n; first = first; expr = placed names e } ∷ []
+out_of names (part.Out n first e) = record { name = n; first = first; expr = placed_expr names e } ∷ []
 out_of names _ = []
 
 -- the task's lets, over the places of its environment

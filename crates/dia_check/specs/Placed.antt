@@ -52,13 +52,13 @@ placed-nodes names at (choice c x y) =
     ) refl
 
 -- the expression with the place of each name among these
-pub placed : List (List ℕ) → Expr (List ℕ) → Expr ℕ
-placed names e = record {
+pub placed_expr : List (List ℕ) → Expr (List ℕ) → Expr ℕ
+placed_expr names e = record {
   nodes = map (placed_node names) e.nodes;
   tree = (placed_tree names e.tree.0, ap (map (placed_node names)) e.tree.1 ∙ placed-nodes names 0 e.tree.0);
   few = subst (λ n. n ≤ MAX_NODES) (sym (length-map e.nodes (placed_node names))) e.few;
 }
 
-pub nodes-of-placed : (names : List (List ℕ)) (e : Expr (List ℕ)) → (placed names e).nodes ≡ map (placed_node names) e.nodes
-unfolding placed
+pub nodes-of-placed : (names : List (List ℕ)) (e : Expr (List ℕ)) → (placed_expr names e).nodes ≡ map (placed_node names) e.nodes
+unfolding placed_expr
 nodes-of-placed names e = refl

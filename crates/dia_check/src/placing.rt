@@ -1,7 +1,7 @@
 // Expressions over places for those over names.
 
 ghost use Rattle.std.specs.Prelude.{◌≡◌, ◌<◌, ◌^◌, length, map, IfOk};
-ghost use Rattle.dia_check.specs.Placed.{placed_node, placed};
+ghost use Rattle.dia_check.specs.Placed.{placed_expr, placed_node};
 
 use crate::names::index_of;
 use dbp_plan::{Expr, List, Name, NoMemory, Node};
@@ -42,7 +42,7 @@ pub(crate) fn placed(
     expr: &Expr<Name>,
 ) -> Result<Expr<u32>, NoMemory>
     requires { length names.now < 2 ^ 32 }
-    ensures { IfOk result (λ made. made ≡ placed names.now expr.now) }
+    ensures { IfOk result (λ made. made ≡ placed_expr names.now expr.now) }
 {
     let nodes = placed_nodes(alloc, names, &expr.nodes)?;
     Ok(Expr { nodes })

@@ -7,7 +7,7 @@ use Rattle.dbp_plan.specs.declared.node.Node.{Node}
 use Rattle.dbp_plan.specs.declared.node.Node.TheVariants.{Num, Var, Un, Bin, Pick}
 use Rattle.dbp_plan.specs.Tree.{Tree, number, variable, unary, binary, choice, size_of, root_of, nodes_of}
 use Rattle.dbp_plan.specs.TreeLaws.{length-nodes_of, one_node}
-use Rattle.dbp_plan.specs.Places.{read_place, front_place, after_place}
+use Rattle.dbp_plan.specs.ListItems.{read_place, front_place, after_place}
 use Rattle.dia_print.specs.ExpressionTokens.{is_compound}
 use Rattle.dia_print.specs.Stands.{Stands, is_compound_node}
 

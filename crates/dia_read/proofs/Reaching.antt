@@ -2,7 +2,7 @@
 use Rattle.std.proofs.Common.{◌≡◌, ℕ, ◌+◌, ◌-◌, ◌*◌, ◌^◌, ◌<◌, ◌≤◌, true, List, [], ◌∷◌, ◌++◌, length, reverse, slice_get, Some, refl, sym, ap, subst, ◌∙◌, append_assoc, arith, length-append}
 use Rattle.std.proofs.lemmas.List.{take_at, length-reverse}
 use Rattle.dbp_plan.specs.declared.limits.TheConstants.{MAX_TEXT}
-use Rattle.dbp_plan.specs.Places.{after_place}
+use Rattle.dbp_plan.specs.ListItems.{after_place}
 use Rattle.dia_tokens.proofs.SpellingLaws.{no-feed}
 use Rattle.dia_lines.specs.declared.fault.ReadCode.{ReadCode}
 use Rattle.dia_lines.specs.declared.item.Line.{Line}

@@ -21,10 +21,10 @@ use Rattle.dia_tokens.proofs.OneLine.{narrow, all-narrow}
 use Rattle.dia_tokens.proofs.ValueLaws.{HaveValues-push}
 
 -- the values of the texts, or the fault that goes before their others
-abbrev pub Tells : List Piece → List Token → Option ValueFail → Type 0
-Tells ps ts None = HaveValues ps ts
-Tells ps ts (Some NumberTooWide) = list_all is_narrow ps ≡ false
-Tells ps ts (Some NameTooLong) = (list_all is_narrow ps ≡ true) × (list_all is_short ps ≡ false)
+abbrev pub HasOutcome : List Piece → List Token → Option ValueFail → Type 0
+HasOutcome ps ts None = HaveValues ps ts
+HasOutcome ps ts (Some NumberTooWide) = list_all is_narrow ps ≡ false
+HasOutcome ps ts (Some NameTooLong) = (list_all is_narrow ps ≡ true) × (list_all is_short ps ≡ false)
 
 pushed : (p : Piece → Bool) (ps : List Piece) (q : Piece) → list_all p (ps ++ q ∷ []) ≡ (list_all p ps && p q)
 pushed p ps q = list_all-append p ps (q ∷ []) ∙ ap (λ (b : Bool). list_all p ps && b) (and-true (p q))
@@ -38,10 +38,10 @@ fails-at p ps q e = rw (pushed p ps q, e) (and-false (list_all p ps))
 holds-on : (p : Piece → Bool) (ps : List Piece) (q : Piece) → list_all p ps ≡ true → p q ≡ true → list_all p (ps ++ q ∷ []) ≡ true
 holds-on p ps q e f = rw (pushed p ps q, e, f) refl
 
-Tells-value : (ps : List Piece) (ts : List Token) (f : Option ValueFail) (p : Piece) (t : Token) → Tells ps ts f → HasValue p t → Tells (ps ++ p ∷ []) (ts ++ t ∷ []) f
-Tells-value ps ts None p t h v = HaveValues-push ps ts p t h v
-Tells-value ps ts (Some NumberTooWide) p t h v = fails-before is_narrow ps p h
-Tells-value ps ts (Some NameTooLong) p t h v = (holds-on is_narrow ps p h.0 (narrow p t v), fails-before is_short ps p h.1)
+HasOutcome-value : (ps : List Piece) (ts : List Token) (f : Option ValueFail) (p : Piece) (t : Token) → HasOutcome ps ts f → HasValue p t → HasOutcome (ps ++ p ∷ []) (ts ++ t ∷ []) f
+HasOutcome-value ps ts None p t h v = HaveValues-push ps ts p t h v
+HasOutcome-value ps ts (Some NumberTooWide) p t h v = fails-before is_narrow ps p h
+HasOutcome-value ps ts (Some NameTooLong) p t h v = (holds-on is_narrow ps p h.0 (narrow p t v), fails-before is_short ps p h.1)
 
 long-narrow : (p : Piece) → is_short p ≡ false → is_narrow p ≡ true
 long-narrow (name text) e = refl
@@ -49,22 +49,22 @@ long-narrow (number text) e = absurd cc
 long-narrow (word w) e = absurd cc
 long-narrow (symbol s) e = absurd cc
 
-Tells-fault : (ps : List Piece) (ts : List Token) (f : Option ValueFail) (p : Piece) (e : ValueFail) → Tells ps ts f → FailsOn p e → Tells (ps ++ p ∷ []) ts (Some (first_fault f e))
-Tells-fault ps ts (Some NumberTooWide) p e h g = fails-before is_narrow ps p h
-Tells-fault ps ts None p NumberTooWide h g = fails-at is_narrow ps p g
-Tells-fault ps ts None p NameTooLong h g = (holds-on is_narrow ps p (all-narrow ps ts h) (long-narrow p g), fails-at is_short ps p g)
-Tells-fault ps ts (Some NameTooLong) p NumberTooWide h g = fails-at is_narrow ps p g
-Tells-fault ps ts (Some NameTooLong) p NameTooLong h g = (holds-on is_narrow ps p h.0 (long-narrow p g), fails-at is_short ps p g)
+HasOutcome-fault : (ps : List Piece) (ts : List Token) (f : Option ValueFail) (p : Piece) (e : ValueFail) → HasOutcome ps ts f → FailsOn p e → HasOutcome (ps ++ p ∷ []) ts (Some (first_fault f e))
+HasOutcome-fault ps ts (Some NumberTooWide) p e h g = fails-before is_narrow ps p h
+HasOutcome-fault ps ts None p NumberTooWide h g = fails-at is_narrow ps p g
+HasOutcome-fault ps ts None p NameTooLong h g = (holds-on is_narrow ps p (all-narrow ps ts h) (long-narrow p g), fails-at is_short ps p g)
+HasOutcome-fault ps ts (Some NameTooLong) p NumberTooWide h g = fails-at is_narrow ps p g
+HasOutcome-fault ps ts (Some NameTooLong) p NameTooLong h g = (holds-on is_narrow ps p h.0 (long-narrow p g), fails-at is_short ps p g)
 
 -- what was read of the line, up to the rest
 pub record Reads (line : List ℕ) (ts : List Token) (fault : Option ValueFail) (signed : Bool) (rest : List ℕ) : Type 0 where
   pub texts : List Piece
   pub between : Between line texts signed rest
-  pub tells : Tells texts ts fault
+  pub outcome : HasOutcome texts ts fault
   pub unread : token_at true line ≡ bad → (rest ≡ line) × (signed ≡ true)
 
 pub Reads-starts : (line : List ℕ) → Reads line [] None true line
-Reads-starts line = record { texts = []; between = Between-starts line; tells = none; unread = λ b. (refl, refl) }
+Reads-starts line = record { texts = []; between = Between-starts line; outcome = none; unread = λ b. (refl, refl) }
 
 -- a line whose first token was found doesn't begin with a text that makes none
 pub Reads-found : {line : List ℕ} {ts : List Token} {f : Option ValueFail} {signed : Bool} {rest : List ℕ} {p : Piece} {after : List ℕ} → Reads line ts f signed rest → found p after ≡ token_at signed rest
@@ -79,7 +79,7 @@ pub Reads-value : {line : List ℕ} {ts : List Token} {f : Option ValueFail} {si
 Reads-value {line} {ts} {f} {signed} {rest} {p} {after} {t} r e v = record {
   texts = r.texts ++ p ∷ [];
   between = Between-found line r.texts signed rest p after r.between e;
-  tells = Tells-value r.texts ts f p t r.tells v;
+  outcome = HasOutcome-value r.texts ts f p t r.outcome v;
   unread = λ b. absurd (Reads-found r e b);
 }
 
@@ -88,7 +88,7 @@ pub Reads-fault : {line : List ℕ} {ts : List Token} {f : Option ValueFail} {si
 Reads-fault {line} {ts} {f} {signed} {rest} {p} {after} x r e g = record {
   texts = r.texts ++ p ∷ [];
   between = Between-found line r.texts signed rest p after r.between e;
-  tells = Tells-fault r.texts ts f p x r.tells g;
+  outcome = HasOutcome-fault r.texts ts f p x r.outcome g;
   unread = λ b. absurd (Reads-found r e b);
 }
 
@@ -96,12 +96,12 @@ pub Reads-bad : {line : List ℕ} {ts : List Token} {f : Option ValueFail} {sign
 Reads-bad {line} {ts} {f} {signed} {rest} r e a = a_bad_token line a (Between-bad line r.texts signed rest r.between e)
 
 pub Reads-tokens : {line : List ℕ} {ts : List Token} {signed : Bool} {rest : List ℕ} → Reads line ts None signed rest → nothing ≡ token_at signed rest → list_all is_allowed line ≡ true → Spells line ts
-Reads-tokens {line} {ts} {signed} {rest} r e a = record { texts = r.texts; allowed = a; lexes = Between-ends line r.texts signed rest r.between e; values = r.tells }
+Reads-tokens {line} {ts} {signed} {rest} r e a = record { texts = r.texts; allowed = a; lexes = Between-ends line r.texts signed rest r.between e; values = r.outcome }
 
 pub Reads-faulty : {line : List ℕ} {ts : List Token} {x : ValueFail} {signed : Bool} {rest : List ℕ} → Reads line ts (Some x) signed rest → nothing ≡ token_at signed rest → list_all is_allowed line ≡ true → Refuses line (line_fail x)
-Reads-faulty {line} {ts} {x} {signed} {rest} r e a = refused x r.tells
+Reads-faulty {line} {ts} {x} {signed} {rest} r e a = refused x r.outcome
   where
-    refused : (x : ValueFail) → Tells r.texts ts (Some x) → Refuses line (line_fail x)
+    refused : (x : ValueFail) → HasOutcome r.texts ts (Some x) → Refuses line (line_fail x)
     refused NumberTooWide h = a_wide_number line r.texts a (Between-ends line r.texts signed rest r.between e) h
     refused NameTooLong h = a_long_name line r.texts a (Between-ends line r.texts signed rest r.between e) h.0 h.1
 

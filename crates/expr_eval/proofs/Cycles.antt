@@ -6,7 +6,7 @@ use Rattle.std.proofs.lemmas.List.{length-drop, get_or-drop}
 use Rattle.std.proofs.lemmas.List.Elements.{All-push}
 use Rattle.dbp_plan.specs.declared.diagram.Let.{Let}
 use Rattle.dbp_plan.specs.LetOrder.{IsLetOrder, VariablesBelow}
-use Rattle.dbp_plan.specs.Places.{at_place, front_place, last_place, all_place, drop_place, take_inside}
+use Rattle.dbp_plan.specs.ListItems.{at_place, front_place, last_place, all_place, drop_place, take_inside}
 use Rattle.expr_eval.specs.LetOrders.{Uses, AllWait, IsCycle, IsCycleFrom, LiesOnCycle}
 use Rattle.expr_eval.specs.LetSearch.{AreListed}
 use Rattle.expr_eval.proofs.Listed.{place_of, contains_cases, once_push, listed_none, listed_push, listed_few, listed_all, listed_full}

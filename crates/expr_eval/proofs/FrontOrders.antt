@@ -10,7 +10,7 @@ use Rattle.std.proofs.Math.Seq.{take-append_seam}
 use Rattle.dbp_plan.specs.declared.node.Node.TheVariants.{Var}
 use Rattle.dbp_plan.specs.declared.diagram.Let.{Let}
 use Rattle.dbp_plan.specs.LetOrder.{IsLetOrder}
-use Rattle.dbp_plan.specs.Places.{front_place, last_place, take_inside}
+use Rattle.dbp_plan.specs.ListItems.{front_place, last_place, take_inside}
 use Rattle.expr_eval.specs.LetOrders.{Uses, IsReady, Waits, IsNextReady, IsFrontOrder}
 use Rattle.expr_eval.specs.LetSearch.{AreListed}
 use Rattle.expr_eval.proofs.Listed.{place_of, contains_at, one_place, listed_none, listed_push}

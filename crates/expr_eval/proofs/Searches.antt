@@ -5,7 +5,7 @@ use Rattle.std.proofs.lemmas.Bool.{cases_lt}
 use Rattle.std.proofs.lemmas.Option.{slice_get-get_or, slice_get_within, same_Some, MatchOption-at_some, MatchOption-at_none}
 use Rattle.std.proofs.lemmas.List.Elements.{Contains-push_cases}
 use Rattle.dbp_plan.specs.declared.diagram.Let.{Let}
-use Rattle.dbp_plan.specs.Places.{at_place, front_place, last_place, all_place, take_place}
+use Rattle.dbp_plan.specs.ListItems.{at_place, front_place, last_place, all_place, take_place}
 use Rattle.expr_eval.specs.LetOrders.{Uses, IsCycleFrom, IsFirstCycle, LiesOnCycle}
 use Rattle.expr_eval.specs.LetSearch.{AreListed, IsNextUser, UsesOneOf, UsesNoneOf, LeadTo, AreAllLeading}
 use Rattle.expr_eval.proofs.Listed.{place_of, contains_at, one_place, listed_none, listed_push, listed_room}

@@ -5,7 +5,7 @@ use Rattle.std.proofs.Common.{◌≡◌, ℕ, ◌+◌, ◌<◌, ◌≤◌, Optio
 use Rattle.std.proofs.lemmas.List.{append-nil}
 use Rattle.dbp_plan.specs.declared.plan.Plan.{Plan}
 use Rattle.dbp_plan.specs.Lookups.{declared_task}
-use Rattle.dbp_rules.specs.Places.{task, wired_task}
+use Rattle.dbp_rules.specs.Lookups.{task, wired_task}
 use Rattle.dbp_rules.specs.Rules.{next}
 use Rattle.dbp_rules.specs.Wired.{task_wiring}
 use Rattle.dbp_rules.specs.declared.parts.Place.{Place}

@@ -8,7 +8,7 @@ use Rattle.dbp_plan.specs.Occurrences.{names, time_of, times_of}
 use Rattle.release_list.specs.declared.release.Release.TheVariants as release
 use Rattle.release_list.specs.Schedule.{aims}
 use Rattle.release_list.proofs.BatchStarts.{aims_at_start}
-use Rattle.dbp_rules.specs.Places.{task, task_entry}
+use Rattle.dbp_rules.specs.Lookups.{task, task_entry}
 use Rattle.dbp_rules.specs.Wired.{wiring_of}
 use Rattle.dbp_rules.specs.declared.parts.TaskEntry.{TaskEntry}
 use Rattle.dbp_rules.specs.declared.parts.TaskPart.{TaskPart}

@@ -13,7 +13,7 @@ use Rattle.std.proofs.Math.ListN.{get_or-map}
 use Rattle.dbp_plan.specs.declared.diagram.Link.{Link}
 use Rattle.dbp_plan.specs.declared.schedule.Batch.{Batch}
 use Rattle.dbp_plan.specs.Occurrences.{names, time_of, times_of}
-use Rattle.dbp_plan.specs.Places.{after_place, front_place}
+use Rattle.dbp_plan.specs.ListItems.{after_place, front_place}
 use Rattle.release_list.specs.declared.release.Release.{Release}
 use Rattle.release_list.specs.declared.release.Release.TheVariants as release
 use Rattle.release_list.specs.Releases.{batch_start, claims_into, claims_of, links_into, releases_at}

@@ -9,7 +9,7 @@ use Rattle.dbp_plan.specs.Lookups.{declared_task}
 use Rattle.dbp_plan.proofs.Counts.{count-cons}
 use Rattle.release_list.specs.Releases.{links_into}
 use Rattle.dbp_rules.specs.Moves.{hear_place, read_place}
-use Rattle.dbp_rules.specs.Places.{task, wired_task}
+use Rattle.dbp_rules.specs.Lookups.{task, wired_task}
 use Rattle.dbp_rules.specs.Rules.{is_open}
 use Rattle.dbp_rules.specs.declared.parts.Place.{Place}
 use Rattle.dbp_rules.specs.declared.parts.Place.TheVariants as place

@@ -6,7 +6,7 @@ use Rattle.dbp_plan.specs.declared.diagram.Link.{Link}
 use Rattle.dbp_plan.specs.declared.plan.Plan.{Plan}
 use Rattle.release_list.specs.declared.release.Release.TheVariants as release
 use Rattle.release_list.specs.Releases.{batch_start, claims_into, claims_of, links_into}
-use Rattle.dbp_rules.specs.Places.{wired_task}
+use Rattle.dbp_rules.specs.Lookups.{wired_task}
 use Rattle.dbp_rules.specs.declared.state.State.{State}
 use Rattle.dbp_rules.specs.declared.step.Step.TheVariants.{Claim}
 use Rattle.dbp_rules.specs.declared.wiring.TaskWiring.{TaskWiring}

@@ -10,7 +10,7 @@ use Rattle.dbp_plan.specs.Lookups.{declared_task}
 use Rattle.dbp_plan.specs.Table.{HasRowsOf, table_row}
 use Rattle.sync_meaning.specs.SomeMeaning.{meaning_of}
 use Rattle.sync_meaning.proofs.Tables.{row_fits}
-use Rattle.dbp_rules.specs.Places.{task, task_entry, wired_task}
+use Rattle.dbp_rules.specs.Lookups.{task, task_entry, wired_task}
 use Rattle.dbp_rules.specs.Shapes.{IsTaskWired, TaskShape, running_count}
 use Rattle.dbp_rules.specs.SoundParts.{last_shut, shut_by}
 use Rattle.dbp_rules.specs.declared.parts.Place.TheVariants as place

@@ -5,7 +5,7 @@ use Rattle.std.proofs.lemmas.List.FromFn.{length-map-range_with_len, map-range_w
 use Rattle.dbp_plan.specs.declared.plan.Plan.{Plan}
 use Rattle.dbp_plan.specs.Lookups.{declared_task}
 use Rattle.dbp_rules.specs.Moves.{put_place}
-use Rattle.dbp_rules.specs.Places.{task, wired_task}
+use Rattle.dbp_rules.specs.Lookups.{task, wired_task}
 use Rattle.dbp_rules.specs.declared.parts.Place.TheVariants as place
 use Rattle.dbp_rules.specs.declared.step.Step.TheVariants.{Shut, Put, Done, End}
 use Rattle.instance_steps.specs.Events.{Event, end_events, put_events, step_of}

@@ -16,7 +16,7 @@ use Rattle.dbp_plan.specs.declared.diagram.Task.{Task}
 use Rattle.dbp_plan.specs.declared.plan.Plan.{Plan}
 use Rattle.dbp_plan.specs.Lookups.{declared_task, no_read}
 use Rattle.dbp_rules.specs.Moves.{read_place}
-use Rattle.dbp_rules.specs.Places.{claim_in, link, link_entry, read_at, task, wired_task}
+use Rattle.dbp_rules.specs.Lookups.{claim_in, link, link_entry, read_at, task, wired_task}
 use Rattle.dbp_rules.specs.Promises.{IsClaimFilled}
 use Rattle.dbp_rules.specs.Rules.{is_ready}
 use Rattle.dbp_rules.specs.Sound.{Sound}

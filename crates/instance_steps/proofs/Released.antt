@@ -13,7 +13,7 @@ use Rattle.release_list.specs.Releases.{claims_of, links_into}
 use Rattle.release_list.specs.Schedule.{aims, opens}
 use Rattle.release_list.proofs.BatchStarts.{aims_at_start, length-releases_at, opens_at_start, start_next}
 use Rattle.release_list.proofs.IntoLinks.{into_few}
-use Rattle.dbp_rules.specs.Places.{no_task_entry, task, task_entry}
+use Rattle.dbp_rules.specs.Lookups.{no_task_entry, task, task_entry}
 use Rattle.dbp_rules.specs.Wired.{wiring_of}
 use Rattle.dbp_rules.specs.declared.parts.TaskEntry.{TaskEntry}
 use Rattle.dbp_rules.specs.declared.parts.TaskPart.{TaskPart}

@@ -4,7 +4,7 @@ use Rattle.std.proofs.lemmas.Bool.{eq-eqb}
 use Rattle.dbp_plan.specs.declared.plan.Plan.{Plan}
 use Rattle.release_list.specs.declared.release.Release.TheVariants as release
 use Rattle.dbp_rules.specs.Moves as move
-use Rattle.dbp_rules.specs.Places.{no_task, no_task_entry, task, task_entry}
+use Rattle.dbp_rules.specs.Lookups.{no_task, no_task_entry, task, task_entry}
 use Rattle.dbp_rules.specs.Promises.{IsLeastAim}
 use Rattle.dbp_rules.specs.Rules.{next}
 use Rattle.dbp_rules.specs.declared.state.State.{State}

@@ -10,16 +10,16 @@ use Rattle.dbp_plan.specs.declared.diagram.Task.{Task}
 use Rattle.dbp_plan.specs.declared.plan.Plan.{Plan}
 use Rattle.dbp_plan.specs.declared.table.Table.{Table}
 use Rattle.dbp_plan.specs.declared.table.TaskRows.{TaskRows}
-use Rattle.dbp_plan.specs.Lookups.{declared_task, no_declared}
+use Rattle.dbp_plan.specs.Lookups.{declared_task, no_declared_task}
 use Rattle.dbp_plan.specs.Occurrences.{times_of}
-use Rattle.dbp_plan.specs.Places.{at_place, set_here, set_other}
+use Rattle.dbp_plan.specs.ListItems.{at_place, set_here, set_other}
 use Rattle.dbp_plan.specs.Table.{HasAllRows, HasRowsOf, IsRow, row_at, table_row}
 use Rattle.sync_meaning.specs.FirstRows.{first_rows}
 use Rattle.sync_meaning.specs.Meaning.{IsStream}
 use Rattle.sync_meaning.specs.SomeMeaning.{meaning_of, meaning_of-is}
 use Rattle.sync_meaning.specs.SomeMeaningTables.{row_in, same_table}
 use Rattle.sync_meaning.proofs.Growing.{row_pushed, rows_stay}
-use Rattle.dbp_rules.specs.Places.{no_task, task, wired_task}
+use Rattle.dbp_rules.specs.Lookups.{no_task, task, wired_task}
 use Rattle.dbp_rules.specs.Start.{start_of, start_task}
 use Rattle.dbp_rules.specs.declared.parts.Place.{Place}
 use Rattle.dbp_rules.specs.declared.state.State.{State}
@@ -29,7 +29,7 @@ use Rattle.instance_steps.specs.EndedRows.{HasEndedRows}
 use Rattle.instance_steps.specs.TaskPieces.{ChangesTask}
 
 there_in : (p : Plan) (i : ℕ) → i < length p.diagram.tasks → slice_get p.diagram.tasks i ≡ Some (declared_task p i)
-there_in p i named = slice_get-get_or p.diagram.tasks i no_declared named
+there_in p i named = slice_get-get_or p.diagram.tasks i no_declared_task named
 
 -- the row of the table with this number
 ended_row : (p : Plan) (s : State) (table : Table) (i n : ℕ) (rows : TaskRows) → HasEndedRows p s table → i < length p.diagram.tasks → n ≤ (task s i).part.ended → slice_get table.tasks i ≡ Some rows → IsRow table i n (row_at rows n)

@@ -7,7 +7,7 @@ use Rattle.std.proofs.lemmas.Option.{slice_get-get_or}
 use Rattle.dbp_plan.specs.declared.diagram.Read.{Read}
 use Rattle.dbp_plan.specs.Lookups.{declared_task, no_read}
 use Rattle.dbp_plan.proofs.Counts.{count-cons}
-use Rattle.dbp_rules.specs.Places.{read_at, wired_task}
+use Rattle.dbp_rules.specs.Lookups.{read_at, wired_task}
 use Rattle.dbp_rules.specs.Wired.{is_sooner, turn_of}
 use Rattle.dbp_rules.specs.declared.wiring.ReadWiring.{ReadWiring}
 use Rattle.dbp_rules.specs.declared.wiring.TaskWiring.{TaskWiring}

@@ -6,7 +6,7 @@ use Rattle.dbp_plan.specs.declared.table.TaskRows.{TaskRows}
 use Rattle.dbp_plan.specs.Lookups.{declared_task}
 use Rattle.dbp_plan.specs.Table.{HasRowsOf, table_row}
 use Rattle.sync_meaning.specs.SomeMeaning.{meaning_of}
-use Rattle.dbp_rules.specs.Places.{task}
+use Rattle.dbp_rules.specs.Lookups.{task}
 use Rattle.dbp_rules.specs.declared.state.State.{State}
 
 -- the table has the rows of the first values and of the ended instances, as the meaning gives them, and nothing else

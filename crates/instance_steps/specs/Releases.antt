@@ -4,7 +4,7 @@ use Rattle.dbp_plan.specs.declared.plan.Plan.{Plan}
 use Rattle.dbp_plan.specs.declared.schedule.Batch.{Batch}
 use Rattle.dbp_plan.specs.Occurrences.{names, times_of}
 use Rattle.release_list.specs.Releases.{batch_start}
-use Rattle.dbp_rules.specs.Places.{task, task_entry}
+use Rattle.dbp_rules.specs.Lookups.{task, task_entry}
 use Rattle.dbp_rules.specs.declared.state.State.{State}
 use Rattle.instance_steps.specs.Events.{Event}
 use Rattle.instance_steps.specs.Recorders.{AddsSteps, plan_in, state_in}

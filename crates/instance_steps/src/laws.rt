@@ -6,7 +6,7 @@ ghost use Rattle.dbp_plan.specs.declared.plan.Plan.{Plan};
 ghost use Rattle.dbp_plan.specs.declared.table.Table.{Table};
 ghost use Rattle.sync_meaning.specs.SomeMeaning.{meaning_of};
 ghost use Rattle.dbp_rules.specs.Lawful.{Leads};
-ghost use Rattle.dbp_rules.specs.Places.{task as state_of};
+ghost use Rattle.dbp_rules.specs.Lookups.{task as state_of};
 ghost use Rattle.dbp_rules.specs.declared.state.State.{State};
 ghost use Rattle.dbp_rules.specs.declared.step.Step.{Step};
 ghost use Rattle.dbp_rules.specs.declared.wiring.Wiring.{Wiring};

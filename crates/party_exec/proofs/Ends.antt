@@ -1,7 +1,7 @@
 -- How the tasks stand after a run.
 use Rattle.std.proofs.Common.{◌≡◌, ℕ, suc, ◌+◌, ◌<◌, List, length, get_or, slice_get, Some, ◌∙◌, ap, subst, arith}
 use Rattle.dbp_plan.specs.Occurrences.{times_of}
-use Rattle.dbp_plan.specs.Places.{all_place, read_place}
+use Rattle.dbp_plan.specs.ListItems.{all_place, read_place}
 use Rattle.word_rule.specs.Seats.{TaskSits}
 use Rattle.word_rule.specs.declared.seats.SlotWords.{SlotWords}
 use Rattle.party_exec.specs.Entries.{task_end}

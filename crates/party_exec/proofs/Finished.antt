@@ -5,13 +5,13 @@ use Rattle.dbp_plan.specs.declared.plan.Plan.{Plan}
 use Rattle.dbp_plan.specs.declared.table.Table.{Table}
 use Rattle.dbp_plan.specs.declared.table.TaskRows.{TaskRows}
 use Rattle.dbp_plan.specs.declared.diagram.Task.{Task as Declared}
-use Rattle.dbp_plan.specs.Lookups.{declared_task, no_declared}
+use Rattle.dbp_plan.specs.Lookups.{declared_task, no_declared_task}
 use Rattle.dbp_plan.specs.Occurrences.{times_of}
-use Rattle.dbp_plan.specs.Places.{at_place, read_place}
+use Rattle.dbp_plan.specs.ListItems.{at_place, read_place}
 use Rattle.dbp_plan.specs.Table.{HasAllRows, HasRowsOf}
 use Rattle.sync_meaning.specs.SomeMeaning.{meaning_of, meaning_of-is}
 use Rattle.sync_meaning.specs.SomeMeaningTables.{table_row-at, same_table}
-use Rattle.dbp_rules.specs.Places.{wired_task}
+use Rattle.dbp_rules.specs.Lookups.{wired_task}
 use Rattle.word_rule.specs.Roles.{run_wiring}
 use Rattle.word_rule.specs.Seats.{TaskSits}
 use Rattle.word_rule.specs.declared.seats.SlotWords.{SlotWords}
@@ -82,7 +82,7 @@ module _ (w : SlotWords) (tasks : List TaskRows) (size : length tasks ≡ length
   has = record {
     size = size;
     each = λ i t rows at_task at_rows.
-        let same : declared_task p i ≡ t = get_or_from_slice_get p.diagram.tasks i t no_declared at_task in
+        let same : declared_task p i ≡ t = get_or_from_slice_get p.diagram.tasks i t no_declared_task at_task in
         subst (λ (d : Declared). HasRowsOf (length d.outs) (length (times_of p.batches i)) rows) same (each i rows at_rows).room;
   }
 

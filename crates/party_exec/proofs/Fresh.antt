@@ -10,7 +10,7 @@ use Rattle.dbp_plan.specs.Lookups.{declared_task}
 use Rattle.dbp_plan.specs.Occurrences.{times_of}
 use Rattle.dbp_plan.specs.Ranges.{range_after, range_front}
 use Rattle.dbp_plan.specs.Table.{row_at}
-use Rattle.dbp_rules.specs.Places.{no_task, no_task_wiring, task, wired_task}
+use Rattle.dbp_rules.specs.Lookups.{no_task, no_task_wiring, task, wired_task}
 use Rattle.dbp_rules.specs.Sound.{Sound}
 use Rattle.dbp_rules.specs.Start.{first_row, start_of, start_task}
 use Rattle.dbp_rules.specs.Work.{WorkWords}

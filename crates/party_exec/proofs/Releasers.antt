@@ -2,7 +2,7 @@
 use Rattle.std.proofs.Common.{◌≡◌, ◌≢◌, ◌↔◌, ℕ, ◌<◌, Bool, true, false, length, nat_lt, Some, None, refl, sym, ◌∙◌, ap, subst, arith}
 use Rattle.dbp_plan.specs.declared.plan.Plan.{Plan}
 use Rattle.dbp_rules.specs.PartyRules.{releaser_refusal}
-use Rattle.dbp_rules.specs.Places.{entry_in}
+use Rattle.dbp_rules.specs.Lookups.{entry_in}
 use Rattle.dbp_rules.specs.Rules.{IsNamed}
 use Rattle.dbp_rules.specs.Wired.{wiring_of}
 use Rattle.dbp_rules.specs.declared.parts.ReleaserPart.{ReleaserPart}

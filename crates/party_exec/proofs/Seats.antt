@@ -5,7 +5,7 @@ use Rattle.std.proofs.lemmas.Bool.{eq-eqb}
 use Rattle.dbp_plan.specs.declared.plan.Plan.{Plan}
 use Rattle.dbp_plan.specs.declared.table.TaskRows.{TaskRows}
 use Rattle.dbp_rules.specs.PartyRules.{Loaded, task_after, task_refusal}
-use Rattle.dbp_rules.specs.Places.{read_at, wired_task}
+use Rattle.dbp_rules.specs.Lookups.{read_at, wired_task}
 use Rattle.dbp_rules.specs.Shapes.{PlaceIn, running_count}
 use Rattle.dbp_rules.specs.Work.{WorkWords}
 use Rattle.dbp_rules.specs.declared.parts.Place.{Place}

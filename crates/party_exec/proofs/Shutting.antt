@@ -11,7 +11,7 @@ use Rattle.dbp_plan.specs.Occurrences.{times_of}
 use Rattle.dbp_plan.specs.Samples.{input_value}
 use Rattle.dbp_rules.specs.Moves as move
 use Rattle.dbp_rules.specs.PartyRules.{no_word}
-use Rattle.dbp_rules.specs.Places.{time, wired_task}
+use Rattle.dbp_rules.specs.Lookups.{time, wired_task}
 use Rattle.dbp_rules.specs.Shapes.{HasSamples, IsWired, running_count}
 use Rattle.dbp_rules.specs.Work.{WorkWords}
 use Rattle.dbp_rules.specs.declared.parts.Place.TheVariants as place

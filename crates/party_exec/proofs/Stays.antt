@@ -7,7 +7,7 @@ use Rattle.dbp_plan.specs.Lookups.{declared_task}
 use Rattle.sync_meaning.specs.SomeMeaningRows.{states_at}
 use Rattle.dbp_rules.specs.Moves as move
 use Rattle.dbp_rules.specs.PartyRules.{Loaded, hears_at, is_opened_by, is_stamp_of, loaded_number, read_order_in, task_after, turn_at}
-use Rattle.dbp_rules.specs.Places.{wired_task}
+use Rattle.dbp_rules.specs.Lookups.{wired_task}
 use Rattle.dbp_rules.specs.SoundParts.{meant_word, read_of, shut_by, taken_by}
 use Rattle.dbp_rules.specs.Work.{WorkWords}
 use Rattle.dbp_rules.specs.declared.parts.Place.TheVariants as place

@@ -9,7 +9,7 @@ use Rattle.dbp_plan.specs.Occurrences.{times_of}
 use Rattle.sync_meaning.specs.SomeMeaning.{meaning_of}
 use Rattle.dbp_rules.specs.Moves as move
 use Rattle.dbp_rules.specs.PartyRules.{a_number, a_value, an_order, no_word, task_after}
-use Rattle.dbp_rules.specs.Places.{read_at, wired_task}
+use Rattle.dbp_rules.specs.Lookups.{read_at, wired_task}
 use Rattle.dbp_rules.specs.Promises.{IsMeant}
 use Rattle.dbp_rules.specs.Shapes.{PlaceIn, running_count}
 use Rattle.dbp_rules.specs.SoundParts.{shut_by}

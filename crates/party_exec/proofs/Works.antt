@@ -9,7 +9,7 @@ use Rattle.dbp_plan.specs.declared.diagram.Read.{Read}
 use Rattle.dbp_plan.specs.declared.diagram.Task.{Task}
 use Rattle.dbp_plan.specs.declared.plan.Plan.{Plan}
 use Rattle.dbp_plan.specs.declared.table.TaskRows.{TaskRows}
-use Rattle.dbp_plan.specs.Lookups.{declared_task, no_declared, no_read}
+use Rattle.dbp_plan.specs.Lookups.{declared_task, no_declared_task, no_read}
 use Rattle.dbp_plan.specs.Occurrences.{count_until, time_of, times_of}
 use Rattle.dbp_plan.specs.Samples.{input_value}
 use Rattle.dbp_plan.specs.Table.{row_at}
@@ -21,7 +21,7 @@ use Rattle.sync_meaning.specs.SomeMeaningStreams.{length-states_at}
 use Rattle.sync_meaning.specs.SomeMeaningTables.{row_in}
 use Rattle.dbp_rules.specs.Moves as move
 use Rattle.dbp_rules.specs.PartyRules.{Loaded, task_after, turn_at}
-use Rattle.dbp_rules.specs.Places.{read_at, time, wired_task}
+use Rattle.dbp_rules.specs.Lookups.{read_at, time, wired_task}
 use Rattle.dbp_rules.specs.Promises.{IsMeant}
 use Rattle.dbp_rules.specs.SoundParts.{meant_word, place_of_read, read_of, shut_by, taken_by}
 use Rattle.dbp_rules.specs.Shapes.{IsTaskWired}
@@ -51,7 +51,7 @@ row_width p i (suc n) = length-map (declared_task p i).outs _
 -- a row has as many words as its task has outs
 pub meant_width : (p : Plan) (i n : ℕ) → i < length p.diagram.tasks → n ≤ length (times_of p.batches i) → length (meaning_row p i n) ≡ length (declared_task p i).outs
 meant_width p i n named less =
-    ap length ((row_solves p).each i n (declared_task p i) (slice_get-get_or p.diagram.tasks i no_declared named) less) ∙ row_width p i n
+    ap length ((row_solves p).each i n (declared_task p i) (slice_get-get_or p.diagram.tasks i no_declared_task named) less) ∙ row_width p i n
 
 -- the word that the meaning gives a read
 meant_is : (p : Plan) (i m r : ℕ) (word : ℤ) → IsMeant p (meaning_of p) i m r word → meant_word p (meaning_row p) i m (get_or (declared_task p i).reads r no_read) ≡ word
@@ -128,7 +128,7 @@ module _ (p : Plan) (i : ℕ) (below : i < length (run_wiring p).tasks) (t : Tas
       → HasComputed p i (task_after w t (Shut i) l) new made
   after_shut new made l at few worked ports words =
       let done : HasWorked p (run_wiring p) (meaning_row p) i t.ended new = subst (λ (x : WorkWords). HasWorked p (run_wiring p) (meaning_row p) i t.ended x) (sym worked) (worked_is p (run_wiring p) (meaning_row p) own (row_solves p) i t.ended work below few (its_words at)) in
-      let there : slice_get p.diagram.tasks i ≡ Some d = slice_get-get_or p.diagram.tasks i no_declared named in
+      let there : slice_get p.diagram.tasks i ≡ Some d = slice_get-get_or p.diagram.tasks i no_declared_task named in
       let width : length new.row ≡ rows.ports = ap length done.row ∙ meant_width p i (t.ended + 1) named (omega arith) ∙ sym has.rows.room.ports in
       let room : (t.ended + 1 + 1) * rows.ports ≤ length rows.words = row_room (t.ended + 1) (omega arith) in
       let not_shut : shut_by t.place ≡ 0 = ap shut_by at in

@@ -2,7 +2,7 @@
 use Rattle.std.specs.Prelude.{◌≡◌, ℕ, zero, suc, ◌+◌, List, length, All, slice_get, Some}
 use Rattle.dbp_plan.specs.Lookups.{declared_task}
 use Rattle.dbp_plan.specs.Occurrences.{times_of}
-use Rattle.dbp_rules.specs.Places.{no_task_wiring}
+use Rattle.dbp_rules.specs.Lookups.{no_task_wiring}
 use Rattle.dbp_rules.specs.Start as start
 use Rattle.word_rule.specs.FirstSeats.{IsFirstReleaser, IsFirstTask}
 use Rattle.word_rule.specs.Seats.{ReleaserSits, TaskSits, releaser_steps, task_steps}

@@ -2,7 +2,7 @@
 use Rattle.std.specs.Prelude.{◌≡◌, ◌≢◌, ℕ, ◌<◌, nat_lt, Bool, true, false, length, slice_index_or, None}
 use Rattle.dbp_plan.specs.Lookups.{declared_task, no_read}
 use Rattle.dbp_rules.specs.PartyRules.{Loaded, is_opened_by, is_stamp_of, loaded_number, read_order_in, task_after, task_refusal, turn_at}
-use Rattle.dbp_rules.specs.Places.{entry_in, link, wired_task}
+use Rattle.dbp_rules.specs.Lookups.{entry_in, link, wired_task}
 use Rattle.dbp_rules.specs.declared.parts.ReleaserPart.{ReleaserPart}
 use Rattle.dbp_rules.specs.declared.parts.TaskPart.{TaskPart}
 use Rattle.dbp_rules.specs.declared.step.Step.{Step}

@@ -2,7 +2,7 @@
 
 ghost use Rattle.std.specs.Prelude.{◌≡◌, ◌+◌, ◌<◌, length};
 ghost use Rattle.dbp_plan.specs.Lookups.{declared_task};
-ghost use Rattle.dbp_rules.specs.Places.{read_at, time, wired_task};
+ghost use Rattle.dbp_rules.specs.Lookups.{read_at, time, wired_task};
 ghost use Rattle.word_rule.specs.Seats.{TaskSits};
 
 use dbp_plan::Task;

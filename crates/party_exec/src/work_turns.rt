@@ -2,7 +2,7 @@
 
 ghost use Rattle.std.specs.Prelude.{◌≡◌, ◌≢◌, ◌+◌, ◌<◌, length};
 ghost use Rattle.dbp_rules.specs.Moves.{at_place};
-ghost use Rattle.dbp_rules.specs.Places.{wired_task};
+ghost use Rattle.dbp_rules.specs.Lookups.{wired_task};
 ghost use Rattle.dbp_rules.specs.declared.parts.Place.TheVariants as place;
 ghost use Rattle.word_rule.specs.Seats.{TaskSits};
 ghost use Rattle.party_exec.specs.Computed.{HasComputed, plan_of_task};

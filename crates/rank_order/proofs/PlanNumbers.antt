@@ -6,7 +6,7 @@ use Rattle.dbp_plan.specs.declared.diagram.Diagram.{Diagram}
 use Rattle.dbp_plan.specs.declared.diagram.Policy.{Policy}
 use Rattle.dbp_plan.specs.declared.diagram.Policy.TheVariants.{Fp, Edf}
 use Rattle.dbp_plan.specs.declared.plan.Plan.{Plan}
-use Rattle.dbp_plan.specs.Lookups.{no_declared}
+use Rattle.dbp_plan.specs.Lookups.{no_declared_task}
 use Rattle.dbp_plan.specs.Occurrences.{times_of, time_of}
 use Rattle.dbp_plan.specs.Ranked.{IsRanked}
 use Rattle.dbp_plan.specs.Times.{times-rise}
@@ -27,7 +27,7 @@ same_key : (policy : Policy) (d : Diagram) (i j a b : ℕ) → (slice_index d.ra
 same_key Fp d i j a b one first second = (one first, second)
 same_key Edf d i j a b one first second =
     let task : i ≡ j = one second in
-    let deadline : unwrap_or (slice_index_or d.tasks i no_declared).deadline 0 ≡ unwrap_or (slice_index_or d.tasks j no_declared).deadline 0 = ap (λ k. unwrap_or (slice_index_or d.tasks k no_declared).deadline 0) task in
+    let deadline : unwrap_or (slice_index_or d.tasks i no_declared_task).deadline 0 ≡ unwrap_or (slice_index_or d.tasks j no_declared_task).deadline 0 = ap (λ k. unwrap_or (slice_index_or d.tasks k no_declared_task).deadline 0) task in
     (task, omega (arith, first, deadline))
 
 -- instances of one key are of one task and released at one time

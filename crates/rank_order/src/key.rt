@@ -1,6 +1,6 @@
 // What the policy compares.
 ghost use Rattle.std.specs.Prelude.{◌≡◌, ◌<◌, ◌≤◌, length, slice_index_or, unwrap_or};
-ghost use Rattle.dbp_plan.specs.Lookups.{no_declared};
+ghost use Rattle.dbp_plan.specs.Lookups.{no_declared_task};
 ghost use Rattle.dbp_plan.specs.Ranked.{IsRanked};
 ghost use Rattle.dbp_plan.specs.declared.limits.TheConstants.{MAX_TIME};
 ghost use Rattle.rank_order.specs.Order.{is_before, key_of};
@@ -38,7 +38,7 @@ pub(crate) fn key_of(diagram: &Diagram, task: u32, release: u64) -> Key
 fn relative_deadline(diagram: &Diagram, task: u32) -> u64
     requires ranked { IsRanked diagram.now }
     requires task { task < length diagram.now.tasks }
-    ensures is { result ≡ unwrap_or (slice_index_or diagram.now.tasks task no_declared).deadline 0 }
+    ensures is { result ≡ unwrap_or (slice_index_or diagram.now.tasks task no_declared_task).deadline 0 }
     ensures small { result ≤ MAX_TIME }
 {
     diagram.tasks.items()[task as usize].deadline.unwrap_or(0)

@@ -4,7 +4,7 @@ use Rattle.dbp_plan.specs.declared.plan.Plan.{Plan}
 use Rattle.dbp_plan.specs.declared.diagram.Link.{Link}
 use Rattle.dbp_rules.specs.PartyRules.{a_number, releaser_after, releaser_refusal}
 use Rattle.dbp_rules.specs.PartyShapes.{ReleaserLoads, ReleaserShape}
-use Rattle.dbp_rules.specs.Places.{entry_in, link, wired_task}
+use Rattle.dbp_rules.specs.Lookups.{entry_in, link, wired_task}
 use Rattle.dbp_rules.specs.Rules.{IsNamed, IsNamedWithin}
 use Rattle.dbp_rules.specs.Shapes.{IsTaskWired, IsWired}
 use Rattle.dbp_rules.specs.Start.{start_releaser}

@@ -8,7 +8,7 @@ use Rattle.release_list.specs.declared.release.Release.{Release}
 use Rattle.release_list.specs.declared.release.Release.TheVariants as release
 use Rattle.dbp_rules.specs.PartyRules.{releaser_refusal}
 use Rattle.dbp_rules.specs.PartyShapes.{IsNamedIn, ReleaserShape}
-use Rattle.dbp_rules.specs.Places.{entry_in}
+use Rattle.dbp_rules.specs.Lookups.{entry_in}
 use Rattle.dbp_rules.specs.Promises.{IsLeastAimIn}
 use Rattle.dbp_rules.specs.Shapes.{IsWired}
 use Rattle.dbp_rules.specs.Wired.{wiring_of}

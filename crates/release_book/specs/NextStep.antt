@@ -6,7 +6,7 @@ use Rattle.release_list.specs.declared.release.Release.{Release}
 use Rattle.release_list.specs.declared.release.Release.TheVariants as release
 use Rattle.dbp_rules.specs.PartyRules.{a_number, least, releaser_after}
 use Rattle.dbp_rules.specs.PartyShapes.{ReleaserLoads}
-use Rattle.dbp_rules.specs.Places.{entry_in, wired_task}
+use Rattle.dbp_rules.specs.Lookups.{entry_in, wired_task}
 use Rattle.dbp_rules.specs.Promises.{IsLeastAimIn}
 use Rattle.dbp_rules.specs.declared.parts.ReleaserPart.{ReleaserPart}
 use Rattle.dbp_rules.specs.declared.step.Step.{Step}

@@ -11,7 +11,7 @@ use Rattle.dbp_plan.specs.declared.diagram.Link.{Link}
 use Rattle.dbp_plan.specs.declared.schedule.Batch.{Batch}
 use Rattle.dbp_plan.specs.Lookups.{link_at}
 use Rattle.dbp_plan.specs.Occurrences.{times_of}
-use Rattle.dbp_plan.specs.Places.{after_place, front_place}
+use Rattle.dbp_plan.specs.ListItems.{after_place, front_place}
 use Rattle.release_list.specs.declared.release.Release.{Release}
 use Rattle.release_list.specs.declared.release.Release.TheVariants.{Aim, OpenGate}
 use Rattle.release_list.specs.Releases.{batch_start, claims_of, releases_at, releases_of}

@@ -10,7 +10,7 @@ use Rattle.dbp_plan.specs.declared.diagram.Diagram.{Diagram}
 use Rattle.dbp_plan.specs.declared.schedule.Batch.{Batch}
 use Rattle.dbp_plan.specs.declared.schedule.Sample.{Sample}
 use Rattle.dbp_plan.specs.Occurrences.{count_until, names, times_of, time_of}
-use Rattle.dbp_plan.specs.Places.{all_place, at_place}
+use Rattle.dbp_plan.specs.ListItems.{all_place, at_place}
 use Rattle.dbp_plan.specs.Plan.{IsPlan}
 use Rattle.dbp_plan.specs.Times.{times-rise}
 use Rattle.dbp_plan.specs.Lookups.{link_at}

@@ -1,7 +1,7 @@
 // Scripts that are read, printed and replayed.
 
 ghost use Rattle.std.specs.Prelude.{All, IfOk};
-ghost use Rattle.dbp_replay.specs.Places.{IsThere};
+ghost use Rattle.dbp_replay.specs.NamedItems.{IsThere};
 ghost use Rattle.dia_read.specs.Printable.{HasItemLines, IsPrintable};
 
 use dbp_core::{Broken, Count, Illegal, Step};

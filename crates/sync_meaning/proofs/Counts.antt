@@ -12,7 +12,7 @@ use Rattle.std.proofs.lemmas.Option.{slice_get-get_or, slice_get_within, get_or_
 use Rattle.dbp_plan.specs.declared.limits.TheConstants.{MAX_OCCURRENCES}
 use Rattle.dbp_plan.specs.declared.schedule.Batch.{Batch}
 use Rattle.dbp_plan.specs.Occurrences.{names, times_of, occurrence_count}
-use Rattle.dbp_plan.specs.Places.{at_place, set_here, set_other}
+use Rattle.dbp_plan.specs.ListItems.{at_place, set_here, set_other}
 use Rattle.dbp_plan.proofs.BatchTasks.{not_before, often, some_item}
 use Rattle.dbp_plan.proofs.TaskTimes.{times_few, times_more}
 use Rattle.sync_meaning.specs.Shape.{AreCounted, IsMarked}

@@ -4,7 +4,7 @@ use Rattle.std.proofs.lemmas.Bool.{cases_eq}
 use Rattle.std.proofs.lemmas.List.{length-set}
 use Rattle.std.proofs.lemmas.Option.{slice_get_within, same_Some}
 use Rattle.sync_meaning.specs.Shape.{AreWritten}
-use Rattle.dbp_plan.specs.Places.{set_here, set_other}
+use Rattle.dbp_plan.specs.ListItems.{set_here, set_other}
 
 -- the words of the first items are written
 pub record WrittenUpTo {X : Type 0} (n base : ℕ) (items : List X) (fits : X → ℤ → Type 0) (before after : List ℤ) : Type 0 where

@@ -11,7 +11,7 @@ use Rattle.std.proofs.lemmas.Option.{get_or_from_slice_get, slice_get-map, slice
 use Rattle.dbp_plan.specs.declared.diagram.Input.{Input}
 use Rattle.dbp_plan.specs.declared.schedule.Sample.{Sample}
 use Rattle.dbp_plan.specs.Samples.{first_value, is_before, is_given, last_value}
-use Rattle.dbp_plan.specs.Places.{at_place}
+use Rattle.dbp_plan.specs.ListItems.{at_place}
 use Rattle.sync_meaning.specs.Taken.{AreTaken, AreValuesAt, HasLastValues}
 use Rattle.dbp_plan.proofs.ListParts.{take_push}
 use Rattle.sync_meaning.proofs.Sets.{set_cases}

@@ -21,7 +21,7 @@ use Rattle.dbp_plan.specs.Samples.{input_value}
 use Rattle.dbp_plan.specs.Table.{IsRow}
 use Rattle.dbp_plan.proofs.Numbers.{number-is, rise}
 use Rattle.dbp_plan.proofs.OccurrenceLemmas.{time_here}
-use Rattle.dbp_plan.specs.Places.{at_place, same_places, all_place, take_inside}
+use Rattle.dbp_plan.specs.ListItems.{at_place, same_places, all_place, take_inside}
 use Rattle.expr_eval.specs.Values.{value_of}
 use Rattle.sync_meaning.specs.declared.env.Env.{Env}
 use Rattle.sync_meaning.specs.declared.run.Run.{Run}

@@ -16,7 +16,7 @@ use Rattle.dbp_plan.specs.Occurrences.{count_until, times_of}
 use Rattle.dbp_plan.specs.Table.{HasRowsOf, IsRow, row_at}
 use Rattle.sync_meaning.specs.Meaning.{AreStatesAfter, IsEnv, IsRead, IsStream, outs_in}
 use Rattle.sync_meaning.specs.Streams.{HasRowsOfTable, IsStreamTo}
-use Rattle.dbp_plan.specs.Places.{set_here, set_other}
+use Rattle.dbp_plan.specs.ListItems.{set_here, set_other}
 use Rattle.dbp_plan.specs.Ranges.{range_after, range_front}
 
 -- a row by the words and the number of ports

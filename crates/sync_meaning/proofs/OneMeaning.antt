@@ -15,7 +15,7 @@ use Rattle.dbp_plan.specs.Occurrences.{count_until, times_of}
 use Rattle.dbp_plan.specs.Plan.{IsPlan}
 use Rattle.dbp_plan.specs.Table.{IsRow, table_row}
 use Rattle.sync_meaning.specs.Meaning.{AreStatesAfter, IsEnv, IsMeaning, IsRead, IsStream, outs_in}
-use Rattle.dbp_plan.specs.Places.{at_place}
+use Rattle.dbp_plan.specs.ListItems.{at_place}
 use Rattle.sync_meaning.specs.SomeMeaningStreams.{env_at-is, length-states_at, read_given, sense_given, state_given}
 use Rattle.sync_meaning.specs.SomeMeaningEnvs.{IsEnvFrom, one_env, one_states_after, states_after, states_after-are}
 use Rattle.sync_meaning.specs.SomeMeaningRows.{AgreeBelow, Solves, env_at, given_at, one_solution, row_of, states_at, states_at-more, states_at-none, task_rules, turn, word_at}

@@ -20,7 +20,7 @@ use Rattle.sync_meaning.specs.Run.{IsRun}
 use Rattle.sync_meaning.specs.FirstRows.{first_rows}
 use Rattle.sync_meaning.specs.Shape.{HasEnvs, IsEnvOf, IsMarked, IsReadable}
 use Rattle.dbp_plan.proofs.RankLaws.{ranking, length-ranks}
-use Rattle.dbp_plan.specs.Places.{all_place}
+use Rattle.dbp_plan.specs.ListItems.{all_place}
 use Rattle.sync_meaning.proofs.Tables.{envs_step, readable, row_fits, rows_none, rows_step}
 use Rattle.sync_meaning.proofs.Sets.{item_at, refill_all}
 use Rattle.sync_meaning.proofs.Steps.{done_marked, done_none, done_skip, done_step}

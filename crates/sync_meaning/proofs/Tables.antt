@@ -18,7 +18,7 @@ use Rattle.dbp_plan.specs.Closed.{IsClosed, IsClosedTask, place_count}
 use Rattle.dbp_plan.specs.Occurrences.{times_of}
 use Rattle.dbp_plan.specs.Ranked.{IsRanked}
 use Rattle.dbp_plan.specs.Table.{HasRowsOf, HasAllRows, IsRow, row_at}
-use Rattle.dbp_plan.specs.Places.{at_place, front_place, last_place, all_place}
+use Rattle.dbp_plan.specs.ListItems.{at_place, front_place, last_place, all_place}
 use Rattle.sync_meaning.specs.declared.env.Env.{Env}
 use Rattle.dbp_plan.specs.Ranking.{IsRanking}
 use Rattle.sync_meaning.specs.Run.{HasRowsUpTo, IsDoneAbove}

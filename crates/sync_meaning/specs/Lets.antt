@@ -17,7 +17,7 @@ use Rattle.dbp_plan.specs.Tree.{Tree, number, variable, unary, binary, choice, s
 use Rattle.expr_eval.specs.Values.{value_of, tree_value, value_of_unary, value_of_binary, value_of_choice}
 use Rattle.sync_meaning.specs.Meaning.{HasLets}
 use Rattle.dbp_plan.specs.Ranking.{IsRanking}
-use Rattle.dbp_plan.specs.Places.{all_place, after_place, front_place, pair_at, set_here, set_other}
+use Rattle.dbp_plan.specs.ListItems.{all_place, after_place, front_place, pair_at, set_here, set_other}
 use Rattle.dbp_plan.specs.Rankings.{task_of}
 
 -- both environments have the same words at the variables of the nodes

@@ -9,7 +9,7 @@ use Rattle.dbp_plan.specs.declared.diagram.Task.{Task}
 use Rattle.dbp_plan.specs.Closed.{place_count}
 use Rattle.expr_eval.specs.Values.{value_of}
 use Rattle.sync_meaning.specs.Meaning.{AreStatesAfter}
-use Rattle.dbp_plan.specs.Places.{pair_at, set_here, set_other}
+use Rattle.dbp_plan.specs.ListItems.{pair_at, set_here, set_other}
 
 -- the states with the first `next`s
 pub record NextsUpTo (m : ℕ) (nexts : List Next) (env before after : List ℤ) : Type 0 where

@@ -16,7 +16,7 @@ use Rattle.expr_eval.specs.Values.{value_of}
 use Rattle.sync_meaning.specs.Lets.{AgreeOn, LetsUpTo, lets_all, lets_more, lets_none, order_ranking, same_value}
 use Rattle.sync_meaning.specs.Meaning.{AreStatesAfter, HasLets}
 use Rattle.sync_meaning.specs.Nexts.{NextsUpTo, nexts_all, nexts_more, nexts_none}
-use Rattle.dbp_plan.specs.Places.{all_place, front_place, at_place, same_item, same_list}
+use Rattle.dbp_plan.specs.ListItems.{all_place, front_place, at_place, same_item, same_list}
 use Rattle.dbp_plan.specs.Rankings.{task_of}
 
 -- the environment begins with the words that are given, and after them stand the lets

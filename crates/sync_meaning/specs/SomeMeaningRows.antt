@@ -18,7 +18,7 @@ use Rattle.dbp_plan.specs.Plan.{IsPlan}
 use Rattle.dbp_plan.specs.Samples.{input_value}
 use Rattle.sync_meaning.specs.Meaning.{outs_in}
 use Rattle.dbp_plan.specs.Times.{Rises, has_come, times-rise, times_all}
-use Rattle.dbp_plan.specs.Places.{all_place, at_place}
+use Rattle.dbp_plan.specs.ListItems.{all_place, at_place}
 use Rattle.sync_meaning.specs.SomeMeaningEnvs.{env_from, states_after}
 
 -- functions that agree on the items of a list

@@ -17,7 +17,7 @@ use Rattle.dbp_plan.specs.Plan.{IsPlan}
 use Rattle.dbp_plan.specs.Samples.{input_value}
 use Rattle.dbp_plan.specs.Table.{IsRow}
 use Rattle.sync_meaning.specs.Meaning.{AreStatesAfter, IsEnv, IsMeaning, IsRead, IsStream, outs_in}
-use Rattle.dbp_plan.specs.Places.{after_place, front_place}
+use Rattle.dbp_plan.specs.ListItems.{after_place, front_place}
 use Rattle.sync_meaning.specs.SomeMeaningEnvs.{IsEnvFrom, env_from-is, states_after, states_after-are}
 use Rattle.sync_meaning.specs.SomeMeaningRows.{IsLinkOf, Solves, env_at, given_at, link_of, row_of, solution, solution-solves, states_at, states_at-more, states_at-none, task_rules, word_at}
 use Rattle.sync_meaning.specs.SomeMeaningTables.{AreWide, table_of, table_of-all, table_of-row}

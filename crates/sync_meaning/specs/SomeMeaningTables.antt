@@ -13,7 +13,7 @@ use Rattle.dbp_plan.specs.declared.table.Table.{Table}
 use Rattle.dbp_plan.specs.declared.table.TaskRows.{TaskRows}
 use Rattle.dbp_plan.specs.Occurrences.{times_of}
 use Rattle.dbp_plan.specs.Table.{HasAllRows, HasRowsOf, IsRow, row_at, table_row}
-use Rattle.dbp_plan.specs.Places.{at_place, same_list}
+use Rattle.dbp_plan.specs.ListItems.{at_place, same_list}
 use Rattle.dbp_plan.specs.Ranges.{range_after, range_front}
 
 -- the words of the rows up to this number

@@ -17,7 +17,7 @@ use Rattle.dbp_plan.specs.declared.diagram.Clock.{Clock}
 use Rattle.dbp_plan.specs.declared.diagram.Clock.TheVariants.{Every, On}
 use Rattle.dbp_plan.specs.declared.limits.TheConstants.{MAX_OCCURRENCES}
 use Rattle.dbp_plan.specs.Clocks.{time_at}
-use Rattle.dbp_plan.specs.Places.{front_place, last_place}
+use Rattle.dbp_plan.specs.ListItems.{front_place, last_place}
 use Rattle.dbp_plan.proofs.BatchTasks.{some_item}
 use Rattle.dbp_plan.proofs.TaskTimes.{times-named, times-other}
 use Rattle.trace_io.specs.Batches.{AreBatches, HasNumbersInRange, IsClockOf, IsTimetable, count_of}

@@ -15,7 +15,7 @@ use Rattle.rank_order.proofs.OneService.{serves_waiting}
 use Rattle.rank_order.proofs.SomeService.{service_is}
 use Rattle.sync_meaning.specs.SomeMeaning.{meaning_of}
 use Rattle.release_list.specs.Releases.{batch_start}
-use Rattle.dbp_rules.specs.Places.{no_task, no_task_entry, task, task_entry, wired_task}
+use Rattle.dbp_rules.specs.Lookups.{no_task, no_task_entry, task, task_entry, wired_task}
 use Rattle.dbp_rules.specs.Start.{start_entry, start_of, start_task}
 use Rattle.dbp_rules.specs.Wired.{wiring_of}
 use Rattle.dbp_rules.specs.declared.parts.Place.TheVariants.{Idle}

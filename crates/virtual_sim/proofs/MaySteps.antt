@@ -7,7 +7,7 @@ use Rattle.std.proofs.lemmas.Option.{slice_get-get_or}
 use Rattle.dbp_plan.specs.declared.diagram.Policy.{Policy}
 use Rattle.dbp_plan.specs.declared.diagram.Policy.TheVariants.{Fp, Edf}
 use Rattle.dbp_plan.specs.declared.plan.Plan.{Plan}
-use Rattle.dbp_plan.specs.Lookups.{declared_task, no_declared}
+use Rattle.dbp_plan.specs.Lookups.{declared_task, no_declared_task}
 use Rattle.dbp_plan.specs.Occurrences.{times_of}
 use Rattle.dbp_plan.specs.Ranks.{is_above, ranks_of}
 use Rattle.dbp_plan.proofs.RankLaws.{above-lesser, kept-rank}
@@ -17,7 +17,7 @@ use Rattle.rank_order.specs.Queue.{IsServedFirst}
 use Rattle.rank_order.specs.Service.{GoesBefore}
 use Rattle.rank_order.specs.ServiceOf.{service}
 use Rattle.rank_order.proofs.SomeService.{service_is}
-use Rattle.dbp_rules.specs.Places.{task, task_entry}
+use Rattle.dbp_rules.specs.Lookups.{task, task_entry}
 use Rattle.dbp_rules.specs.Rules.{own_time}
 use Rattle.dbp_rules.specs.Wired.{wiring_of}
 use Rattle.dbp_rules.specs.declared.state.State.{State}
@@ -41,7 +41,7 @@ module _ (p : Plan) (i q : ℕ) (il : i < length p.diagram.tasks) (ql : q < leng
   above : is_above p.diagram.policy (i, declared_task p i) (q, declared_task p q) ≡ true → ⊥
   above is =
       let less = above-lesser p.diagram.policy p.diagram.tasks i q (declared_task p i) (declared_task p q) (get_or p.diagram.ranks i 0) (get_or p.diagram.ranks q 0)
-      (slice_get-get_or p.diagram.tasks i no_declared il) (slice_get-get_or p.diagram.tasks q no_declared ql) (kept-rank p.diagram i p.rules.ranked il) (kept-rank p.diagram q p.rules.ranked ql) is in
+      (slice_get-get_or p.diagram.tasks i no_declared_task il) (slice_get-get_or p.diagram.tasks q no_declared_task ql) (kept-rank p.diagram i p.rules.ranked il) (kept-rank p.diagram q p.rules.ranked ql) is in
       omega (arith, less, higher)
 
   -- under earliest deadlines the higher rank has no greater deadline

@@ -6,7 +6,7 @@ use Rattle.std.proofs.lemmas.List.Sums.{sum_by-cons}
 use Rattle.std.proofs.Math.ListN.{get_or-map}
 use Rattle.dbp_plan.specs.declared.plan.Plan.{Plan}
 use Rattle.dbp_plan.specs.declared.schedule.Batch.{Batch}
-use Rattle.dbp_plan.specs.Lookups.{declared_task, no_declared}
+use Rattle.dbp_plan.specs.Lookups.{declared_task, no_declared_task}
 use Rattle.dbp_plan.specs.Closed.{IsClosedTask}
 use Rattle.dbp_plan.specs.Occurrences.{occurrence_count}
 use Rattle.dbp_plan.specs.Lookups.{declared_task}
@@ -24,7 +24,7 @@ module _ (P : Plan) where
       time_at n b inside = get_or_default (map (λ (a : Batch). a.time) P.batches) n 0 b.time (omega (arith, length-map P.batches (λ (a : Batch). a.time))) ∙ get_or-map (λ (a : Batch). a.time) P.batches n b
 
   pub closed_task : (i : ℕ) → i < length P.diagram.tasks → IsClosedTask (length P.diagram.inputs) (length P.diagram.events) (length P.diagram.links) (declared_task P i)
-  closed_task i inside = P.rules.ranked.closed.each i no_declared inside
+  closed_task i inside = P.rules.ranked.closed.each i no_declared_task inside
 
   pub costs : (i : ℕ) → i < length P.diagram.tasks → 0 < (declared_task P i).cost
   costs i inside = let c = (closed_task i inside).cost.0 in omega (arith, c)

@@ -7,7 +7,7 @@ use Rattle.dbp_plan.specs.declared.plan.Plan.{Plan}
 use Rattle.dbp_plan.specs.declared.table.Table.{Table}
 use Rattle.dbp_plan.specs.Lookups.{declared_task}
 use Rattle.dbp_plan.specs.Occurrences.{names}
-use Rattle.dbp_rules.specs.Places.{entry_in, task}
+use Rattle.dbp_rules.specs.Lookups.{entry_in, task}
 use Rattle.dbp_rules.specs.Start.{start_of}
 use Rattle.dbp_rules.specs.Wired.{wiring_of}
 use Rattle.dbp_rules.specs.declared.parts.Place.{Place}

@@ -8,7 +8,7 @@ use Rattle.dbp_plan.specs.declared.diagram.Read.{Read}
 use Rattle.dbp_plan.specs.declared.diagram.Task.{Task}
 use Rattle.dbp_plan.specs.declared.plan.Plan.{Plan}
 use Rattle.dbp_plan.specs.declared.schedule.Batch.{Batch}
-use Rattle.dbp_plan.specs.Lookups.{declared_task, no_declared, no_read}
+use Rattle.dbp_plan.specs.Lookups.{declared_task, no_declared_task, no_read}
 use Rattle.dbp_plan.specs.Occurrences.{names, occurrence_count}
 use Rattle.dbp_plan.proofs.Counts.{count-cons}
 use Rattle.rank_order.specs.Instances.{Instance}
@@ -20,7 +20,7 @@ use Rattle.rank_order.proofs.OneService.{serves_waiting}
 use Rattle.rank_order.proofs.ServedTicks.{served_within}
 use Rattle.rank_order.proofs.SomeService.{service_is}
 use Rattle.dbp_rules.specs.Moves.{read_place}
-use Rattle.dbp_rules.specs.Places.{task, task_entry}
+use Rattle.dbp_rules.specs.Lookups.{task, task_entry}
 use Rattle.dbp_rules.specs.Start.{start_of}
 use Rattle.dbp_rules.specs.Wired.{wiring_of}
 use Rattle.dbp_rules.specs.Rules.{next}
@@ -109,7 +109,7 @@ all_read n = rw (le-ltb n n (omega arith)) refl
 -- ---- what the code reads
 
 pub body_is : (p : Plan) (items : List Task) (i : ℕ) (t : Task) → items ≡ p.diagram.tasks → i < length p.diagram.tasks → t ≡ get_or items i t → t ≡ declared_task p i
-body_is p items i t same there is = is ∙ ap (λ (l : List Task). get_or l i t) same ∙ get_or_default p.diagram.tasks i t no_declared there
+body_is p items i t same there is = is ∙ ap (λ (l : List Task). get_or l i t) same ∙ get_or_default p.diagram.tasks i t no_declared_task there
 
 -- what is left of the first instance, and for how many ticks it was served
 pub record IsOfFirst (p : Plan) (s : Simulation) (i cost rest : ℕ) : Type 0 where

@@ -13,7 +13,7 @@ use Rattle.dbp_plan.specs.Lookups.{declared_task}
 use Rattle.sync_meaning.proofs.OneMeaning.{meaning_solves}
 use Rattle.sync_meaning.specs.SomeMeaning.{meaning_of, meaning_of-is}
 use Rattle.dbp_rules.specs.PartyShapes.{ReleaserShape, TaskPartShape}
-use Rattle.dbp_rules.specs.Places.{no_task, task, wired_task}
+use Rattle.dbp_rules.specs.Lookups.{no_task, task, wired_task}
 use Rattle.dbp_rules.specs.Sound.{Sound}
 use Rattle.dbp_rules.specs.Start.{start_of, start_task}
 use Rattle.dbp_rules.specs.WordRanges.{FirstValuesFit}

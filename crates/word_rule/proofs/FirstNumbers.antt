@@ -13,7 +13,7 @@ use Rattle.dbp_slots.proofs.Spots.{one_word, word_inside}
 use Rattle.dbp_rules.specs.LoadedWords.{start_number}
 use Rattle.dbp_rules.specs.SharedWords.{signed_value}
 use Rattle.dbp_rules.specs.Wired.{wiring_of}
-use Rattle.dbp_rules.specs.Places.{wired_task}
+use Rattle.dbp_rules.specs.Lookups.{wired_task}
 use Rattle.dbp_rules.specs.declared.step.Count.TheVariants.{All}
 use Rattle.dbp_rules.proofs.TableSizes.{same_sizes, sizes_of_task, task_count}
 use Rattle.dbp_rules.proofs.WiringParts.{wired_tasks}

@@ -11,7 +11,7 @@ use Rattle.sync_meaning.specs.SomeMeaning.{meaning_of, meaning_of-is}
 use Rattle.dbp_slots.specs.TableWords.{IsWord, Sizes, TableWord, sizes_of}
 use Rattle.dbp_rules.specs.LoadedWords.{loaded_by, loaded_in, loaded_of, number_of_releaser, number_of_task, number_to_load, stored_number}
 use Rattle.dbp_rules.specs.PartyRules.{Loaded, is_stamp_of, no_word, read_order_in, releaser_after, releaser_refusal, task_after, task_refusal, turn_at}
-use Rattle.dbp_rules.specs.Places.{link, task, wired_task}
+use Rattle.dbp_rules.specs.Lookups.{link, task, wired_task}
 use Rattle.dbp_rules.specs.Promises.{IsMeant}
 use Rattle.dbp_rules.specs.Rules as rule
 use Rattle.dbp_rules.specs.SharedWords.{made_by, maker_part, stored_by, stored_in, value_in}

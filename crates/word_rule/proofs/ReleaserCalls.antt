@@ -13,7 +13,7 @@ use Rattle.dbp_rules.specs.LoadedWords.{order_of}
 use Rattle.dbp_rules.specs.Moves.{claim_order}
 use Rattle.dbp_rules.specs.PartyRules.{Loaded, a_number, next_claim, no_word, release_kind, releaser_after, releaser_refusal}
 use Rattle.dbp_rules.specs.PartyShapes.{IsNamedIn, LinksFit, ReleaserShape}
-use Rattle.dbp_rules.specs.Places.{entry_in, link}
+use Rattle.dbp_rules.specs.Lookups.{entry_in, link}
 use Rattle.dbp_rules.specs.Rules.{IsNamed, IsNamedWithin}
 use Rattle.dbp_rules.specs.SharedWords.{made_by, order_value}
 use Rattle.dbp_rules.specs.Shapes.{IsWired}

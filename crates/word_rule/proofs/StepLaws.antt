@@ -15,7 +15,7 @@ use Rattle.sync_meaning.proofs.OneMeaning.{meaning_solves}
 use Rattle.sync_meaning.specs.SomeMeaning.{meaning_of, meaning_of-is}
 use Rattle.dbp_rules.specs.LoadedWords.{loaded_by, loaded_of}
 use Rattle.dbp_rules.specs.PartyRules.{Loaded, no_word}
-use Rattle.dbp_rules.specs.Places.{no_task, task}
+use Rattle.dbp_rules.specs.Lookups.{no_task, task}
 use Rattle.dbp_rules.specs.Rules as rule
 use Rattle.dbp_rules.specs.SharedWords.{KeepsOtherParts, made_by, stored_by, value_in}
 use Rattle.dbp_rules.specs.Sound.{Sound}

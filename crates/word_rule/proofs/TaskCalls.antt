@@ -10,12 +10,13 @@ use Rattle.dbp_slots.specs.TableWords.{IsWord, Sizes, address_of, gate, sizes_of
 use Rattle.dbp_rules.specs.LoadedWords.{order_of, sizes_of_wiring, word_of_order}
 use Rattle.dbp_rules.specs.PartyRules.{Loaded, a_number, an_order, hears_at, task_after, task_refusal}
 use Rattle.dbp_rules.specs.PartyShapes.{TaskPartShape}
-use Rattle.dbp_rules.specs.Places.{wired_task}
+use Rattle.dbp_rules.specs.Lookups.{wired_task}
 use Rattle.dbp_rules.specs.Shapes.{IsTaskWired, IsWired, OrderFits, PlaceIn, heard_by, link_in, place_number, slot_owner}
 use Rattle.dbp_rules.specs.declared.parts.Order.{Order}
 use Rattle.dbp_rules.specs.declared.parts.Place.{Place}
 use Rattle.dbp_rules.specs.declared.parts.Place.TheVariants as place
 use Rattle.dbp_rules.specs.declared.parts.TaskPart.{TaskPart}
+use Rattle.dbp_rules.specs.declared.parts.TheConstants.{MAX_ORDERS}
 use Rattle.dbp_rules.specs.declared.step.Broken.TheVariants as broken
 use Rattle.dbp_rules.specs.declared.step.Count.TheVariants.{All}
 use Rattle.dbp_rules.specs.declared.step.Step.{Step}
@@ -156,7 +157,7 @@ module _ (w : SlotWords) (s : TaskSeat) (here : TaskSits w s) where
     hear_count : length s.part.heard.items ≡ hears_at s.part.place
     hear_count = shape.heard ∙ ap (heard_by (1 + length (wired_task o s.task).links)) hear_place
 
-    pub hear_room : length s.part.heard.items < 17
+    pub hear_room : length s.part.heard.items < MAX_ORDERS
     hear_room = let a = hear_few in let b = hear_count in let c = task_wired.links in omega arith
 
     pub hear_links : 1 + length (wired_task w.wiring s.task).links < 2 ^ 32

@@ -11,7 +11,7 @@ use Rattle.sync_meaning.specs.SomeMeaning.{meaning_of}
 use Rattle.dbp_rules.specs.LoadedWords.{loaded_of, number_of_task, value_of_word}
 use Rattle.dbp_rules.specs.Moves.{own_slot}
 use Rattle.dbp_rules.specs.PartyRules.{Loaded, a_number, place_kind, a_value, is_stamp_of, no_word, read_order_in, task_after, task_refusal, turn_at}
-use Rattle.dbp_rules.specs.Places.{link, read_at, wired_task}
+use Rattle.dbp_rules.specs.Lookups.{link, read_at, wired_task}
 use Rattle.dbp_rules.specs.Promises.{IsMeant}
 use Rattle.dbp_rules.specs.SharedWords.{made_by, signed_value}
 use Rattle.dbp_rules.specs.Rules.{IsNamed}

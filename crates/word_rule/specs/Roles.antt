@@ -9,7 +9,7 @@ use Rattle.dbp_plan.specs.Table.{table_row}
 use Rattle.dbp_rules.specs.LoadedWords.{loaded_in, loaded_word, number_of_releaser, number_of_task}
 use Rattle.dbp_rules.specs.PartyRules.{Loaded, is_stamp_of, loaded_number, read_order_in, releaser_after, releaser_refusal, task_after, task_refusal, turn_at}
 use Rattle.dbp_rules.specs.PartyShapes.{ReleaserLoads, ReleaserShape, TaskLoads, TaskPartShape}
-use Rattle.dbp_rules.specs.Places.{link, no_task, wired_task}
+use Rattle.dbp_rules.specs.Lookups.{link, no_task, wired_task}
 use Rattle.dbp_rules.specs.Promises.{IsMeant}
 use Rattle.dbp_rules.specs.SharedWords.{stored_in}
 use Rattle.dbp_rules.specs.Wired.{wiring_of}

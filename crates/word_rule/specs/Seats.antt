@@ -1,7 +1,7 @@
 -- What ties a seat to its table, and a step to its seat.
 use Rattle.std.specs.Prelude.{◌≡◌, ℕ, ◌+◌, None}
 use Rattle.dbp_rules.specs.PartyRules.{task_refusal}
-use Rattle.dbp_rules.specs.Places.{wired_task}
+use Rattle.dbp_rules.specs.Lookups.{wired_task}
 use Rattle.dbp_rules.specs.declared.step.Step.TheVariants.{Start}
 use Rattle.word_rule.specs.declared.seats.ReleaserSeat.{ReleaserSeat}
 use Rattle.word_rule.specs.declared.seats.SlotWords.{SlotWords}

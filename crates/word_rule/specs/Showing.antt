@@ -5,7 +5,7 @@ use lib.ListN.{get_elem?}
 use Rattle.atomic_table.specs.Table as table
 use Rattle.dbp_plan.specs.declared.plan.Plan.{Plan}
 use Rattle.dbp_slots.specs.TableWords.{IsWord, TableWord, address_of, sizes_of, word_count}
-use Rattle.dbp_rules.specs.Places.{no_task, task}
+use Rattle.dbp_rules.specs.Lookups.{no_task, task}
 use Rattle.dbp_rules.specs.SharedWords.{value_in}
 use Rattle.dbp_rules.specs.Sound.{Sound}
 use Rattle.dbp_rules.specs.Start.{start_of}

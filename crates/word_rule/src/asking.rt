@@ -2,7 +2,7 @@
 
 ghost use Rattle.std.specs.Prelude.{◌≡◌};
 ghost use Rattle.dbp_rules.specs.PartyRules.{releaser_refusal, task_refusal};
-ghost use Rattle.dbp_rules.specs.Places.{wired_task};
+ghost use Rattle.dbp_rules.specs.Lookups.{wired_task};
 ghost use Rattle.dbp_rules.specs.Rules.{IsNamed};
 ghost use Rattle.word_rule.specs.Seats.{ReleaserSits, TaskSits};
 

@@ -2,7 +2,7 @@
 
 ghost use Rattle.std.specs.Prelude.{◌≡◌, ◌<◌, ◌≤◌, None, length};
 ghost use Rattle.dbp_rules.specs.PartyRules.{a_number, no_word, releaser_after, releaser_refusal};
-ghost use Rattle.dbp_rules.specs.Places.{entry_in};
+ghost use Rattle.dbp_rules.specs.Lookups.{entry_in};
 ghost use Rattle.dbp_rules.specs.declared.step.Step.TheVariants.{Aim, Claim, OpenGate, Seen};
 ghost use Rattle.word_rule.specs.Seats.{ReleaserSits, ReleaserSteps};
 

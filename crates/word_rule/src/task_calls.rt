@@ -4,7 +4,7 @@ ghost use Rattle.std.specs.Prelude.{◌≡◌, ℕ, ◌<◌, ◌≤◌, MatchBoo
 ghost use Rattle.dbp_slots.specs.TableWords.{address_of, sizes_of};
 ghost use Rattle.dbp_rules.specs.LoadedWords.{word_of_order};
 ghost use Rattle.dbp_rules.specs.PartyRules.{a_number, an_order, hears_at, is_opened_by, task_after, task_refusal};
-ghost use Rattle.dbp_rules.specs.Places.{wired_task};
+ghost use Rattle.dbp_rules.specs.Lookups.{wired_task};
 ghost use Rattle.dbp_rules.specs.Shapes.{OrderFits, PlaceIn, slot_owner};
 ghost use Rattle.dbp_rules.specs.declared.step.Step.TheVariants.{Hear, Start};
 ghost use Rattle.word_rule.specs.Seats.{TaskSits, TaskSteps};

@@ -4,7 +4,7 @@ ghost use Rattle.std.specs.Prelude.{◌≡◌, ℕ, ◌+◌, ◌<◌, MatchBool,
 ghost use Rattle.dbp_plan.specs.Lookups.{declared_task, no_read};
 ghost use Rattle.sync_meaning.specs.SomeMeaning.{meaning_of};
 ghost use Rattle.dbp_rules.specs.PartyRules.{a_number, a_value, is_stamp_of, no_word, read_order_in, task_after, task_refusal, turn_at};
-ghost use Rattle.dbp_rules.specs.Places.{link, read_at, wired_task};
+ghost use Rattle.dbp_rules.specs.Lookups.{link, read_at, wired_task};
 ghost use Rattle.dbp_rules.specs.Promises.{IsMeant};
 ghost use Rattle.dbp_rules.specs.declared.step.Step.TheVariants as step;
 ghost use Rattle.word_rule.specs.Roles.{meaning_row};

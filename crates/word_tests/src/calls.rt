@@ -2,7 +2,7 @@
 
 ghost use Rattle.std.specs.Prelude.{◌≡◌, IsTrue, None, OnOk};
 ghost use Rattle.dbp_rules.specs.PartyRules.{task_refusal};
-ghost use Rattle.dbp_rules.specs.Places.{wired_task};
+ghost use Rattle.dbp_rules.specs.Lookups.{wired_task};
 ghost use Rattle.dbp_rules.specs.Rules.{IsNamed};
 ghost use Rattle.sync_meaning.specs.SomeMeaning.{meaning_of};
 ghost use Rattle.word_rule.specs.Seats.{ReleaserSits, TaskSits};

@@ -4,7 +4,7 @@ use Rattle.dbp_plan.specs.declared.node.Node.{Node}
 use Rattle.dbp_plan.specs.Operands.{moved_by}
 use Rattle.dbp_plan.specs.Tree.{nodes_of}
 use Rattle.dbp_plan.specs.Expr.{tree_of}
-use Rattle.dbp_plan.specs.Places.{read_place}
+use Rattle.dbp_plan.specs.ListItems.{read_place}
 use Rattle.dbp_plan.proofs.TreeNodes.{nodes_of-moved, operands_within}
 use Rattle.dbp_plan.proofs.nodes.append.Goals as goal
 

@@ -3,8 +3,8 @@ use Rattle.std.proofs.lemmas.Option.{slice_get-get_or}
 use Rattle.dbp_core.specs.Cores.{count_in, plan_in, state_in}
 use Rattle.dbp_rules.specs.declared.step.Step.TheVariants.{Seen}
 use Rattle.dbp_rules.specs.Rules.{IsNamed}
-use Rattle.dbp_plan.specs.Places.{all_place}
-use Rattle.dbp_replay.specs.Places.{IsThere}
+use Rattle.dbp_plan.specs.ListItems.{all_place}
+use Rattle.dbp_replay.specs.NamedItems.{IsThere}
 use Rattle.dbp_replay.proofs.Taken.{taken-none, taken-more, refused-at, same-step}
 use Rattle.dbp_replay.proofs.walk.walk.Goals as goal
 

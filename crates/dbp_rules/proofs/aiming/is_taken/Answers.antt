@@ -1,6 +1,6 @@
 use Rattle.std.proofs.Common.{◌≡◌, true, ap, sym, ◌∙◌, inl, inr}
 use Rattle.dbp_rules.specs.PartyRules.{stays_kept}
-use Rattle.dbp_rules.specs.Places.{entry_in}
+use Rattle.dbp_rules.specs.Lookups.{entry_in}
 use Rattle.dbp_rules.specs.declared.parts.TaskEntry.{TaskEntry}
 use Rattle.dbp_rules.proofs.TakenSlots.{claims_answer, kept_answer}
 use Rattle.dbp_rules.proofs.aiming.is_taken.Goals as goal

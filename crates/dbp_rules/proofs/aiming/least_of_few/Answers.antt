@@ -1,7 +1,7 @@
 use Rattle.std.proofs.Common.{◌⊎◌, Contains, below_more, ap, arith}
 use Rattle.dbp_slots.proofs.FreeSlots.{one_free}
 use Rattle.dbp_rules.specs.PartyRules.{claimed_in, kept_after_aim}
-use Rattle.dbp_rules.specs.Places.{entry_in, wired_task}
+use Rattle.dbp_rules.specs.Lookups.{entry_in, wired_task}
 use Rattle.dbp_rules.specs.declared.wiring.TaskWiring.{TaskWiring}
 use Rattle.dbp_rules.proofs.aiming.least_of_few.Goals as goal
 

@@ -1,5 +1,5 @@
 use Rattle.std.proofs.Common.{◌≡◌, [], ◌∷◌, ◌++◌, length, ap, ◌∙◌, arith, refl}
-use Rattle.dbp_rules.specs.Places.{entry_in, wired_task}
+use Rattle.dbp_rules.specs.Lookups.{entry_in, wired_task}
 use Rattle.dbp_rules.specs.PartyRules.{claimed_in}
 use Rattle.dbp_rules.proofs.ClaimedSlots.{free_staying}
 use Rattle.dbp_rules.proofs.aiming.least_of_many.Goals as goal

@@ -4,7 +4,7 @@ use Rattle.std.specs.Prelude.{◌==◌}
 use Rattle.std.proofs.lemmas.Bool.{and_parts}
 use Rattle.std.proofs.lemmas.List.{take_all}
 use Rattle.std.specs.List.{find}
-use Rattle.dbp_rules.specs.Places.{link, wired_task}
+use Rattle.dbp_rules.specs.Lookups.{link, wired_task}
 use Rattle.dbp_rules.specs.PartyRules as rule
 use Rattle.dbp_rules.specs.Wired.{links_at}
 use Rattle.dbp_rules.specs.declared.parts.ReleaserPart.{ReleaserPart}

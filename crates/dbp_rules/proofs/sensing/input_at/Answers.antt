@@ -1,7 +1,7 @@
 use Rattle.std.proofs.Common.{rules, arith, ◌≡◌, ◌==◌, slice_get, filter, ◌∙◌, Some, w64}
 use Rattle.std.proofs.lemmas.Int.{to_z-of_z}
 use Rattle.dbp_plan.specs.declared.schedule.Sample.{Sample}
-use Rattle.dbp_plan.specs.Places.{read_place}
+use Rattle.dbp_plan.specs.ListItems.{read_place}
 use Rattle.dbp_rules.proofs.InputValues.{input_rising, input_until}
 use Rattle.dbp_rules.proofs.sensing.input_at.Goals as goal
 use mir.Val.{to_z, of_z}

@@ -1,5 +1,5 @@
 use Rattle.std.proofs.Common.{arith, Contains, below_more, ◌⊎◌, inl, inr}
-use Rattle.dbp_slots.proofs.FreeSlots.{tells_listed, unlisted, one_free}
+use Rattle.dbp_slots.proofs.FreeSlots.{listed-Decides, unlisted, one_free}
 use Rattle.dbp_slots.proofs.free.first_unlisted.Goals.{else-not-contains-via-then-not-contains+else-not-contains-2, else-not-contains-via-else-not-contains}
 use Rattle.dbp_slots.proofs.free.first_unlisted.Goals as goal
 
@@ -19,9 +19,9 @@ loop-slot-preserved c =
     below_more (λ s. Contains claims s ⊎ Contains kept s) slot c.loop-slot.invariant
     (elim c.else-not-contains.branch [
       | else-not-contains-via-then-not-contains+else-not-contains-2 w ↦
-          inr ((tells_listed kept slot w.contains-then-not-contains.result w.contains-then-not-contains.ensures.cases).0 w.if-not-contains-2.false)
+          inr ((listed-Decides kept slot w.contains-then-not-contains.result w.contains-then-not-contains.ensures.cases).0 w.if-not-contains-2.false)
       | else-not-contains-via-else-not-contains w ↦
-          inl ((tells_listed claims slot c.contains.result c.contains.ensures.cases).0 w.if-not-contains.false)
+          inl ((listed-Decides claims slot c.contains.result c.contains.ensures.cases).0 w.if-not-contains.false)
     ])
 
 pub unreachable-requires : goal.unreachable-requires

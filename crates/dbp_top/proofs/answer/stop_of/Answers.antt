@@ -1,7 +1,7 @@
 use Rattle.std.proofs.Common.{◌≡◌, ℕ, List, get_or, sym, ap, ◌∙◌, subst}
 use Rattle.std.proofs.lemmas.List.{get_or_default}
 use Rattle.dbp_plan.specs.declared.diagram.Task.{Task}
-use Rattle.dbp_plan.specs.Lookups.{declared_task, no_declared}
+use Rattle.dbp_plan.specs.Lookups.{declared_task, no_declared_task}
 use Rattle.rank_order.specs.Ends.{IsOverrun}
 use Rattle.rank_order.specs.Instances.{Instance}
 use Rattle.rank_order.specs.Service.{left_of}
@@ -20,7 +20,7 @@ returns-in-Ok c =
     let found = c.index-items-task.result in
     let task : get_or c.items.result.now c.in-Overrun.task found ≡ declared_task p c.in-Overrun.task =
     ap (λ (ts : List Task). get_or ts c.in-Overrun.task found) c.items.ensures.value
-    ∙ get_or_default p.diagram.tasks c.in-Overrun.task found no_declared late.late.instance.task in
+    ∙ get_or_default p.diagram.tasks c.in-Overrun.task found no_declared_task late.late.instance.task in
     let name : c.bytes-name.result.now ≡ (declared_task p c.in-Overrun.task).name = c.bytes-name.ensures.value ∙ ap (λ (t : Task). t.name) task in
     let line : overrun_line (declared_task p c.in-Overrun.task).name c.in-Overrun.instance c.in-Overrun.time ≡ c.in-Ok.line.items =
     sym (c.in-Ok.ensures ∙ ap (λ (n : List ℕ). overrun_line n c.in-Overrun.instance c.in-Overrun.time) name) in

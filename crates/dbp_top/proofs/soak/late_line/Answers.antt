@@ -3,7 +3,7 @@ use Rattle.std.specs.Prelude.{codes}
 use Rattle.std.proofs.lemmas.List.{get_or_default}
 use Rattle.std.proofs.lemmas.Result.{IfOk-weaker}
 use Rattle.dbp_plan.specs.declared.diagram.Task.{Task}
-use Rattle.dbp_plan.specs.Lookups.{declared_task, no_declared}
+use Rattle.dbp_plan.specs.Lookups.{declared_task, no_declared_task}
 use Rattle.rank_order.specs.Ends.{IsOverrun}
 use Rattle.rank_order.specs.Instances.{Instance}
 use Rattle.rank_order.specs.Service.{left_of}
@@ -21,7 +21,7 @@ returns-in-Overrun c =
     let found = c.index-items-task.result in
     let task : get_or c.items.result.now c.in-Overrun.task found ≡ declared_task p c.in-Overrun.task =
     ap (λ (ts : List Task). get_or ts c.in-Overrun.task found) c.items.ensures.value
-    ∙ get_or_default p.diagram.tasks c.in-Overrun.task found no_declared late.late.instance.task in
+    ∙ get_or_default p.diagram.tasks c.in-Overrun.task found no_declared_task late.late.instance.task in
     let name : c.bytes-name.result.now ≡ (declared_task p c.in-Overrun.task).name = c.bytes-name.ensures.value ∙ ap (λ (t : Task). t.name) task in
     let line : List ℕ → List ℕ = λ n. overrun_after (codes "sim overrun ") n c.in-Overrun.instance c.in-Overrun.time in
     IfOk-weaker c.overrun_after.result (λ text. text.items ≡ line c.bytes-name.result.now) (λ text. IsSimulationLine p text.items)

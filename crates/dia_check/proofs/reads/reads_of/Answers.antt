@@ -1,7 +1,7 @@
 use Rattle.std.proofs.Common.{◌≡◌, ℕ, ◌+◌, ◌<◌, List, [], ◌∷◌, ◌++◌, length, take, drop, get_or, sym, ap, ◌∙◌, arith, rules, length-append}
 use Rattle.std.specs.Option.{option_to_list}
 use Rattle.std.proofs.lemmas.List.{append-nil}
-use Rattle.dbp_plan.specs.Places.{read_place}
+use Rattle.dbp_plan.specs.ListItems.{read_place}
 use Rattle.dbp_plan.specs.declared.diagram.Read.{Read}
 use Rattle.dbp_plan.proofs.ListParts.{at-any}
 use Rattle.dia_check.specs.Diagrams.{firsts, read_of}

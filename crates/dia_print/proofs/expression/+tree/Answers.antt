@@ -1,6 +1,6 @@
 use Rattle.std.proofs.Common.{◌≡◌, [], ◌∷◌, ◌++◌, ◌∙◌, subst, arith, rules}
 use Rattle.std.specs.Prelude.{OnOk}
-use Rattle.dbp_plan.specs.Places.{read_place}
+use Rattle.dbp_plan.specs.ListItems.{read_place}
 use Rattle.dia_tokens.specs.declared.token.Token.TheVariants.{Word, Symbol}
 use Rattle.dia_tokens.specs.declared.token.Word.TheVariants.{If, Then, Else}
 use Rattle.dia_tokens.specs.declared.token.Symbol.TheVariants.{Open, Close, Comma}

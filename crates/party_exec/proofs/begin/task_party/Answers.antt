@@ -1,6 +1,6 @@
 use Rattle.std.proofs.Common.{◌∙◌, ℕ, refl, ap, length, arith}
 use Rattle.dbp_plan.specs.declared.diagram.Task.{Task}
-use Rattle.dbp_rules.specs.Places.{no_task_wiring}
+use Rattle.dbp_rules.specs.Lookups.{no_task_wiring}
 use Rattle.dbp_rules.specs.Start.{start_task}
 use Rattle.dbp_rules.specs.declared.wiring.TaskWiring.{TaskWiring}
 use Rattle.party_exec.specs.Rows.{first_and_zeros}

@@ -4,7 +4,7 @@ use Rattle.dbp_plan.specs.declared.plan.Plan.{Plan}
 use Rattle.dbp_plan.specs.Closed.{let_base}
 use Rattle.dbp_plan.specs.Samples.{input_value}
 use Rattle.dbp_rules.specs.Moves as move
-use Rattle.dbp_rules.specs.Places.{time}
+use Rattle.dbp_rules.specs.Lookups.{time}
 use Rattle.dbp_rules.specs.Shapes.{HasSamples}
 use Rattle.dbp_rules.specs.declared.parts.TaskPart.{TaskPart}
 use Rattle.dbp_rules.specs.declared.wiring.TaskWiring.{TaskWiring}

@@ -2,7 +2,7 @@ use Rattle.std.proofs.Common.{◌≡◌, ℕ, IsTrue, Some, slice_get, sym, subs
 use Rattle.std.specs.Prelude.{slice_index_or}
 use Rattle.std.proofs.lemmas.Option.{get_or_from_slice_get}
 use borrow.Author.Count.{below_more}
-use Rattle.dbp_plan.specs.Places.{read_place}
+use Rattle.dbp_plan.specs.ListItems.{read_place}
 use Rattle.party_exec.specs.Parties.{HasFinished}
 use Rattle.party_exec.specs.declared.party.Party.{Party}
 use Rattle.party_exec.proofs.Places.{belongs}

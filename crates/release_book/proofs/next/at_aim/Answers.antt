@@ -1,5 +1,5 @@
 use Rattle.std.proofs.Common.{◌≡◌, length, sym, subst, arith}
-use Rattle.dbp_rules.specs.Places.{entry_in, wired_task}
+use Rattle.dbp_rules.specs.Lookups.{entry_in, wired_task}
 use Rattle.dbp_rules.specs.Promises.{HasFreeSlotIn}
 use Rattle.dbp_rules.specs.declared.step.Count.TheVariants.{All}
 use Rattle.dbp_rules.specs.declared.wiring.Wiring.{Wiring}

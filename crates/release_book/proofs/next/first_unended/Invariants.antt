@@ -2,7 +2,7 @@
 use Rattle.std.proofs.Common.{◌≡◌, None, length}
 use Rattle.std.specs.Prelude.{nat_lt}
 use Rattle.dbp_rules.specs.PartyRules.{least}
-use Rattle.dbp_rules.specs.Places.{entry_in, wired_task}
+use Rattle.dbp_rules.specs.Lookups.{entry_in, wired_task}
 use Rattle.release_book.proofs.next.first_unended.Given as goal
 
 abbrev pub invariant-loop-task : goal.invariant-loop-task

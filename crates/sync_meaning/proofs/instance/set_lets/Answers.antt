@@ -7,7 +7,7 @@ use Rattle.dbp_plan.specs.Closed.{let_base}
 use Rattle.expr_eval.specs.Values.{value_of}
 use Rattle.sync_meaning.specs.Lets.{lets_more, lets_all}
 use Rattle.sync_meaning.proofs.Sets.{item_at, refill_all}
-use Rattle.dbp_plan.specs.Places.{all_place}
+use Rattle.dbp_plan.specs.ListItems.{all_place}
 use Rattle.sync_meaning.proofs.instance.set_lets.Goals as goal
 use mir.Val.{to_z, of_z}
 

@@ -1,7 +1,7 @@
 use Rattle.std.proofs.Common.{◌≡◌, ◌<◌, ◌+◌, ℤ, List, subst, length, ap, ◌∙◌, arith, rules, w64}
 use Rattle.std.proofs.lemmas.Int.{to_z-of_z}
 use Rattle.std.specs.Prelude.{slice_index}
-use Rattle.dbp_plan.specs.Places.{read_place, all_place}
+use Rattle.dbp_plan.specs.ListItems.{read_place, all_place}
 use Rattle.sync_meaning.specs.Meaning.{IsRead}
 use Rattle.sync_meaning.specs.Shape.{AreWritten, IsReadable}
 use Rattle.sync_meaning.proofs.Envs.{written_more, written_all}

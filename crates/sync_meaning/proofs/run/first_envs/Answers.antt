@@ -1,5 +1,5 @@
 use Rattle.dbp_plan.specs.declared.diagram.Task.{Task}
-use Rattle.dbp_plan.specs.Places.{read_place}
+use Rattle.dbp_plan.specs.ListItems.{read_place}
 use Rattle.sync_meaning.specs.declared.env.Env.{Env}
 use Rattle.sync_meaning.specs.Shape.{IsEnvOf}
 use Rattle.sync_meaning.proofs.Tables.{env_first, env_fits, envs_more, firsts_more}

@@ -1,7 +1,7 @@
 use Rattle.std.proofs.Common.{◌≡◌, ◌+◌, ◌<◌, ◌++◌, get_or, length, slice_get, Some, refl, sym, ap, ◌∙◌}
 use Rattle.dbp_plan.specs.declared.diagram.Task.{Task}
 use Rattle.trace_io.specs.Lines.{line_text}
-use Rattle.dbp_plan.specs.Places.{read_place}
+use Rattle.dbp_plan.specs.ListItems.{read_place}
 use Rattle.trace_io.specs.Printing.{CanPrint}
 use Rattle.trace_io.proofs.BatchLines.{has-next, lines-more}
 use Rattle.trace_io.proofs.printed.push_batch.Goals as goal

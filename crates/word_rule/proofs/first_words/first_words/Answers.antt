@@ -1,7 +1,7 @@
 use Rattle.std.proofs.Common.{◌≡◌, ◌<◌, ℕ, List, ◌++◌, take, drop, length, get_or, sym, ap, ◌∙◌, subst, arith}
 use Rattle.dbp_plan.specs.declared.diagram.Task.{Task}
 use Rattle.dbp_plan.specs.declared.diagram.Out.{Out}
-use Rattle.dbp_plan.specs.Lookups.{declared_task, no_declared}
+use Rattle.dbp_plan.specs.Lookups.{declared_task, no_declared_task}
 use Rattle.std.proofs.lemmas.List.{get_or_default, take-append-le, take_all}
 use Rattle.dbp_slots.specs.TableWords.{Sizes, sizes_of, task_sizes}
 use Rattle.word_rule.specs.FirstWords.{HasNumbersSoFar, HasSlotFilled}
@@ -28,7 +28,7 @@ pub fill_first_slot-requires-clause-ports : goal.fill_first_slot-requires-clause
 fill_first_slot-requires-clause-ports c =
     let below = c.loop-task-test.true in
     let named : c.loop-task.task < length c.args.plan.now.diagram.tasks = omega (arith, ap length c.items-declared-items.ensures.value) in
-    let outs = outs_are c.args.plan.now.diagram.tasks c.items-declared-items.result.now c.loop-task.task c.declared-item.result no_declared c.items.result.now c.items-declared-items.ensures.value below c.declared-item.is c.items.ensures.value in
+    let outs = outs_are c.args.plan.now.diagram.tasks c.items-declared-items.result.now c.loop-task.task c.declared-item.result no_declared_task c.items.result.now c.items-declared-items.ensures.value below c.declared-item.is c.items.ensures.value in
     ap (λ (l : List Out). length l) outs ∙ ports_are c.args.plan.now c.loop-task.task named ∙ ap (λ (x : Sizes). (task_sizes x c.loop-task.task).ports) (sym c.requires)
 
 -- a slice that was lent is put back whole
@@ -39,7 +39,7 @@ pub loop-task-preserved : goal.loop-task-preserved
 loop-task-preserved c =
     let below = c.loop-task-test.true in
     let named : c.loop-task.task < length c.args.plan.now.diagram.tasks = omega (arith, ap length c.items-declared-items.ensures.value) in
-    let outs = outs_are c.args.plan.now.diagram.tasks c.items-declared-items.result.now c.loop-task.task c.declared-item.result no_declared c.items.result.now c.items-declared-items.ensures.value below c.declared-item.is c.items.ensures.value in
+    let outs = outs_are c.args.plan.now.diagram.tasks c.items-declared-items.result.now c.loop-task.task c.declared-item.result no_declared_task c.items.result.now c.items-declared-items.ensures.value below c.declared-item.is c.items.ensures.value in
     let filled : HasSlotFilled (sizes_of c.args.plan.now.diagram) c.loop-task.task (declared_task c.args.plan.now c.loop-task.task).outs (length (declared_task c.args.plan.now c.loop-task.task).outs) c.loop-task.words.items c.fill_first_slot.new.words =
     subst (λ (y : Sizes × List Out × List ℕ). HasSlotFilled y.0 c.loop-task.task y.1 (length y.1) y.2 c.fill_first_slot.new.words) (λ i. (c.requires i, outs i, c.deref_mut.ensures.value i)) c.fill_first_slot.ensures in
     let size : c.loop-task.words.len ≡ length c.fill_first_slot.new.words = sym (c.fill_first_slot.ensures.size ∙ c.deref_mut.ensures.len) in

@@ -1,5 +1,5 @@
 use Rattle.std.proofs.Common.{◌≡◌, length, sym, subst, ap, arith}
-use Rattle.dbp_rules.specs.Places.{task_entry, wired_task}
+use Rattle.dbp_rules.specs.Lookups.{task_entry, wired_task}
 use Rattle.dbp_rules.specs.Promises.{HasFreeSlot}
 use Rattle.dbp_rules.specs.declared.wiring.Wiring.{Wiring}
 use Rattle.dbp_rules.proofs.FreeAims.{has_free_slot}

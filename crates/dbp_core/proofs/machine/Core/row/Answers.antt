@@ -5,7 +5,7 @@ use Rattle.std.proofs.Props.{props}
 use Rattle.dbp_plan.specs.Occurrences.{times_of}
 use Rattle.sync_meaning.specs.SomeMeaning.{meaning_of}
 use Rattle.dbp_plan.specs.Table.{table_row}
-use Rattle.dbp_rules.specs.Places.{no_task, task as state_of}
+use Rattle.dbp_rules.specs.Lookups.{no_task, task as state_of}
 use Rattle.dbp_rules.specs.SoundParts.{last_shut}
 use Rattle.dbp_rules.specs.declared.state.TaskState.{TaskState}
 use Rattle.dbp_rules.specs.declared.wiring.Wiring.{Wiring}

@@ -3,7 +3,7 @@ use Rattle.std.proofs.lemmas.Int.{to_z-of_z}
 use Rattle.std.proofs.lemmas.List.{length-map}
 use Rattle.std.proofs.lemmas.Option.{slice_get-map}
 use Rattle.dbp_plan.specs.declared.diagram.Sense.{Sense}
-use Rattle.dbp_plan.specs.Places.{read_place}
+use Rattle.dbp_plan.specs.ListItems.{read_place}
 use Rattle.dbp_plan.specs.Samples.{input_value}
 use Rattle.dbp_rules.specs.Moves.{with_now, with_senses}
 use Rattle.dbp_rules.specs.Work.{WorkWords}

@@ -2,7 +2,7 @@ use Rattle.std.proofs.Common.{◌≡◌, ◌+◌, ◌<◌, ◌≤◌, ◌∙◌,
 use Rattle.dbp_plan.specs.declared.plan.Plan.{Plan}
 use Rattle.dbp_plan.specs.declared.schedule.Batch.{Batch}
 use Rattle.dbp_plan.specs.Occurrences.{time_of}
-use Rattle.dbp_rules.specs.Places.{task as state_of, task_entry}
+use Rattle.dbp_rules.specs.Lookups.{task as state_of, task_entry}
 use Rattle.release_list.specs.declared.release.Release.TheVariants as release
 use Rattle.instance_steps.specs.Events.{aim_events, aim_of, seen_events}
 use Rattle.instance_steps.specs.Recorders.{plan_in, state_in, wiring_in}

@@ -1,5 +1,5 @@
 use Rattle.std.proofs.Common.{◌≡◌, ◌+◌, ◌<◌, ◌∙◌, length, refl, ap, arith}
-use Rattle.dbp_rules.specs.Places.{wired_task}
+use Rattle.dbp_rules.specs.Lookups.{wired_task}
 use Rattle.dbp_rules.specs.declared.wiring.TaskWiring.{TaskWiring}
 use Rattle.dbp_rules.specs.declared.wiring.Wiring.{Wiring}
 use Rattle.instance_steps.proofs.Adding.{steps_longer}

@@ -1,7 +1,7 @@
 use Rattle.std.proofs.Common.{◌≡◌, ◌+◌, ◌≤◌, length}
 use Rattle.std.specs.Prelude.{replicate}
 use Rattle.dbp_rules.specs.Moves.{hear_place}
-use Rattle.dbp_rules.specs.Places.{task, wired_task}
+use Rattle.dbp_rules.specs.Lookups.{task, wired_task}
 use Rattle.dbp_rules.specs.declared.step.Step.TheVariants.{Hear}
 use Rattle.instance_steps.specs.Events.{step_of}
 use Rattle.instance_steps.specs.Recorders.{state_in, steps_in, table_in, wiring_in}

@@ -1,6 +1,6 @@
 use Rattle.std.proofs.Common.{◌≡◌, ◌+◌, ◌≤◌, length}
 use Rattle.dbp_rules.specs.Moves.{put_place}
-use Rattle.dbp_rules.specs.Places.{task}
+use Rattle.dbp_rules.specs.Lookups.{task}
 use Rattle.instance_steps.specs.Events.{put_events}
 use Rattle.instance_steps.specs.Recorders.{state_in, steps_in, table_in}
 use Rattle.instance_steps.specs.TaskPieces.{AddsPiece}

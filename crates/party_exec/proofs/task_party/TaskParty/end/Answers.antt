@@ -1,6 +1,6 @@
 use Rattle.std.proofs.Common.{refl, sym, subst}
 use Rattle.dbp_rules.specs.PartyRules.{no_word}
-use Rattle.dbp_rules.specs.Places.{wired_task}
+use Rattle.dbp_rules.specs.Lookups.{wired_task}
 use Rattle.dbp_rules.specs.Work.{WorkWords}
 use Rattle.dbp_rules.specs.declared.step.Step.TheVariants.{End}
 use Rattle.party_exec.specs.Computed.{HasComputed, plan_of_task}

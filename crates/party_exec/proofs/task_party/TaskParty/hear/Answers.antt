@@ -1,6 +1,6 @@
 use Rattle.std.proofs.Common.{refl}
 use Rattle.dbp_rules.specs.PartyRules.{an_order}
-use Rattle.dbp_rules.specs.Places.{wired_task}
+use Rattle.dbp_rules.specs.Lookups.{wired_task}
 use Rattle.dbp_rules.specs.declared.step.Step.TheVariants.{Hear}
 use Rattle.party_exec.proofs.Seats.{may_hear}
 use Rattle.party_exec.proofs.Turned.{has_heard}

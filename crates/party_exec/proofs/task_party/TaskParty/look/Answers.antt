@@ -1,6 +1,6 @@
 use Rattle.std.proofs.Common.{refl, ap, sym, ◌∙◌}
 use Rattle.dbp_rules.specs.PartyRules.{a_number, is_stamp_of, read_order_in, turn_at}
-use Rattle.dbp_rules.specs.Places.{read_at, wired_task}
+use Rattle.dbp_rules.specs.Lookups.{read_at, wired_task}
 use Rattle.dbp_rules.specs.declared.step.Step.TheVariants.{Look}
 use Rattle.dbp_rules.specs.declared.wiring.TaskWiring.{TaskWiring}
 use Rattle.party_exec.proofs.Seats.{look_inside, may_look}

@@ -1,6 +1,6 @@
 use Rattle.std.proofs.Common.{ℤ, List, length, ap, ◌∙◌, refl, arith}
 use Rattle.dbp_rules.specs.PartyRules.{no_word}
-use Rattle.dbp_rules.specs.Places.{wired_task}
+use Rattle.dbp_rules.specs.Lookups.{wired_task}
 use Rattle.dbp_rules.specs.declared.step.Step.TheVariants.{Put}
 use Rattle.party_exec.proofs.Seats.{may_put}
 use Rattle.party_exec.proofs.Turned.{has_put, port_inside}

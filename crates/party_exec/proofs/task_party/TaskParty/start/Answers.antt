@@ -1,6 +1,6 @@
 use Rattle.std.proofs.Common.{refl}
 use Rattle.dbp_rules.specs.PartyRules.{a_number, is_opened_by}
-use Rattle.dbp_rules.specs.Places.{wired_task}
+use Rattle.dbp_rules.specs.Lookups.{wired_task}
 use Rattle.dbp_rules.specs.declared.step.Step.TheVariants.{Start}
 use Rattle.party_exec.proofs.Seats.{may_start}
 use Rattle.party_exec.proofs.Turned.{has_started, not_started, started}

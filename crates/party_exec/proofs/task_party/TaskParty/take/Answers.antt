@@ -2,7 +2,7 @@ use Rattle.std.proofs.Common.{ℕ, ℤ, ◌+◌, FitsSigned, w64, length, set, r
 use Rattle.std.proofs.lemmas.Int.{to_z-of_z}
 use Rattle.dbp_plan.specs.declared.diagram.Task.{Task}
 use Rattle.dbp_rules.specs.PartyRules.{a_value}
-use Rattle.dbp_rules.specs.Places.{read_at, wired_task}
+use Rattle.dbp_rules.specs.Lookups.{read_at, wired_task}
 use Rattle.dbp_rules.specs.Work.{WorkWords}
 use Rattle.dbp_rules.specs.declared.step.Step.TheVariants.{Take}
 use Rattle.dbp_rules.specs.declared.wiring.TaskWiring.{TaskWiring}

@@ -3,7 +3,7 @@ use Rattle.std.proofs.lemmas.Int.{to_z-of_z}
 use Rattle.std.proofs.lemmas.Option.{get_or_from_slice_get}
 use Rattle.dbp_plan.specs.declared.diagram.Input.{Input}
 use Rattle.dbp_plan.specs.declared.schedule.Sample.{Sample}
-use Rattle.dbp_plan.specs.Places.{at_place}
+use Rattle.dbp_plan.specs.ListItems.{at_place}
 use Rattle.sync_meaning.specs.Taken.{AreTaken}
 use Rattle.sync_meaning.proofs.ExactInputs.{rest_later, taken_all, taken_more}
 use Rattle.sync_meaning.proofs.inputs.Inputs.take_until.Goals as goal

@@ -2,7 +2,7 @@ use Rattle.std.proofs.Common.{arith, ℕ, List, ◌≡◌, ◌<◌, ◌≤◌, �
 use Rattle.std.proofs.lemmas.List.{get_or_default}
 use Rattle.dbp_plan.specs.declared.diagram.Task.{Task}
 use Rattle.dbp_plan.specs.declared.schedule.Batch.{Batch}
-use Rattle.dbp_plan.specs.Lookups.{declared_task, no_declared}
+use Rattle.dbp_plan.specs.Lookups.{declared_task, no_declared_task}
 use Rattle.rank_order.specs.Queue.{Holds}
 use Rattle.instance_steps.specs.Releases.{batch_at, no_batch}
 use Rattle.virtual_sim.specs.State.{Sets}
@@ -40,7 +40,7 @@ loop-task-preserved c =
     let lt : t < length c.loop-task.self.rest.items = omega (arith, there, inv.renewing.long, c.requires.run.at.rests) in
     let cost = (get_or c.items-in-loop-task.result.now t c.index-items-task.result).cost in
     let cost_is : cost ≡ (declared_task plan t).cost =
-    ap (λ (l : List Task). (get_or l t c.index-items-task.result).cost) c.items-in-loop-task.ensures.value ∙ ap (λ (x : Task). x.cost) (get_or_default plan.diagram.tasks t c.index-items-task.result no_declared there) in
+    ap (λ (l : List Task). (get_or l t c.index-items-task.result).cost) c.items-in-loop-task.ensures.value ∙ ap (λ (x : Task). x.cost) (get_or_default plan.diagram.tasks t c.index-items-task.result no_declared_task there) in
     let time_is : c.index-items-self.result.time ≡ r.time = ap (λ (b : Batch). b.time) batch_is ∙ sym c.requires.due in
     record {
       renewing = one_more plan (batch_at plan r.released).tasks j r.time r.rest.items c.loop-task.self.rest.items r.ready c.loop-task.self.ready inv.renewing small

@@ -1,7 +1,7 @@
 use Rattle.std.proofs.Common.{◌≡◌, ◌+◌, ℕ, Bool, sym, ◌∙◌, ap}
 use Rattle.dbp_rules.specs.Moves.{after_look}
 use Rattle.dbp_rules.specs.PartyRules.{is_stamp_of, read_order_in, turn_at}
-use Rattle.dbp_rules.specs.Places.{read_at}
+use Rattle.dbp_rules.specs.Lookups.{read_at}
 use Rattle.dbp_rules.specs.declared.wiring.TaskWiring.{TaskWiring}
 use Rattle.word_rule.proofs.WorkCalls.{look_delayed, look_fails, look_heard, look_load, look_then, look_word}
 use Rattle.word_rule.proofs.seats.SlotWords.look.Goals as goal

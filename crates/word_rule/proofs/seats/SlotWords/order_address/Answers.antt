@@ -1,5 +1,5 @@
 use Rattle.std.proofs.Common.{◌+◌, ◌-◌, ◌<◌, length, subst, arith}
-use Rattle.dbp_rules.specs.Places.{wired_task}
+use Rattle.dbp_rules.specs.Lookups.{wired_task}
 use Rattle.dbp_rules.specs.Shapes.{PlaceIn}
 use Rattle.dbp_rules.specs.declared.parts.Place.{Place}
 use Rattle.word_rule.proofs.TaskCalls.{in_layout, link_in_layout}

@@ -2,7 +2,7 @@ use Rattle.std.proofs.lemmas.Int.{to_z-of_z}
 use Rattle.std.proofs.Common.{FitsSigned, rules, w64, ◌∙◌, ap}
 use Rattle.dbp_rules.specs.Moves.{after_take}
 use Rattle.dbp_rules.specs.PartyRules.{read_order_in, turn_at}
-use Rattle.dbp_rules.specs.Places.{read_at}
+use Rattle.dbp_rules.specs.Lookups.{read_at}
 use Rattle.dbp_rules.specs.declared.wiring.TaskWiring.{TaskWiring}
 use Rattle.word_rule.proofs.WorkCalls.{take_heard, take_load, take_meant, take_more, take_then, take_word}
 use Rattle.word_rule.proofs.seats.SlotWords.take.Goals as goal
