@@ -9,7 +9,6 @@ use Rattle.dbp_plan.specs.declared.diagram.Read.{Read}
 use Rattle.dbp_plan.specs.declared.diagram.Task.{Task}
 use Rattle.dbp_plan.specs.declared.plan.Plan.{Plan}
 use Rattle.dbp_plan.specs.Closed.{IsClosed}
-use Rattle.dbp_plan.specs.Ranks.{ranks_of}
 use Rattle.dbp_plan.specs.Lookups.{link_at, no_link, declared_task, no_declared_task, no_read}
 use Rattle.dbp_plan.proofs.RankLaws.{kept-rank, ranks-apart}
 use Rattle.release_list.specs.Releases.{links_into}

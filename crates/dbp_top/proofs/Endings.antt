@@ -1,5 +1,5 @@
 -- How a call ends that read its input, and wrote its text.
-use Rattle.std.proofs.Common.{◌≡◌, ◌≤◌, ℕ, ◌++◌, Bool, true, List, Option, Some, None, length, sym, ◌∙◌, ap, subst, String, Global}
+use Rattle.std.proofs.Common.{◌≡◌, ◌≤◌, ℕ, Bool, true, List, Option, length, sym, subst, String, Global}
 use Rattle.std.proofs.KnownBytes.{Consumes-whole}
 use Rattle.std.specs.Io.KnownBytes.{Appends, Consumes, IsAtEnd}
 use Rattle.dbp_plan.specs.Faults.{Rose}

@@ -19,9 +19,7 @@ fn is_place(name: &Name, part: &Part) -> bool
     ensures { result ≡ is_place name.now part.now }
 {
     match part {
-        Part::State(other, _) | Part::Sense(other, _) | Part::Let(other, _) => {
-            other == name
-        }
+        Part::State(other, _) | Part::Sense(other, _) | Part::Let(other, _) => { other == name }
         Part::Read { name: other, .. } => other == name,
         Part::Next(_, _) | Part::Out(_, _, _) => false,
     }
@@ -44,7 +42,9 @@ fn has_input(decls: &[Decl], name: &Name) -> bool
 fn has_event(decls: &[Decl], name: &Name) -> bool
     ensures { result ≡ list_any (is_event name.now) decls.now }
 {
-    decls.iter().any(|decl| matches!(decl, Decl::Event(other) if other == name))
+    decls
+        .iter()
+        .any(|decl| matches!(decl, Decl::Event(other) if other == name))
 }
 
 fn has_state(parts: &[Part], name: &Name) -> bool

@@ -26,10 +26,7 @@ pub(crate) fn index_of(names: &[Name], name: &Name) -> u32
     requires { length names.now < 2 ^ 32 }
     ensures { result ≡ index_of names.now name.now }
 {
-    names
-        .iter()
-        .take_while(|other| *other != name)
-        .count() as u32
+    names.iter().take_while(|other| *other != name).count() as u32
 }
 
 pub(crate) fn input_names(alloc: Global, decls: &[Decl]) -> Result<List<Name>, NoMemory>

@@ -6,7 +6,7 @@ use Rattle.dbp_plan.specs.declared.plan.Plan.{Plan}
 use Rattle.dbp_rules.specs.Moves as move
 use Rattle.dbp_rules.specs.Lookups.{no_task, read_at, task, task_entry, wired_task}
 use Rattle.dbp_rules.specs.Rules as rule
-use Rattle.dbp_rules.specs.Rules.{with_part, with_task}
+use Rattle.dbp_rules.specs.Rules.{with_task}
 use Rattle.dbp_rules.specs.declared.parts.Place.{Place}
 use Rattle.dbp_rules.specs.declared.parts.Place.TheVariants as place
 use Rattle.dbp_rules.specs.declared.state.State.{State}

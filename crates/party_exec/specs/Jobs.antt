@@ -1,5 +1,5 @@
 -- What a crew makes of a party: a job of one round, and so many turns.
-use Rattle.std.specs.Prelude.{◌≡◌, ◌⊎◌, ℕ, ◌+◌, ◌-◌, ◌<◌, ◌^◌, List, length, min, slice_index_or}
+use Rattle.std.specs.Prelude.{◌≡◌, ◌⊎◌, ℕ, ◌+◌, ◌<◌, List, length, slice_index_or}
 use Rattle.dbp_plan.specs.Calls.{one_more}
 use Rattle.word_rule.specs.declared.seats.SlotWords.{SlotWords}
 use Rattle.party_exec.specs.Parties.{HasFinished, IsTurn}

@@ -36,7 +36,7 @@ use Rattle.dbp_rules.proofs.TableSizes.{same_sizes, slots_few}
 use Rattle.dbp_rules.proofs.TakenWords.{take_meant}
 use Rattle.dbp_rules.proofs.WiringParts.{wired_tasks}
 use Rattle.word_rule.specs.Roles as role
-use Rattle.word_rule.specs.Roles.{PutFits, RoleLoads, RolePromise, meaning_row, role_after, role_refusal, run_wiring, task_of, task_part_of, word_loaded, word_stored}
+use Rattle.word_rule.specs.Roles.{PutFits, RoleLoads, RolePromise, meaning_row, role_after, role_refusal, run_wiring, task_of, task_part_of}
 use Rattle.word_rule.specs.Showing.{ShowsRole}
 use Rattle.word_rule.specs.declared.views.Role.{Role}
 use Rattle.word_rule.specs.declared.views.Role.TheVariants.{Releaser, Task}
