@@ -1,6 +1,7 @@
 // The core of a plan, as one value.
 
 ghost use Rattle.std.specs.Prelude.{◌≡◌};
+ghost use Rattle.dbp_plan.specs.Table.{table_row};
 ghost use Rattle.sync_meaning.specs.SomeMeaning.{meaning_of};
 ghost use Rattle.dbp_rules.specs.Shapes.{IsShape};
 ghost use Rattle.dbp_rules.specs.Sound.{Sound};
@@ -33,7 +34,7 @@ pub struct Core {
 impl Core {
     ghost use Rattle.std.specs.Prelude.{◌≡◌, ◌<◌, length, slice_get, Some, None, Ok, IfOk};
     ghost use Rattle.dbp_plan.specs.declared.table.Table.{Table};
-    ghost use Rattle.dbp_plan.specs.Table.{IsRow, table_row};
+    ghost use Rattle.dbp_plan.specs.Table.{IsRow};
     ghost use Rattle.sync_meaning.specs.Meaning.{IsMeaning};
     ghost use Rattle.release_list.specs.declared.release.Release.TheVariants.{Aim as AimOf};
     ghost use Rattle.dbp_core.specs.Cores.{count_in, plan_in, state_in, wiring_in};
