@@ -50,7 +50,7 @@ pub record IsDrawnRound (w : SlotWords) (draws : ℕ) (old new : List Party) : T
 abbrev pub after_round : ℕ → ℕ → ℕ
 after_round count draws = after_draws (count + 1) draws
 
--- rounds, each drawn from if the one before it left the generator; before each not all parties have finished
+-- rounds, each drawn from where the one before it left the generator; before each not all parties have finished
 pub data HaveDrawnRounds (w : SlotWords) (draws : ℕ) (ps : List Party) : ℕ → List Party → Type 0 where
   no_round : HaveDrawnRounds w draws ps draws ps
   one_round : (now : ℕ) (qs rs : List Party) → HaveDrawnRounds w draws ps now qs → (All (HasFinished w) qs → ⊥) → IsDrawnRound w now qs rs
