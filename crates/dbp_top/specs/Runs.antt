@@ -4,7 +4,7 @@ use Rattle.std.specs.declared.alloc.Global.{Global}
 use Rattle.std.specs.declared.string.String.{String}
 use Rattle.dbp_plan.specs.declared.plan.Plan.{Plan}
 use Rattle.dbp_load.specs.Texts.{generated_text}
-use Rattle.party_exec.specs.Crews.{seed_of, turn_runs}
+use Rattle.party_exec.specs.Crews.{last_seed_of, seed_of, turn_runs}
 use Rattle.party_exec.specs.Entries.{entry_of}
 use Rattle.party_exec.specs.declared.crew_entry.CrewEntry.{CrewEntry}
 use Rattle.party_exec.specs.declared.turn_crew.TurnCrew.{TurnCrew}
@@ -41,18 +41,24 @@ RunsAfter WriteFault input old new = HasRefusedInput input old new ⊎ HasRunInp
 RunsAfter NoMemory input old new = (new ≡ old) ⊎ HasRunInput input old new
 RunsAfter TooLarge input old new = new ≡ old
 
+-- no run was made, or the last one drew from this number
+abbrev pub HasDrawn : ℕ → List CrewEntry → List CrewEntry → ℕ → Type 0
+HasDrawn seed old new last_seed = (new ≡ old) ⊎ (last_seed ≡ seed)
+
 -- the text whose plan a command runs: the generated one, or the input
 abbrev pub text_to_run : Command → Option (List ℕ) → Option (List ℕ)
 text_to_run (Soak seed size) input = Some (generated_text seed size)
 text_to_run command input = input
 
 module _ {C : Type 0} (runs : C → List CrewEntry) where
-  -- both crews after a call with this runner: a crew that doesn't run is as before; drawn turns begin at the command's number
+  -- both crews after a call with this runner: a crew that doesn't run is as before; drawn turns begin at the command's
+  -- number, and a run that was made drew from it
   abbrev pub CrewsAfter : Runner → Status → Option (List ℕ) → C → C → TurnCrew → TurnCrew → Type 0
   CrewsAfter nobody status input crew new_crew turns new_turns = (new_crew ≡ crew) × (new_turns ≡ turns)
   CrewsAfter the_crew status input crew new_crew turns new_turns = RunsAfter status input (runs crew) (runs new_crew) × (new_turns ≡ turns)
   CrewsAfter (drawn_turns seed) status input crew new_crew turns new_turns =
       (new_crew ≡ crew) × RunsAfter status input (turn_runs turns) (turn_runs new_turns) × (seed_of new_turns ≡ seed)
+      × HasDrawn seed (turn_runs turns) (turn_runs new_turns) (last_seed_of new_turns)
 
   -- both crews after a call with these words
   pub record Crews (words : List (String Global)) (status : Status) (input : Option (List ℕ)) (crew new_crew : C) (turns new_turns : TurnCrew) : Type 0 where

@@ -6,7 +6,7 @@ ghost use Rattle.dia_read.specs.declared.document.Doc.{Doc as Document};
 ghost use Rattle.sync_meaning.specs.SomeMeaning.{meaning_of};
 ghost use Rattle.trace_io.specs.Texts.{Accepts};
 ghost use Rattle.dbp_top.specs.Answer.{Answers, Makes};
-ghost use Rattle.dbp_top.specs.Runs.{RanOnce, RunsAfter, RunsAfterText};
+ghost use Rattle.dbp_top.specs.Runs.{HasDrawn, RanOnce, RunsAfter, RunsAfterText};
 ghost use Rattle.dbp_top.specs.Stops.{IsStopOf};
 ghost use Rattle.dbp_top.specs.declared.command.Command.TheVariants.{Run};
 ghost use Rattle.dbp_top.specs.declared.status.Status.TheVariants.{NoMemory as OutOfMemory};
@@ -36,6 +36,7 @@ pub(crate) fn run_answer<R: Threads + Wait + Sync, C: Crew>(
         (λ (status, text). RunsAfter status (Some input.now) (C.runs crew.old) (C.runs crew.new))
         (λ _. RunsAfter OutOfMemory (Some input.now) (C.runs crew.old) (C.runs crew.new)) }
     ensures seed { C.seed crew.new ≡ C.seed crew.old }
+    ensures drawn { HasDrawn (C.seed crew.old) (C.runs crew.old) (C.runs crew.new) (C.last_seed crew.new) }
 {
     match run_text(rt, alloc, input, crew) {
         Ok(text) => Ok((Status::Ok, text)),
@@ -56,6 +57,7 @@ fn run_text<R: Threads + Wait + Sync, C: Crew>(
     ensures stop { IfErr result (λ stop. (turns : Maybe ℕ) → IsStopOf input.now (Run turns) stop) }
     ensures runs { RunsAfterText input.now (C.runs crew.old) (C.runs crew.new) result }
     ensures seed { C.seed crew.new ≡ C.seed crew.old }
+    ensures drawn { HasDrawn (C.seed crew.old) (C.runs crew.old) (C.runs crew.new) (C.last_seed crew.new) }
 {
     let plan = plan_of(alloc, input)?;
     let table = run_table(rt, alloc, &plan, crew)?;
@@ -72,6 +74,7 @@ pub(crate) fn run_table<R: Threads + Wait + Sync, C: Crew>(
     ensures table { IfOk result (λ table. table ≡ meaning_of plan.now) }
     ensures runs { RanOnce plan.now (C.runs crew.old) (C.runs crew.new) result }
     ensures seed { C.seed crew.new ≡ C.seed crew.old }
+    ensures drawn { HasDrawn (C.seed crew.old) (C.runs crew.old) (C.runs crew.new) (C.last_seed crew.new) }
 {
     let (words, mut parties) = parties(alloc, plan)?;
     crew.prepare(plan)?;

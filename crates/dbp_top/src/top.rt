@@ -6,7 +6,7 @@ ghost use Rattle.dbp_load.specs.Texts.{generated_text};
 ghost use Rattle.dbp_top.specs.Commands.{reads_input, serves_all, serves_plain};
 ghost use Rattle.dbp_top.specs.Ends.{Answered, Ends, EndsAs};
 ghost use Rattle.dbp_top.specs.Outside.{status_of_read};
-ghost use Rattle.dbp_top.specs.Runs.{Crews, RunsAfter};
+ghost use Rattle.dbp_top.specs.Runs.{Crews, HasDrawn, RunsAfter};
 ghost use Rattle.dbp_top.specs.declared.command.Command.TheVariants.{Gen, Run, Soak};
 
 use crate::Status;
@@ -153,6 +153,7 @@ fn run_ending<R: Threads + Wait + Sync, S: Source, K: Sink, C: Crew>(
         (Run turns) source.old source.new sink.old sink.new result }
     ensures runs { RunsAfter result (S.left source.old) (C.runs crew.old) (C.runs crew.new) }
     ensures seed { C.seed crew.new ≡ C.seed crew.old }
+    ensures drawn { HasDrawn (C.seed crew.old) (C.runs crew.old) (C.runs crew.new) (C.last_seed crew.new) }
 {
     let input = match read_all(alloc, source, MAX_DOCUMENT) {
         Ok(input) => input,

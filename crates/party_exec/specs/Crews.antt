@@ -26,3 +26,7 @@ turn_ready c = plan_ready c.runs.next
 
 abbrev pub seed_of : TurnCrew → ℕ
 seed_of c = c.seed
+
+-- the number from which its last run drew
+abbrev pub last_seed_of : TurnCrew → ℕ
+last_seed_of c = c.last_seed

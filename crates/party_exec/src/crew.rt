@@ -27,11 +27,15 @@ pub trait Crew {
     /// The number from which it draws the order of turns; 0 if it draws nothing.
     ghost seed: { Self → ℕ };
 
+    /// The number from which its last run drew; 0 if it has made none.
+    ghost last_seed: { Self → ℕ };
+
     /// Takes all memory that a run of the plan needs.
     fn prepare(&mut self, plan: &Plan) -> Result<(), NoMemory>
         ensures runs { runs self.new ≡ runs self.old }
         ensures ready { IfOk result (λ _. ready self.new ≡ Some plan.now) }
-        ensures seed { seed self.new ≡ seed self.old };
+        ensures seed { seed self.new ≡ seed self.old }
+        ensures last_seed { last_seed self.new ≡ last_seed self.old };
 
     /// Runs the parties of a table that have made no step, until each has finished. It takes no memory, and may wait.
     fn run<R: Threads + Wait + Sync>(&mut self, rt: &R, words: &SlotWords, parties: &mut [Party])
@@ -42,5 +46,6 @@ pub trait Crew {
         ensures finished { HaveFinished words.now parties.new }
         ensures runs { runs self.new ≡ runs self.old ++ entry_of words.now.plan ∷ [] }
         ensures ready { ready self.new ≡ None }
-        ensures seed { seed self.new ≡ seed self.old };
+        ensures seed { seed self.new ≡ seed self.old }
+        ensures last_seed { last_seed self.new ≡ seed self.old };
 }

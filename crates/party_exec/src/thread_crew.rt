@@ -84,6 +84,8 @@ impl Crew for ThreadCrew<FreePace> {
 
     ghost seed = { no_seed };
 
+    ghost last_seed = { no_seed };
+
     fn prepare(&mut self, plan: &Plan) -> Result<(), NoMemory> {
         self.prepare_paced(plan)
     }

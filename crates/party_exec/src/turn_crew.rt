@@ -1,7 +1,7 @@
 // A crew of one thread, which draws the turns.
 
 ghost use Rattle.std.specs.Prelude.{◌≡◌, ◌<◌, ◌≤◌, ◌-◌, [], ◌∷◌, ◌++◌, ℕ, All, None, Some, length};
-ghost use Rattle.party_exec.specs.Crews.{seed_of, turn_ready, turn_runs};
+ghost use Rattle.party_exec.specs.Crews.{last_seed_of, seed_of, turn_ready, turn_runs};
 ghost use Rattle.party_exec.specs.Draws.{HaveDrawnRounds, IsDrawnRound, MakeTurnsBetween, after_draw, after_draws, after_round, turn_count};
 ghost use Rattle.party_exec.specs.Entries.{entry_of};
 ghost use Rattle.party_exec.specs.Jobs.{MakesTurns};
@@ -27,6 +27,8 @@ use word_rule::SlotWords;
 #[derive(Drop)]
 pub struct TurnCrew {
     pub(crate) seed: u64,
+    // the seed of its last run; 0 before it has made one
+    pub(crate) last_seed: u64,
     pub(crate) runs: Runs,
 }
 
@@ -34,11 +36,13 @@ impl TurnCrew {
     /// A crew without runs.
     pub fn new(alloc: Global, seed: u64) -> TurnCrew
         ensures seed { seed_of result ≡ seed }
+        ensures last_seed { last_seed_of result ≡ 0 }
         ensures runs { turn_runs result ≡ [] }
         ensures ready { turn_ready result ≡ None }
     {
         TurnCrew {
             seed,
+            last_seed: 0,
             runs: Runs::new(alloc),
         }
     }
@@ -46,6 +50,7 @@ impl TurnCrew {
     /// Sets the number from which the next runs draw.
     pub fn seed(&mut self, seed: u64)
         ensures seed { seed_of self.new ≡ seed }
+        ensures last_seed { last_seed_of self.new ≡ last_seed_of self.old }
         ensures runs { turn_runs self.new ≡ turn_runs self.old }
         ensures ready { turn_ready self.new ≡ turn_ready self.old }
     {
@@ -61,13 +66,15 @@ impl TurnCrew {
 }
 
 impl Crew for TurnCrew {
-    ghost use Rattle.party_exec.specs.Crews.{seed_of, turn_ready, turn_runs};
+    ghost use Rattle.party_exec.specs.Crews.{last_seed_of, seed_of, turn_ready, turn_runs};
 
     ghost runs = { turn_runs };
 
     ghost ready = { turn_ready };
 
     ghost seed = { seed_of };
+
+    ghost last_seed = { last_seed_of };
 
     fn prepare(&mut self, plan: &Plan) -> Result<(), NoMemory> {
         self.runs.prepare(plan)
@@ -83,9 +90,11 @@ impl Crew for TurnCrew {
         ensures runs { turn_runs self.new ≡ turn_runs self.old ++ entry_of words.now.plan ∷ [] }
         ensures ready { turn_ready self.new ≡ None }
         ensures seed { seed_of self.new ≡ seed_of self.old }
+        ensures last_seed { last_seed_of self.new ≡ seed_of self.old }
     {
         run_drawn_rounds(rt, self.seed, words, parties);
         self.runs.close(words, parties);
+        self.last_seed = self.seed;
     }
 }
 

@@ -1,8 +1,8 @@
-use Rattle.std.proofs.Common.{rules, List, Some, None, refl, subst, ◌∙◌}
-use Rattle.party_exec.specs.Crews.{turn_runs}
+use Rattle.std.proofs.Common.{rules, List, Some, None, refl, subst, inl, inr, ◌∙◌}
+use Rattle.party_exec.specs.Crews.{last_seed_of, turn_runs}
 use Rattle.party_exec.specs.declared.crew_entry.CrewEntry.{CrewEntry}
 use Rattle.dbp_top.specs.Commands.{Names, runner_of, serves_all}
-use Rattle.dbp_top.specs.Runs.{CrewsAfter, RunsAfter, text_to_run}
+use Rattle.dbp_top.specs.Runs.{CrewsAfter, HasDrawn, RunsAfter, text_to_run}
 use Rattle.dbp_top.specs.declared.command.Command.{Command}
 use Rattle.dbp_top.specs.declared.command.Command.TheVariants.{Run, Soak}
 use Rattle.dbp_top.proofs.CommandRows.{one-command}
@@ -43,10 +43,12 @@ returns-in-Some-Run-Some-clause-crews g c =
     let status = c.run_ending-in-Some-Run-Some.result in
     let runs : RunsAfter status input (turn_runs turns) (turn_runs new_turns) =
     subst (λ (old : List CrewEntry). RunsAfter status input old (turn_runs new_turns)) c.seed.ensures.runs c.run_ending-in-Some-Run-Some.ensures.runs in
+    let drawn : HasDrawn seed (turn_runs turns) (turn_runs new_turns) (last_seed_of new_turns) =
+    elim c.run_ending-in-Some-Run-Some.ensures.drawn [ inl same ↦ inl (same ∙ c.seed.ensures.runs) | inr last ↦ inr (last ∙ c.seed.ensures.seed) ] in
     record {
       named = λ command other.
           subst (λ (d : Command). CrewsAfter g.C.Crew.runs (runner_of d) status (text_to_run d input) c.args.crew.now c.args.crew.now turns new_turns)
-          (one-command c.args.words.now (Run (Some seed)) command named other) (refl, runs, c.run_ending-in-Some-Run-Some.ensures.seed ∙ c.seed.ensures.seed);
+          (one-command c.args.words.now (Run (Some seed)) command named other) (refl, runs, c.run_ending-in-Some-Run-Some.ensures.seed ∙ c.seed.ensures.seed, drawn);
       unnamed = λ none. absurd (none (Run (Some seed)) named);
     }
 
