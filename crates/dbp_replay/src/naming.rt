@@ -128,27 +128,19 @@ fn within(len: usize, place: usize) -> Option<u32>
 fn task_place(tasks: &[Task], name: &Name) -> usize
     ensures { result ≡ position_or_len (λ t. bytes_eq t.name name.now) tasks.now }
 {
-    tasks
-        .iter()
-        .take_while(|task| task.name != *name)
-        .count()
+    tasks.iter().take_while(|task| task.name != *name).count()
 }
 
 fn read_place(reads: &[Read], name: &Name) -> usize
     ensures { result ≡ position_or_len (λ r. bytes_eq r.name name.now) reads.now }
 {
-    reads
-        .iter()
-        .take_while(|read| read.name != *name)
-        .count()
+    reads.iter().take_while(|read| read.name != *name).count()
 }
 
 fn port_place(outs: &[Out], name: &Name) -> usize
     ensures { result ≡ position_or_len (λ o. bytes_eq o.name name.now) outs.now }
 {
-    outs.iter()
-        .take_while(|out| out.name != *name)
-        .count()
+    outs.iter().take_while(|out| out.name != *name).count()
 }
 
 fn is_link(link: &Link, writer: u32, reader: u32, delay: u32) -> bool
