@@ -127,7 +127,7 @@ fn hold_up<R: Abort + Threads + Wait + Sync>(
     plan: &Plan,
     task: u32,
 ) -> Result<(), Fail> {
-    let pace = Holding::new(task, 1000);
+    let pace = Holding::new(task, 100);
     assert!(rt; makes_meaning_at(rt, alloc, &pace, plan)?);
     assert_eq!(rt; pace.miscounted.load(Ordering::SeqCst), 0);
     assert!(rt; pace.turns.load(Ordering::SeqCst) > 0);
