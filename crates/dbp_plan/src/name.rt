@@ -67,6 +67,7 @@ impl Name {
     }
 
     /// Whether this is the other name.
+    #[inline(always)]
     pub fn is(&self, other: &Name) -> bool
         ensures { IsTrue result ↔ (self.now ≡ other.now) }
     {
@@ -84,6 +85,7 @@ impl PartialEq for Name {
 
     ghost laws = { partial_equiv_from_equiv nat_list_eq_equiv };
 
+    #[inline(always)]
     fn eq(&self, other: &Name) -> bool {
         self.is(other)
     }

@@ -1,5 +1,10 @@
 -- The words that begin the lines of a script, as tokens.
-use Rattle.std.proofs.Common.{◌≡◌, ℕ, ◌≤◌, true, List, ◌∷◌, ◌++◌, length, Some, refl, arith}
+use Rattle.std.proofs.Common.{◌≡◌, ℕ, ◌≤◌, true, List, ◌∷◌, ◌++◌, ap, get_or, length, Some, refl, arith}
+use Rattle.std.specs.Prelude.{◌==◌}
+use Rattle.std.specs.Str.{bytes_eq}
+use Rattle.std.proofs.lemmas.Bool.Decides.{Decides-eqb}
+use Rattle.std.proofs.lemmas.Slice.Eq.{bytes_eq-Decides}
+use Rattle.dbp_plan.proofs.Searches.{find-filter}
 use Rattle.std.specs.List.{list_all}
 use Rattle.std.proofs.lemmas.List.Sums.{AllPass-from_list_all}
 use Rattle.dbp_plan.specs.declared.limits.TheConstants.{MAX_NAME}
@@ -15,7 +20,7 @@ use Rattle.dia_tokens.specs.TokenText.{line_text, text_after}
 use Rattle.dia_tokens.specs.Words.{word_of}
 use Rattle.dbp_rules.specs.declared.kind.StepKind.{StepKind}
 use Rattle.dbp_rules.specs.declared.kind.StepKind.TheVariants.{Done}
-use Rattle.dbp_replay.specs.StepForms.{form_of, kind_with, name_text}
+use Rattle.dbp_replay.specs.StepForms.{all_kinds, form_of, kind_among, kind_with, kinds_from, name_text}
 
 -- the token of a kind's word: only `done` is a reserved word
 abbrev pub first_token : StepKind → Token
@@ -42,3 +47,10 @@ kind-again k = refl
 pub first-unsigned : (k : StepKind) → IsUnsigned (first_token k)
 first-unsigned Done = tt
 first-unsigned k = tt
+
+-- a word is looked for among those alone that begin as it does
+pub among_from : (first : ℕ) (others : List ℕ) → kind_among (kinds_from first) (first ∷ others) ≡ kind_with (first ∷ others)
+unfolding kinds_from
+among_from first others =
+    find-filter (λ k. bytes_eq (form_of k).0 (first ∷ others)) (λ k. get_or (form_of k).0 0 0 == first)
+    (λ k e. (Decides-eqb _ _).1 (ap (λ (l : List ℕ). get_or l 0 0) ((bytes_eq-Decides (form_of k).0 (first ∷ others)).0 e))) all_kinds

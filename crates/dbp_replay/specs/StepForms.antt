@@ -1,6 +1,6 @@
 -- The lines of a script: their forms, and the steps that they name in a diagram.
-use Rattle.std.specs.Prelude.{ℕ, ℤ, pos, negsuc, ◌^◌, ◌==◌, ◌&&◌, Bool, nat_lt, if◌then◌else◌, codes, List, [], ◌∷◌, length, Option, Some, None, Result, Ok, Err}
-use Rattle.std.specs.List.{find, position_or_len}
+use Rattle.std.specs.Prelude.{ℕ, ℤ, pos, negsuc, ◌^◌, get_or, ◌==◌, ◌&&◌, Bool, nat_lt, if◌then◌else◌, codes, List, [], ◌∷◌, length, Option, Some, None, Result, Ok, Err}
+use Rattle.std.specs.List.{filter, find, position_or_len}
 use Rattle.std.specs.Str.{bytes_eq}
 use Rattle.dbp_rules.specs.declared.step.Step.{Step}
 use Rattle.dbp_rules.specs.declared.step.Step.TheVariants as step
@@ -44,6 +44,10 @@ all_kinds = Seen ∷ Aim ∷ Claim ∷ OpenGate ∷ Start ∷ Hear ∷ Look ∷ 
 -- the first of the kinds that has the word
 abbrev pub kind_among : List StepKind → List ℕ → Option StepKind
 kind_among kinds text = find (λ k. bytes_eq (form_of k).0 text) kinds
+
+-- the kinds whose word begins with this byte
+unfoldable pub kinds_from : ℕ → List StepKind
+kinds_from first = filter (λ k. get_or (form_of k).0 0 0 == first) all_kinds
 
 abbrev pub kind_with : List ℕ → Option StepKind
 kind_with text = kind_among all_kinds text

@@ -1,8 +1,7 @@
 // The table of the forms of script lines.
 
 ghost use Rattle.std.specs.Prelude.{◌≡◌, [], ◌∷◌, ◌++◌};
-ghost use Rattle.std.specs.Str.{bytes_eq};
-ghost use Rattle.dbp_replay.specs.StepForms.{all_kinds, form_of, kind_among, kind_with};
+ghost use Rattle.dbp_replay.specs.StepForms.{form_of, kind_among, kind_with, kinds_from};
 
 use dbp_core::StepKind;
 
@@ -74,43 +73,40 @@ pub(crate) fn takes_of(kind: StepKind) -> Takes
     }
 }
 
-fn all_kinds() -> &'static [StepKind]
-    ensures { result.now ≡ all_kinds }
+/// The kinds whose word begins with this byte.
+#[tactic(auto, unfolding(crate::specs::StepForms::kinds_from))]
+fn kinds_from(first: u8) -> &'static [StepKind]
+    ensures { result.now ≡ kinds_from first }
 {
-    &[
-        StepKind::Seen,
-        StepKind::Aim,
-        StepKind::Claim,
-        StepKind::OpenGate,
-        StepKind::Start,
-        StepKind::Hear,
-        StepKind::Look,
-        StepKind::Take,
-        StepKind::Shut,
-        StepKind::Put,
-        StepKind::Done,
-        StepKind::End,
-    ]
-}
-
-// Whether the text is the word of the kind. First bytes mostly say that it isn't.
-fn is_word(kind: StepKind, text: &[u8]) -> bool
-    ensures { result ≡ bytes_eq (form_of kind).0 text.now }
-{
-    let word = word_of(kind);
-    word.first() == text.first() && word == text
+    match first {
+        b'a' => &[StepKind::Aim],
+        b'c' => &[StepKind::Claim],
+        b'd' => &[StepKind::Done],
+        b'e' => &[StepKind::End],
+        b'h' => &[StepKind::Hear],
+        b'l' => &[StepKind::Look],
+        b'o' => &[StepKind::OpenGate],
+        b'p' => &[StepKind::Put],
+        b's' => &[StepKind::Seen, StepKind::Start, StepKind::Shut],
+        b't' => &[StepKind::Take],
+        _ => &[],
+    }
 }
 
 /// The first of the kinds that has the word.
 fn kind_among(kinds: &[StepKind], text: &[u8]) -> Option<StepKind>
     ensures { result ≡ kind_among kinds.now text.now }
 {
-    kinds.iter().find(|kind| is_word(**kind, text)).copied()
+    kinds.iter().find(|kind| word_of(**kind) == text).copied()
 }
 
 /// The kind of the lines that begin with the word.
+#[tactic(auto, using(crate::proofs::StepWords::among_from))]
 pub(crate) fn kind_with(text: &[u8]) -> Option<StepKind>
     ensures { result ≡ kind_with text.now }
 {
-    kind_among(all_kinds(), text)
+    match text {
+        [first, ..] => kind_among(kinds_from(*first), text),
+        [] => None,
+    }
 }

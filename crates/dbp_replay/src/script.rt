@@ -15,7 +15,7 @@ use dbp_core::Step;
 use dbp_plan::{Diagram, List, NoMemory};
 use dia_lines::next_line;
 use dia_read::Doc;
-use dia_tokens::{LineFail, tokens};
+use dia_tokens::{LineFail, Token, tokens_into};
 use std::alloc::Global;
 
 /// The steps that the lines of the document's script name, in order. Tasks, links, reads and outs are those of the
@@ -42,10 +42,11 @@ pub fn read_script(alloc: Global, diagram: &Diagram, doc: &Doc) -> Result<List<S
     };
     let lines = doc.lines.script.items();
     let mut steps = List::new(alloc);
+    let mut tokens = Vec::new(alloc);
     let mut rest = text.items();
     while !rest.is_empty() {
         let (line, after) = next_line(rest);
-        match step_on(alloc, diagram, line)? {
+        match step_on(diagram, line, &mut tokens)? {
             Ok(step) => steps.push(step)?,
             Err(code) => return refused(lines[steps.len() as usize], code),
         }
@@ -61,17 +62,17 @@ fn refused(line: u32, code: ScriptCode) -> Result<List<Step>, ScriptFail>
     Err(ScriptFail::Refused { line, code })
 }
 
-/// What a kept line says: a step, or a fault.
+/// What a kept line says: a step, or a fault. Its tokens take the place of those in the list.
 fn step_on(
-    alloc: Global,
     diagram: &Diagram,
     line: &[u8],
+    tokens: &mut Vec<Token>,
 ) -> Result<Result<Step, ScriptCode>, NoMemory>
     requires { SaysInScript line.now (kept_step line.now) }
     ensures { IfOk result (λ said. Says diagram.now line.now said) }
 {
-    match tokens(alloc, line) {
-        Ok(tokens) => Ok(step_of(diagram, &tokens)),
+    match tokens_into(line, tokens) {
+        Ok(()) => Ok(step_of(diagram, tokens)),
         Err(fail) => Err(want_of_memory(fail)),
     }
 }

@@ -39,6 +39,7 @@ fn symbol_kind_at(byte: u8) -> Kind
     }
 }
 
+#[inline(always)]
 #[tactic(auto, unfolding(crate::specs::Kinds::kind_of))]
 pub(crate) fn kind_at(byte: u8) -> Kind
     ensures { result ≡ kind_of byte }

@@ -1,6 +1,6 @@
 // The text of a line's first token.
 
-ghost use Rattle.std.specs.Prelude.{◌≡◌, ◌+◌, ◌<◌, ◌≤◌, true, drop, length};
+ghost use Rattle.std.specs.Prelude.{◌≡◌, ◌<◌, ◌≤◌, length};
 ghost use Rattle.std.specs.List.{prefix_len};
 ghost use Rattle.dia_tokens.specs.Fronts.{front};
 ghost use Rattle.dia_tokens.specs.Kinds.{is_name, is_digit, is_blank, is_equals};
@@ -22,38 +22,11 @@ pub(crate) enum Front<'a> {
     Found(Piece<'a>, &'a [u8]),
 }
 
-// How many bytes at the front stand in names, by whole fours.
-fn fours_len(line: &[u8]) -> usize
-    ensures value { prefix_len is_name line.now
-        ≡ result + prefix_len is_name (drop result line.now) }
-    ensures within { result ≤ length line.now }
-{
-    let mut len = 0;
-    let mut rest = line;
-    while let [a, b, c, d, after @ ..] = rest {
-        if !(is_name_byte(*a) & is_name_byte(*b) & is_name_byte(*c) & is_name_byte(*d)) {
-            return len;
-        }
-        len += 4;
-        rest = after;
-    }
-    len
-}
-
-// How many bytes at the front stand in names, one by one.
-fn ones_len(line: &[u8]) -> usize
-    ensures value { result ≡ prefix_len is_name line.now }
-    ensures within { result ≤ length line.now }
-{
-    line.iter().take_while(|byte| is_name_byte(**byte)).count()
-}
-
 fn name_len(line: &[u8]) -> usize
     ensures value { result ≡ prefix_len is_name line.now }
     ensures within { result ≤ length line.now }
 {
-    let fours = fours_len(line);
-    fours + ones_len(&line[fours..])
+    line.iter().take_while(|byte| is_name_byte(**byte)).count()
 }
 
 fn digits_len(line: &[u8]) -> usize
@@ -71,6 +44,7 @@ fn blank_len(line: &[u8]) -> usize
 }
 
 /// The name or the reserved word at the front.
+#[inline(always)]
 fn name_token<'a>(line: &'a [u8]) -> Front<'a>
     ensures { front result ≡ name_in line.now }
 {
@@ -121,6 +95,7 @@ fn begins_equals(line: &[u8]) -> bool
 }
 
 /// The token that begins with a byte of the kind.
+#[inline(always)]
 fn token_of_kind<'a>(signed: bool, kind: Kind, line: &'a [u8]) -> Front<'a>
     requires { 0 < length line.now }
     ensures { front result ≡ front_of signed kind line.now }
@@ -156,6 +131,7 @@ fn token_of_kind<'a>(signed: bool, kind: Kind, line: &'a [u8]) -> Front<'a>
 }
 
 /// The first token, after the blanks.
+#[inline(always)]
 #[tactic(auto, unfolding(crate::specs::Reading::token_at))]
 pub(crate) fn next_token<'a>(signed: bool, line: &'a [u8]) -> Front<'a>
     ensures { front result ≡ token_at signed line.now }

@@ -79,17 +79,17 @@ fn push_token(out: &mut Vec<Token>, token: Token, len: usize) -> Result<(), NoMe
     Ok(())
 }
 
-/// The tokens of a line, or its first fault.
-fn read(alloc: Global, line: &[u8]) -> Result<Vec<Token>, LineFail>
-    ensures found { IfOk result (λ ts. Spells line.now ts.items) }
+/// Reads a line: its tokens, which take the place of the list's, or its first fault.
+fn read(line: &[u8], out: &mut Vec<Token>) -> Result<(), LineFail>
+    ensures found { OnOk result (Spells line.now out.new.items) }
     ensures fault { IfErr result (λ e. Refuses line.now e) }
     ensures bad_byte { list_all is_allowed line.now ≡ false → result ≡ Err BadByte }
     ensures bad_token { HasBadStart line.now → result ≡ Err BadToken }
 {
+    out.clear();
     if !all_allowed(line) {
         return Err(LineFail::BadByte);
     }
-    let mut out = Vec::new(alloc);
     let mut fault = None;
     let mut signed = true;
     let mut rest = line;
@@ -98,13 +98,13 @@ fn read(alloc: Global, line: &[u8]) -> Result<Vec<Token>, LineFail>
             Front::Nothing => {
                 return match fault {
                     Some(fail) => Err(LineFail::from(fail)),
-                    None => Ok(out),
+                    None => Ok(()),
                 };
             }
             Front::Bad => return Err(LineFail::BadToken),
             Front::Found(piece, after) => {
                 match token_of(piece) {
-                    Ok(token) => push_token(&mut out, token, line.len())?,
+                    Ok(token) => push_token(out, token, line.len())?,
                     Err(fail) => fault = Some(first_fault(fault, fail)),
                 }
                 signed = may_sign(piece);
@@ -112,6 +112,27 @@ fn read(alloc: Global, line: &[u8]) -> Result<Vec<Token>, LineFail>
             }
         }
     }
+}
+
+/// The tokens of a line, which take the place of those in the list, or the line's first fault. For a caller who reads
+/// many lines: the list's room is used again. After a refusal it holds the tokens before the fault.
+pub fn tokens_into(line: &[u8], out: &mut Vec<Token>) -> Result<(), LineFail>
+    // The line spells the tokens.
+    ensures found { OnOk result (Spells line.now out.new.items) }
+    // Tokens that the line spells are given, unless memory runs out.
+    ensures only { (ts : List Spelled) → Spells line.now ts
+        → MatchResult result (λ _. out.new.items ≡ ts) (λ e. e ≡ OutOfMemory) }
+    // A refusal says the line's first fault, unless memory ran out.
+    ensures fault { IfErr result (λ e. Refuses line.now e) }
+    // A line with a byte that isn't allowed is refused before any memory is taken.
+    ensures bad_byte { list_all is_allowed line.now ≡ false → result ≡ Err BadByte }
+    // So is a line that begins with a text that makes no token.
+    ensures bad_token { HasBadStart line.now → result ≡ Err BadToken }
+    // A line with a first fault is refused with it, unless memory runs out.
+    ensures refused { (f : Fault) → HasFault line.now f
+        → MatchResult result (λ _. ⊥) (λ e. (e ≡ OutOfMemory) ⊎ (e ≡ f)) }
+{
+    read(line, out)
 }
 
 /// The tokens of a line, or its first fault.
@@ -131,5 +152,7 @@ pub fn tokens(alloc: Global, line: &[u8]) -> Result<Vec<Token>, LineFail>
     ensures refused { (f : Fault) → HasFault line.now f
         → MatchResult result (λ _. ⊥) (λ e. (e ≡ OutOfMemory) ⊎ (e ≡ f)) }
 {
-    read(alloc, line)
+    let mut out = Vec::new(alloc);
+    tokens_into(line, &mut out)?;
+    Ok(out)
 }

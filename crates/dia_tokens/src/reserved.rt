@@ -50,6 +50,7 @@ fn word_among(words: &[Word], text: &[u8]) -> Option<Word>
 }
 
 /// A reserved word, or else a name. Words have 2 to 8 bytes.
+#[inline(always)]
 #[tactic(auto, using(crate::proofs::WordLaws::among_from, crate::proofs::WordLaws::no_word), unfolding(crate::specs::Words::word_of))]
 pub(crate) fn word_or_name<'a>(text: &'a [u8]) -> Piece<'a>
     ensures { seen result ≡ word_of text.now }

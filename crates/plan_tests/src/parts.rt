@@ -16,6 +16,18 @@ fn lists_grow(rt: HostRuntime) -> Result<(), Fail> {
     Ok(())
 }
 
+#[test]
+fn a_list_with_room_begins_empty(rt: HostRuntime) -> Result<(), Fail> {
+    let mut list = List::with_capacity(rt.alloc(), 2)?;
+    assert!(rt; list.items().is_empty());
+    list.push(7)?;
+    list.push(8)?;
+    assert_eq!(rt; list.items(), [7, 8].as_slice());
+    list.push(9)?;
+    assert_eq!(rt; list.items(), [7, 8, 9].as_slice());
+    Ok(())
+}
+
 static NODES: &[Node<u32>] = &[
     Node::Var(1),
     Node::Num(2),

@@ -3,7 +3,7 @@
 use dbp_plan::{BinOp, Expr, MAX_NODES, Name, Node, UnOp};
 use dia_exprs::{MAX_DEPTH, depth, expression, node_tokens};
 use dia_lines::{Limit, Line, Part, Position, ReadCode, read_line};
-use dia_tokens::{Symbol, Token, Word, line_spelling, tokens};
+use dia_tokens::{Symbol, Token, Word, line_spelling, tokens, tokens_into};
 use std::alloc::Global;
 use std::test::Fail;
 
@@ -21,6 +21,16 @@ fn tokens_of_a_line(rt: HostRuntime) -> Result<(), Fail> {
             ]
         )
     );
+    Ok(())
+}
+
+#[test]
+fn tokens_take_the_place_of_others(rt: HostRuntime) -> Result<(), Fail> {
+    let mut held = Vec::new(rt.alloc());
+    tokens_into(b"a b c", &mut held)?;
+    assert_eq!(rt; held.len(), 3);
+    tokens_into(b"done 5", &mut held)?;
+    assert!(rt; matches!(held.as_slice(), [Token::Word(Word::Done), Token::Number(5)]));
     Ok(())
 }
 

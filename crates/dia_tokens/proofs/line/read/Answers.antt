@@ -11,7 +11,7 @@ pub returns-then-not-all_allowed-clause-fault : goal.returns-then-not-all_allowe
 returns-then-not-all_allowed-clause-fault c = a_bad_byte c.args.line.now (search rules)
 
 pub loop-fail-init : goal.loop-fail-init
-loop-fail-init c = rw c.new-out.ensures.items (Reads-starts c.args.line.now)
+loop-fail-init c = rw c.clear.ensures.items (Reads-starts c.args.line.now)
 
 pub returns-in-Some-clause-fault : goal.returns-in-Some-clause-fault
 returns-in-Some-clause-fault c = rw c.from.ensures (Reads-faulty (rw c.in-Some.is at c.loop-fail.invariant) c.in-Nothing.ensures (search rules))
