@@ -115,13 +115,15 @@ fn read(line: &[u8], out: &mut Vec<Token>) -> Result<(), LineFail>
 }
 
 /// The tokens of a line, which take the place of those in the list, or the line's first fault. For a caller who reads
-/// many lines: the list's room is used again. After a refusal it holds the tokens before the fault.
+/// many lines: the list's room is used again.
 pub fn tokens_into(line: &[u8], out: &mut Vec<Token>) -> Result<(), LineFail>
     // The line spells the tokens.
     ensures found { OnOk result (Spells line.now out.new.items) }
     // Tokens that the line spells are given, unless memory runs out.
     ensures only { (ts : List Spelled) → Spells line.now ts
         → MatchResult result (λ _. out.new.items ≡ ts) (λ e. e ≡ OutOfMemory) }
+    // After a refusal the list is empty.
+    ensures empty { IfErr result (λ _. out.new.items ≡ []) }
     // A refusal says the line's first fault, unless memory ran out.
     ensures fault { IfErr result (λ e. Refuses line.now e) }
     // A line with a byte that isn't allowed is refused before any memory is taken.
@@ -132,7 +134,13 @@ pub fn tokens_into(line: &[u8], out: &mut Vec<Token>) -> Result<(), LineFail>
     ensures refused { (f : Fault) → HasFault line.now f
         → MatchResult result (λ _. ⊥) (λ e. (e ≡ OutOfMemory) ⊎ (e ≡ f)) }
 {
-    read(line, out)
+    match read(line, out) {
+        Ok(()) => Ok(()),
+        Err(fail) => {
+            out.clear();
+            Err(fail)
+        }
+    }
 }
 
 /// The tokens of a line, or its first fault.

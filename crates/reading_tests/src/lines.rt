@@ -31,6 +31,8 @@ fn tokens_take_the_place_of_others(rt: HostRuntime) -> Result<(), Fail> {
     assert_eq!(rt; held.len(), 3);
     tokens_into(b"done 5", &mut held)?;
     assert!(rt; matches!(held.as_slice(), [Token::Word(Word::Done), Token::Number(5)]));
+    assert!(rt; tokens_into(b"a ?", &mut held).is_err());
+    assert!(rt; held.is_empty());
     Ok(())
 }
 
