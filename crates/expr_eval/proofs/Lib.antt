@@ -3,4 +3,4 @@ pub mod FrontOrders
 pub mod LetUses
 pub mod Listed
 pub mod Searches
-pub mod Values
+pub mod StackRuns

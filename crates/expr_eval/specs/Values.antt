@@ -7,7 +7,7 @@ use Rattle.dbp_plan.specs.declared.node.BinOp.TheVariants.{Add, Sub, Mul, Div, R
 use Rattle.dbp_plan.specs.declared.node.UnOp.{UnOp}
 use Rattle.dbp_plan.specs.declared.node.UnOp.TheVariants.{Neg, Not}
 use Rattle.dbp_plan.specs.declared.node.Node.{Node}
-use Rattle.dbp_plan.specs.declared.node.Node.TheVariants.{Num, Var, Un, Bin, Pick}
+use Rattle.dbp_plan.specs.declared.node.Node.TheVariants.{Var}
 use Rattle.dbp_plan.specs.declared.expr.Expr.{Expr}
 use Rattle.dbp_plan.specs.Expr.{tree_of}
 use Rattle.dbp_plan.specs.Tree.{Tree, number, variable, unary, binary, choice}
@@ -70,15 +70,6 @@ tree_value env (choice c y n) = value_of_choice (tree_value env c) (tree_value e
 -- the value of an expression
 abbrev pub value_of : Expr ℕ → List ℤ → ℤ
 value_of e env = tree_value env (tree_of e)
-
--- the value of a node, if its operands are places of values
-abbrev pub value_of_node : List ℤ → List ℤ → Node ℕ → ℤ
-value_of_node env values (Num z) = z
-value_of_node env values (Var v) = slice_index_or env v (pos 0)
-value_of_node env values (Un op a) = value_of_unary op (slice_index_or values a (pos 0))
-value_of_node env values (Bin op a b) = value_of_binary op (slice_index_or values a (pos 0)) (slice_index_or values b (pos 0))
-value_of_node env values (Pick c a b) =
-    value_of_choice (slice_index_or values c (pos 0)) (slice_index_or values a (pos 0)) (slice_index_or values b (pos 0))
 
 -- a variable of the node is below the bound
 abbrev pub VariableBelow : ℕ → Node ℕ → Type 0

@@ -3,8 +3,7 @@
 
 ghost use Rattle.std.specs.Prelude.{◌≡◌, ◌<◌, ◌≤◌, length};
 ghost use Rattle.dbp_plan.specs.LetOrder.{VariablesBelow};
-ghost use Rattle.dbp_plan.specs.Operands.{OperandsBelow};
-ghost use Rattle.expr_eval.specs.Values.{value_of, value_of_node, VariableBelow};
+ghost use Rattle.expr_eval.specs.Values.{value_of};
 
 mod cycle;
 mod operator;
@@ -31,36 +30,39 @@ pub fn eval(expr: &Expr<u32>, env: &[i64]) -> i64
     }
 }
 
-// The same, in room for the value of each node.
-fn eval_in(expr: &Expr<u32>, env: &[i64], values: &mut [i64]) -> i64
+// The same, on a stack. Of the values that no operator has taken yet, the latest is `last`, and those before it are the
+// first `height` words of the stack. Before the first node `last` is a 0, which no operator takes.
+fn eval_in(expr: &Expr<u32>, env: &[i64], stack: &mut [i64]) -> i64
     requires variables { VariablesBelow (length env.now) expr.now.nodes }
-    requires room { length expr.now.nodes ≤ length values.old }
+    requires room { length expr.now.nodes ≤ length stack.old }
     ensures { result ≡ value_of expr.now env.now }
 {
-    let nodes = expr.nodes.items();
-    for i in 0..nodes.len() {
-        values[i] = node_value(nodes[i], values, env);
-    }
-    values[nodes.len() - 1]
-}
-
-// The value of a node, from those of the nodes before it.
-fn node_value(node: Node<u32>, values: &[i64], env: &[i64]) -> i64
-    requires operands { OperandsBelow (length values.now) node }
-    requires variable { VariableBelow (length env.now) node }
-    ensures { result ≡ value_of_node env.now values.now node }
-{
-    match node {
-        Node::Num(word) => word,
-        Node::Var(place) => env[place as usize],
-        Node::Un(operator, place) => unary(operator, values[place as usize]),
-        Node::Bin(operator, left, right) => {
-            binary(operator, values[left as usize], values[right as usize])
+    let mut nodes = expr.nodes.items();
+    let mut last = 0;
+    let mut height = 0;
+    while let [node, rest @ ..] = nodes {
+        nodes = rest;
+        match *node {
+            Node::Num(word) => {
+                stack[height] = last;
+                height += 1;
+                last = word;
+            }
+            Node::Var(place) => {
+                stack[height] = last;
+                height += 1;
+                last = env[place as usize];
+            }
+            Node::Un(operator, _) => last = unary(operator, last),
+            Node::Bin(operator, _, _) => {
+                height -= 1;
+                last = binary(operator, stack[height], last);
+            }
+            Node::Pick(..) => {
+                height -= 2;
+                last = choice(stack[height], stack[height + 1], last);
+            }
         }
-        Node::Pick(condition, yes, no) => choice(
-            values[condition as usize],
-            values[yes as usize],
-            values[no as usize],
-        ),
     }
+    last
 }
