@@ -87,7 +87,7 @@ operands_before at (choice c y n) =
     (each-one OperandsBelow (at + length ((cs ++ ys) ++ ns)) (root_of at (choice c y n)) (omega (arith, size, one_node c, one_node y, one_node n), omega (arith, size, one_node c, one_node y, one_node n), omega (arith, size, one_node c, one_node y, one_node n)))
 
 -- operands below a bound are below a greater one
-pub operands_weaker : {V : Type 0} (m n : ℕ) (node : Node V) → m ≤ n → OperandsBelow m node → OperandsBelow n node
+operands_weaker : {V : Type 0} (m n : ℕ) (node : Node V) → m ≤ n → OperandsBelow m node → OperandsBelow n node
 operands_weaker m n (Num z) less below = tt
 operands_weaker m n (Var v) less below = tt
 operands_weaker m n (Un op a) less below = omega arith
@@ -95,7 +95,7 @@ operands_weaker m n (Bin op a b) less below = (omega arith, omega arith)
 operands_weaker m n (Pick c a b) less below = (omega arith, omega arith, omega arith)
 
 -- in a list of nodes that has a tree, each operand stands before its node
-pub operands_of : {V : Type 0} (nodes : List (Node V)) (t : Tree V) → nodes ≡ nodes_of 0 t → (k : ℕ) (node : Node V) → slice_get nodes k ≡ Some node → OperandsBelow k node
+operands_of : {V : Type 0} (nodes : List (Node V)) (t : Tree V) → nodes ≡ nodes_of 0 t → (k : ℕ) (node : Node V) → slice_get nodes k ≡ Some node → OperandsBelow k node
 operands_of nodes t is k node here =
     subst (λ (j : ℕ). OperandsBelow j node) (omega arith) (operands_before 0 t k node (ap (λ (l : List (Node _)). slice_get l k) (sym is) ∙ here))
 

@@ -4,7 +4,7 @@ use Rattle.std.specs.Prelude.{◌==◌}
 use Rattle.std.specs.Str.{bytes_eq}
 use Rattle.std.proofs.lemmas.Bool.Decides.{Decides-eqb}
 use Rattle.std.proofs.lemmas.Slice.Eq.{bytes_eq-Decides}
-use Rattle.dbp_plan.proofs.Searches.{find-filter}
+use Rattle.dbp_plan.proofs.Searches.{among_from as any_among_from}
 use Rattle.std.specs.List.{list_all}
 use Rattle.std.proofs.lemmas.List.Sums.{AllPass-from_list_all}
 use Rattle.dbp_plan.specs.declared.limits.TheConstants.{MAX_NAME}
@@ -51,6 +51,4 @@ first-unsigned k = tt
 -- a word is looked for among those alone that begin as it does
 pub among_from : (first : ℕ) (others : List ℕ) → kind_among (kinds_from first) (first ∷ others) ≡ kind_with (first ∷ others)
 unfolding kinds_from
-among_from first others =
-    find-filter (λ k. bytes_eq (form_of k).0 (first ∷ others)) (λ k. get_or (form_of k).0 0 0 == first)
-    (λ k e. (Decides-eqb _ _).1 (ap (λ (l : List ℕ). get_or l 0 0) ((bytes_eq-Decides (form_of k).0 (first ∷ others)).0 e))) all_kinds
+among_from first others = any_among_from (λ k. (form_of k).0) all_kinds first others

@@ -6,3 +6,5 @@ pub mod Replays
 pub mod Scripts
 pub mod StepForms
 pub mod Texts
+-- What private functions, the inside of types and proofs cite.
+pub mod KeptLines

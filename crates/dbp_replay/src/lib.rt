@@ -3,6 +3,7 @@
 
 mod fail;
 mod form;
+mod kept_lines;
 mod kind;
 mod laws;
 mod look_up;

@@ -4,6 +4,7 @@ ghost use Rattle.std.specs.Prelude.{◌≡◌, ◌∷◌, ◌++◌, All, IfOk, O
 ghost use Rattle.dbp_replay.specs.NamedItems.{IsThere};
 ghost use Rattle.dbp_replay.specs.Texts.{delay_words, heard_words, operand_words, script_text, spaced_words, step_text};
 
+use crate::kept_lines::{no_lines, push_line};
 use crate::kind::opening_of;
 use crate::look_up::{link_at, port_name, read_name, task_name, task_of};
 use dbp_core::{Heard, Step};
@@ -13,6 +14,8 @@ use std::alloc::Global;
 
 /// The text of the steps: a line for each, with the names of the diagram, its words joined by one space and ended by LF.
 /// Each step names only what the diagram has.
+// (inlined into a long caller, its loop would keep less in registers)
+#[inline(never)]
 pub fn print_script(
     alloc: Global,
     diagram: &Diagram,
@@ -21,10 +24,11 @@ pub fn print_script(
     requires { All (IsThere diagram.now) steps.now }
     ensures { IfOk result (λ text. text.items ≡ script_text diagram.now steps.now) }
 {
+    let steps = steps.items();
+    let mut lines = no_lines(alloc, steps.len())?;
     let mut text = Vec::new(alloc);
-    for step in steps.items() {
-        push_step(&mut text, diagram, *step)?;
-        text.push(b'\n')?;
+    for step in steps {
+        push_line(&mut lines, &mut text, diagram, step)?;
     }
     Ok(text)
 }

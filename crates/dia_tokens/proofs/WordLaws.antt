@@ -1,19 +1,17 @@
 -- A text is looked for among the words alone that begin as it does.
-use Rattle.std.proofs.Common.{◌≡◌, ℕ, ◌<◌, List, [], ◌∷◌, ◌∙◌, None, sym, ap, arith, get_or, length, filter}
+use Rattle.std.proofs.Common.{◌≡◌, ℕ, ◌<◌, List, [], ◌∷◌, ◌∙◌, None, sym, ap, arith, length, filter}
 use Rattle.std.specs.Prelude.{◌⊎◌}
 use Rattle.std.proofs.lemmas.Bool.Decides.{nat_tests}
 use Rattle.std.proofs.lemmas.Bool.Decides.{Decides-eqb}
 use Rattle.std.proofs.lemmas.Slice.Eq.{bytes_eq-Decides}
 use Rattle.std.specs.Prelude.{◌==◌}
 use Rattle.std.specs.Str.{bytes_eq}
-use Rattle.dbp_plan.proofs.Searches.{find-filter}
+use Rattle.dbp_plan.proofs.Searches.{among_from as any_among_from, find-filter}
 use Rattle.dia_tokens.specs.Words.{word_text, all_words, word_among, words_from}
 
 pub among_from : (first : ℕ) (others : List ℕ) → word_among (words_from first) (first ∷ others) ≡ word_among all_words (first ∷ others)
 unfolding words_from
-among_from first others =
-    find-filter (λ w. bytes_eq (word_text w) (first ∷ others)) (λ w. get_or (word_text w) 0 0 == first)
-    (λ w e. (Decides-eqb _ _).1 (ap (λ (l : List ℕ). get_or l 0 0) ((bytes_eq-Decides (word_text w) (first ∷ others)).0 e))) all_words
+among_from first others = any_among_from word_text all_words first others
 
 -- a word has 2 to 8 bytes
 no-length : (n : ℕ) → (n < 2) ⊎ (8 < n) → filter (λ w. length (word_text w) == n) all_words ≡ []
