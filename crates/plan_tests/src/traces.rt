@@ -1,6 +1,7 @@
 // The records of trace sections, and what they give to the inputs a and b and to the events e and f.
 
-ghost use Rattle.dia_read.specs.Printable.{IsPrintable};
+ghost use Rattle.std.specs.Prelude.{IfOk};
+ghost use Rattle.dia_read.specs.Printable.{HasItemLines, IsPrintable};
 
 use csv::ByteRecord;
 use dbp_plan::{Input, List, Name, Sample};
@@ -10,22 +11,36 @@ use std::process::Abort;
 use std::str::from_utf8;
 use std::test::Fail;
 use test_inputs::doc_in;
-use trace_rows::{Kind, RowValues, TraceCode, TraceFail, is_header, kinds, records, row_values};
+use trace_rows::{Kind, Records, RowValues, TraceCode, TraceFail, is_header, kinds, row_values};
+
+// The document with these lines after `trace`.
+fn doc_with(alloc: Global, section: &str) -> Result<Doc, Fail>
+    ensures printable { IfOk result (λ doc. IsPrintable doc.body) }
+    ensures lines { IfOk result (λ doc. HasItemLines doc) }
+{
+    let text = format!(in alloc; "dbp 1\npolicy fp\nuntil 9\ntrace\n{section}done\n")?;
+    doc_in(alloc, text.as_bytes())
+}
 
 // The records that the trace section of a document has.
 fn records_of(alloc: Global, doc: &Doc) -> Result<Vec<ByteRecord>, Fail>
     requires { IsPrintable doc.now.body }
 {
-    match &doc.body.trace {
-        Some(kept) => Ok(records(alloc, kept.items())?),
-        None => Err(Fail::new("no section")),
+    let Some(kept) = &doc.body.trace else {
+        return Err(Fail::new("no section"));
+    };
+    let mut records = Records::new(alloc, kept.items());
+    let mut record = ByteRecord::new(alloc);
+    let mut found = Vec::new(alloc);
+    while records.read(&mut record)? {
+        found.push(record.clone()?)?;
     }
+    Ok(found)
 }
 
 // The records of the lines after `trace`.
 fn records_in(alloc: Global, section: &str) -> Result<Vec<ByteRecord>, Fail> {
-    let text = format!(in alloc; "dbp 1\npolicy fp\nuntil 9\ntrace\n{section}done\n")?;
-    let doc = doc_in(alloc, text.as_bytes())?;
+    let doc = doc_with(alloc, section)?;
     records_of(alloc, &doc)
 }
 
@@ -117,14 +132,6 @@ fn record(alloc: Global, line: &str) -> Result<ByteRecord, Fail> {
     Ok(record)
 }
 
-fn rows_of(alloc: Global, lines: &[&str]) -> Result<Vec<ByteRecord>, Fail> {
-    let mut rows = Vec::new(alloc);
-    for line in lines {
-        rows.push(record(alloc, *line)?)?;
-    }
-    Ok(rows)
-}
-
 // First records that no document has, since spaces around a cell don't count and a blank line isn't kept.
 static NO_HEADERS: [&str; 4] = ["", " time", "time ,a", "time, a"];
 
@@ -174,33 +181,41 @@ fn columns_hold_values_or_marks(rt: HostRuntime) -> Result<(), Fail> {
     Ok(())
 }
 
-// What rows at lines with these numbers say after this header, or their first fault.
-fn said_by(
-    alloc: Global,
-    until: u64,
-    header: &str,
-    lines: &[&str],
-    numbers: &[u32],
-) -> Result<Result<RowValues, TraceFail>, Fail> {
+// What the rows of the document's trace section say, or their first fault.
+fn said_in(alloc: Global, until: u64, doc: &Doc) -> Result<Result<RowValues, TraceFail>, Fail>
+    requires printable { IsPrintable doc.now.body }
+    requires lines { HasItemLines doc.now }
+{
+    let Some(kept) = &doc.body.trace else {
+        return Err(Fail::new("no section"));
+    };
+    let mut rows = Records::new(alloc, kept.items());
+    let mut header = ByteRecord::new(alloc);
+    if !rows.read(&mut header)? {
+        return Err(Fail::new("no header"));
+    }
     let inputs = inputs(alloc, &["a", "b"])?;
-    let header = record(alloc, header)?;
-    let rows = rows_of(alloc, lines)?;
-    if inputs.len() > 16 || rows.len() > numbers.len() {
-        return Err(Fail::new("too much"));
+    if inputs.len() > 16 {
+        return Err(Fail::new("too many inputs"));
     }
     let events = events(alloc, &["e", "f"])?;
-    Ok(row_values(alloc, until, &inputs, &events, &header, &rows, numbers))
+    let lines = doc.lines.trace.items();
+    let rest = &lines[1..];
+    Ok(row_values(alloc, until, &inputs, &events, &header, &mut rows, rest))
 }
 
-const VALUE_AND_MARK: &str = "time,a,e";
+fn said_by(alloc: Global, until: u64, section: &str) -> Result<Result<RowValues, TraceFail>, Fail> {
+    let doc = doc_with(alloc, section)?;
+    said_in(alloc, until, &doc)
+}
 
-static TIMED: &[&str] = &["3,-5,1", "010,,", "11,7,0"];
+const TIMED: &str = "time,a,e\n3,-5,1\n\n010,,\n11,7,0\n";
 
 #[test]
 fn rows_have_times_or_a_fault_at_a_line(rt: HostRuntime) -> Result<(), Fail> {
-    let said = said_by(rt.alloc(), 12, VALUE_AND_MARK, TIMED, &[5, 6, 9])??;
+    let said = said_by(rt.alloc(), 12, TIMED)??;
     assert_eq!(rt; said.times.items(), [3, 10, 11].as_slice());
-    let refused = said_by(rt.alloc(), 11, VALUE_AND_MARK, TIMED, &[5, 6, 9])?;
+    let refused = said_by(rt.alloc(), 11, TIMED)?;
     assert_eq!(rt;
         refused.err(),
         Some(TraceFail::Refused {
@@ -237,85 +252,50 @@ static GIVEN: &[Sample] = &[
     },
 ];
 
-fn compare_given(
-    rt: &impl Abort,
-    alloc: Global,
-    header: &ByteRecord,
-    rows: &[ByteRecord],
-) -> Result<(), Fail> {
-    let inputs = inputs(alloc, &["a", "b"])?;
-    let events = events(alloc, &["e", "f"])?;
-    if inputs.len() > 16 || rows.len() > 3 {
-        return Err(Fail::new("too much"));
-    }
-    let said = row_values(alloc, 9, &inputs, &events, header, rows, &[4, 5, 6])?;
-    assert_eq!(rt; said.samples.items(), GIVEN);
-    compare_events(rt, &said.events)
-}
-
 #[test]
 fn rows_give_times_of_events_and_samples(rt: HostRuntime) -> Result<(), Fail> {
-    let header = record(rt.alloc(), "time,e,b,a")?;
-    let rows = rows_of(rt.alloc(), &["2,1,-4,3", "5,0,,6", "6,1,,"])?;
-    compare_given(&rt, rt.alloc(), &header, &rows)
+    let said = said_by(rt.alloc(), 9, "time,e,b,a\n2,1,-4,3\n5,0,,6\n6,1,,\n")??;
+    assert_eq!(rt; said.samples.items(), GIVEN);
+    compare_events(&rt, &said.events)
 }
 
-// The first fault of these rows after this header.
-fn fault(
-    alloc: Global,
-    until: u64,
-    header: &str,
-    lines: &[&str],
-) -> Result<Option<TraceCode>, Fail> {
-    match said_by(alloc, until, header, lines, &[0, 0])? {
+// The first fault of the rows.
+fn fault(alloc: Global, until: u64, section: &str) -> Result<Option<TraceCode>, Fail> {
+    match said_by(alloc, until, section)? {
         Ok(_) => Ok(None),
         Err(TraceFail::Refused { code, .. }) => Ok(Some(code)),
         Err(TraceFail::NoMemory) => Err(Fail::new("no memory")),
     }
 }
 
-// Rows that no document has: with a byte that stands in none, with spaces around a cell or without a byte, and with
-// times up to a later tick than tasks have. After each stands the first fault.
-static ROWS: [(u64, &str, &[&str], Option<TraceCode>); 12] = [
-    (100, VALUE_AND_MARK, &["7,+5,"], Some(TraceCode::BadCell)),
-    (100, VALUE_AND_MARK, &["7, 5,"], Some(TraceCode::BadCell)),
-    (100, VALUE_AND_MARK, &["7,5 ,"], Some(TraceCode::BadCell)),
-    (100, VALUE_AND_MARK, &["7,,+1"], Some(TraceCode::BadCell)),
-    (100, VALUE_AND_MARK, &["7,, 1"], Some(TraceCode::BadCell)),
-    (100, VALUE_AND_MARK, &["7,,1 "], Some(TraceCode::BadCell)),
-    (100, VALUE_AND_MARK, &["+1,,"], Some(TraceCode::BadCell)),
-    (100, VALUE_AND_MARK, &[""], Some(TraceCode::BadRow)),
+// Rows with times up to a later tick than tasks have. After each section stands the first fault.
+static LATE: [(u64, &str, Option<TraceCode>); 4] = [
     (
         18446744073709551615,
-        "time",
-        &["9223372036854775806", "9223372036854775807"],
+        "time\n9223372036854775806\n9223372036854775807\n",
         None,
     ),
     (
         9223372036854775807,
-        "time",
-        &["9223372036854775807"],
+        "time\n9223372036854775807\n",
         Some(TraceCode::TimePastEnd),
     ),
     (
         18446744073709551615,
-        "time",
-        &["9223372036854775808"],
+        "time\n9223372036854775808\n",
         Some(TraceCode::BadCell),
     ),
     (
         18446744073709551615,
-        "time",
-        &["00000000000000000000009223372036854775807"],
+        "time\n00000000000000000000009223372036854775807\n",
         None,
     ),
 ];
 
 #[test]
-fn cells_that_no_document_has_are_checked(rt: HostRuntime) -> Result<(), Fail> {
-    for (until, header, lines, want) in &ROWS {
-        let found = fault(rt.alloc(), *until, *header, *lines)?;
-        assert_eq!(rt; found, *want);
+fn times_have_63_bits(rt: HostRuntime) -> Result<(), Fail> {
+    for (until, section, want) in &LATE {
+        assert_eq!(rt; fault(rt.alloc(), *until, *section)?, *want);
     }
     Ok(())
 }

@@ -1,5 +1,5 @@
 -- The lines and records of a trace section.
-use Rattle.std.proofs.Common.{◌≡◌, ℕ, ◌+◌, ◌==◌, cond, All, List, [], ◌∷◌, ◌++◌, length, Option, Some, None, refl, sym, ap, ◌∙◌, arith, map, take, drop, ◌-◌}
+use Rattle.std.proofs.Common.{◌≡◌, ℕ, ◌+◌, ◌==◌, cond, All, List, [], ◌∷◌, ◌++◌, length, Option, Some, None, refl, sym, ap, ◌∙◌, arith, take, drop, ◌-◌}
 use Rattle.std.specs.Prelude.{IfSome}
 use Rattle.std.proofs.lemmas.List.{length-map, length-drop, take_all}
 use Rattle.std.proofs.lemmas.List.Sums.{sum_by-append}
@@ -38,9 +38,8 @@ record-count (Some text) kept = length-map (lines_of text) cells_of ∙ section-
 pub record-lines : (doc : Doc) → IsPrintable doc.body → HasItemLines doc → length (records_of doc.body.trace) ≡ length doc.lines.trace
 record-lines doc printable items = record-count doc.body.trace printable.trace ∙ sym items.trace
 
-pub few-lines : (doc : Doc) (text : List ℕ) (records : List (List (List ℕ))) → IsPrintable doc.body → HasItemLines doc → doc.body.trace ≡ Some text → records ≡ map cells_of (lines_of text) → length records ≡ length doc.lines.trace
-few-lines doc text records printable items is same =
-    ap (λ (rs : List (List (List ℕ))). length rs) same ∙ ap (λ t. length (records_of t)) (sym is) ∙ record-lines doc printable items
+pub few-lines : (doc : Doc) (text : List ℕ) → IsPrintable doc.body → HasItemLines doc → doc.body.trace ≡ Some text → length (records_of (Some text)) ≡ length doc.lines.trace
+few-lines doc text printable items is = ap (λ t. length (records_of t)) (sym is) ∙ record-lines doc printable items
 
 -- the lines after the first
 pub rest-whole : (lines : List ℕ) → take (length lines - 1) (drop 1 lines) ≡ drop 1 lines

@@ -10,10 +10,11 @@ ghost use Rattle.trace_rows.specs.declared.fail.TraceCode.TheVariants.{BadHeader
 ghost use Rattle.trace_rows.specs.declared.fail.TraceFail.TheVariants.{Refused};
 
 use crate::batches::{merged, total};
+use csv::ByteRecord;
 use dbp_plan::{Clock, Diagram, List, MAX_OCCURRENCES, NoMemory, Plan, Sample, Task};
 use dia_read::Doc;
 use std::alloc::Global;
-use trace_rows::{TraceCode, TraceFail, TraceFault, is_header, no_times, records, row_values};
+use trace_rows::{Records, TraceCode, TraceFail, TraceFault, is_header, no_times, row_values};
 
 /// What a document's trace gives.
 #[derive(Drop)]
@@ -79,16 +80,25 @@ fn lines_of_section(
 {
     let inputs = diagram.inputs.items();
     let events = diagram.events.items();
-    let records = records(alloc, text)?;
-    let lines = doc.lines.trace.items();
-    let Some((header, rows)) = records.split_first() else {
+    let mut records = Records::new(alloc, text);
+    let mut header = ByteRecord::new(alloc);
+    if !records.read(&mut header)? {
         return Err(bad_header(doc.lines.trace_at));
-    };
-    if !is_header(inputs, events, header) {
+    }
+    let lines = doc.lines.trace.items();
+    if !is_header(inputs, events, &header) {
         return Err(bad_header(lines[0]));
     }
     let rest = &lines[1..];
-    let said = row_values(alloc, diagram.until, inputs, events, header, rows, rest)?;
+    let said = row_values(
+        alloc,
+        diagram.until,
+        inputs,
+        events,
+        &header,
+        &mut records,
+        rest,
+    )?;
     Ok(Trace {
         events: said.events,
         samples: said.samples,

@@ -1,24 +1,26 @@
 -- What `csv` reads in a text of the lines that a trace section keeps.
-use Rattle.std.proofs.Common.{◌≡◌, ◌≢◌, ℕ, ◌∷◌, [], ◌++◌, List, map, All, Some, None, true, false, refl, unwrap_or, sym, ap, ◌∙◌, inl, inr, append_assoc}
+use Rattle.std.proofs.Common.{zero, suc, ◌+◌, ◌<◌, length, take, drop, get_or, arith, Bor, ◌≡◌, ◌≢◌, ℕ, ◌∷◌, [], ◌++◌, List, map, All, Some, None, true, false, refl, unwrap_or, sym, ap, ◌∙◌, inl, inr, append_assoc}
 use Rattle.std.specs.Prelude.{◌==◌}
 use Rattle.std.specs.List.{list_all, onto_first, slice_split}
-use Rattle.std.proofs.lemmas.List.{append-nil}
+use Rattle.std.proofs.lemmas.List.{append-nil, take-append-drop}
 use Rattle.std.proofs.lemmas.List.Elements.{All-head, All-tail}
 use Rattle.std.proofs.lemmas.Bool.{cases_Bool, and_parts, both_ways, eqb-true}
-use Rattle.csv.specs.Machine.{next_record}
-use Rattle.csv.specs.Reading.{AreRecords, Reached, default_config, strip_bom}
+use Rattle.csv.specs.Machine.{Read, next_record}
+use Rattle.csv.specs.Reading.{ReadRecord, Reached, default_config, source_of, strip_bom}
 use Rattle.csv.specs.Records.{trimmed}
 use Rattle.csv.specs.declared.parser.State.{State}
+use Rattle.csv.specs.declared.reader.Reader.{Reader}
 use Rattle.csv.specs.declared.parser.State.TheVariants as st
+use Rattle.csv.proofs.ReadFacts.{rows-more}
 use Rattle.csv.proofs.RoundTrip.{record-same, start-same}
 use Rattle.dia_lines.specs.Sections.{is_space, is_trace_byte}
 use Rattle.dia_lines.specs.Lines.{row, SaysInTrace, a_row}
 use Rattle.dia_lines.specs.Text.{lines_of}
 use Rattle.dia_lines.proofs.TextLaws.{lines_of-nil, lines_of-line}
-use Rattle.dia_read.specs.Printable.{ended_lines}
+use Rattle.dia_read.specs.Printable.{KeepsItself, ended_lines}
 use Rattle.dia_lines.proofs.TraceLaws.{all_allowed}
 use Rattle.dia_read.proofs.Following.{trace-inside}
-use Rattle.trace_rows.specs.Records.{cells_of}
+use Rattle.trace_rows.specs.Records.{cells_of, records_of}
 
 -- ---- a kept line
 
@@ -114,7 +116,7 @@ first-line (b ∷ line) rest kept some =
 line-record : (line rest : List ℕ) → IsKept line → next_record default_config st.StartRecord [] [] (line ++ 10 ∷ rest) ≡ Some (parts line, st.StartRecord, rest)
 line-record line rest kept = first-line line rest (all_allowed line (row line) kept) (some-kept line line kept)
 
--- ---- the records of the text
+-- ---- the next record of the text
 
 nothing-left : next_record default_config st.StartRecord [] [] [] ≡ None
 unfolding next_record
@@ -122,18 +124,6 @@ nothing-left = refl
 
 some-injective : {X : Type 0} {x y : X} → Some x ≡ Some y → x ≡ y
 some-injective {x = x} e = ap (λ o. unwrap_or o x) e
-
-reached-are : (lines : List (List ℕ)) (rows : List (List (List ℕ))) (end : State) (left : List ℕ) → All IsKept lines
-    → Reached default_config st.StartRecord (ended_lines lines) rows end left → next_record default_config end [] [] left ≡ None → rows ≡ map parts lines
-unfolding Reached
-reached-are [] [] end left kept reached last = refl
-reached-are [] (fields ∷ rows) end left kept reached last = cc (nothing-left, reached.1)
-reached-are (line ∷ lines) [] end left kept reached last = cc (rw (sym reached.0, sym reached.1, line-record line (ended_lines lines) (All-head IsKept line lines kept)) at last)
-reached-are (line ∷ lines) (fields ∷ rows) end left kept reached last =
-    let same : Some reached.0 ≡ Some (parts line, st.StartRecord, ended_lines lines) = sym reached.1 ∙ line-record line (ended_lines lines) (All-head IsKept line lines kept) in
-    let is = some-injective same in
-    let more = reached-are lines rows end left (All-tail IsKept line lines kept) (rw is at reached.3) last in
-    rw (reached.2, is, more) refl
 
 -- no byte of the text is one of a byte order mark
 no-mark : (line rest : List ℕ) → list_all is_trace_byte line ≡ true → line ≢ [] → strip_bom (line ++ 10 ∷ rest) ≡ line ++ 10 ∷ rest
@@ -151,13 +141,56 @@ no-bom (line ∷ lines) kept =
     let first = All-head IsKept line lines kept in
     no-mark line (ended_lines lines) (all_allowed line (row line) first) (some-kept line line first)
 
-trimmed-parts : (lines : List (List ℕ)) → map (map trimmed) (map parts lines) ≡ map cells_of lines
-trimmed-parts [] = refl
-trimmed-parts (line ∷ lines) = ap (λ (rows : List (List (List ℕ))). cells_of line ∷ rows) (trimmed-parts lines)
+-- a byte order mark at the start of the text would be passed over; it has none
+pub whole-text : (text : List ℕ) → KeepsItself SaysInTrace row text → strip_bom text ≡ text
+whole-text text (lines, is, kept) = rw is (no-bom lines kept)
 
--- the records that `csv` gives of the text are its lines, cut at their commas, without spaces and tabs around the cells
-pub records-are : (lines : List (List ℕ)) (rows : List (List (List ℕ))) → All (λ line. SaysInTrace line (row line)) lines
-    → AreRecords default_config st.StartRecord (strip_bom (ended_lines lines)) rows → map (map trimmed) rows ≡ map cells_of (lines_of (ended_lines lines))
-records-are lines rows kept are =
-    let cut : rows ≡ map parts lines = reached-are lines rows are.0 are.1 kept (rw (no-bom lines kept) at are.2) are.3 in
-    ap (map (map trimmed)) cut ∙ trimmed-parts lines ∙ ap (map cells_of) (sym (lines-back lines kept))
+-- a read that finds a record takes the first line, and leaves the others
+line-taken : (text : List ℕ) → KeepsItself SaysInTrace row text → (fields : List (List ℕ)) (end : State) (left : List ℕ)
+    → Reached default_config st.StartRecord text (fields ∷ []) end left
+    → KeepsItself SaysInTrace row left × (end ≡ st.StartRecord) × (map cells_of (lines_of text) ≡ map trimmed fields ∷ map cells_of (lines_of left))
+unfolding Reached
+line-taken text ([], is, kept) fields end left reached = cc (nothing-left, rw is at reached.1)
+line-taken text (line ∷ lines, is, kept) fields end left reached =
+    let rest : All IsKept lines = All-tail IsKept line lines kept in
+    let same : Some reached.0 ≡ Some (parts line, st.StartRecord, ended_lines lines) =
+    sym (rw is at reached.1) ∙ line-record line (ended_lines lines) (All-head IsKept line lines kept) in
+    let taken = some-injective same in
+    let after : left ≡ ended_lines lines = sym reached.3.1 ∙ ap (λ (p : Read). p.2) taken in (
+      (lines, after, rest),
+      sym reached.3.0 ∙ ap (λ (p : Read). p.1) taken,
+      rw (is, lines-back (line ∷ lines) kept, after, lines-back lines rest, reached.2, taken) refl,
+    )
+
+-- the same of a reader
+pub record-read : (old new : Reader (Bor (List ℕ))) (fields : List (List ℕ)) (text : List ℕ) → old.config ≡ default_config → old.state ≡ st.StartRecord
+    → source_of (λ s. Some s.now) old ≡ Some text → KeepsItself SaysInTrace row text → ReadRecord (λ s. Some s.now) old new true fields
+    → (left : List ℕ) × (source_of (λ s. Some s.now) new ≡ Some left) × KeepsItself SaysInTrace row left × (new.state ≡ st.StartRecord)
+    × (records_of (source_of (λ s. Some s.now) old) ≡ map trimmed fields ∷ records_of (source_of (λ s. Some s.now) new))
+unfolding Reached
+record-read old new fields text config state left kept read =
+    let more = rows-more (λ (s : Bor (List ℕ)). Some s.now) old new fields default_config st.StartRecord text text [] config left (sym state, refl) read in
+    let taken = line-taken text kept fields new.state more.0 more.2 in
+    let cut = ap records_of left ∙ taken.2 ∙ ap (λ bytes. map trimmed fields ∷ records_of bytes) (sym more.1) in
+    (more.0, more.1, taken.0, taken.1, cut)
+
+-- a read that finds no record has no line left
+pub no-line-left : (text : List ℕ) → KeepsItself SaysInTrace row text → next_record default_config st.StartRecord [] [] text ≡ None → map cells_of (lines_of text) ≡ []
+no-line-left text ([], is, kept) none = rw (is, lines_of-nil) refl
+no-line-left text (line ∷ lines, is, kept) none = cc (line-record line (ended_lines lines) (All-head IsKept line lines kept), is, none)
+
+-- ---- the records that are left of others
+
+-- the first of those that are left stands at the place of the first of them
+pub first-left : {A : Type 0} (xs : List A) (k : ℕ) (x : A) (left : List A) → drop k xs ≡ x ∷ left → (k < length xs) × (x ≡ get_or xs k x) × (drop (k + 1) xs ≡ left)
+first-left [] zero x left are = cc are
+first-left (y ∷ xs) zero x left are = (omega arith, cc are, cc are)
+first-left [] (suc k) x left are = cc are
+first-left (y ∷ xs) (suc k) x left are =
+    let at = first-left xs k x left are in
+    let next : suc k + 1 ≡ suc (k + 1) = omega arith in
+    (omega (arith, at.0), at.1, ap (λ j. drop j (y ∷ xs)) next ∙ at.2)
+
+-- if none is left, those before them are all
+pub none-left : {A : Type 0} (xs : List A) (k : ℕ) → drop k xs ≡ [] → take k xs ≡ xs
+none-left xs k none = sym (append-nil (take k xs)) ∙ ap (λ ys. take k xs ++ ys) (sym none) ∙ take-append-drop k xs

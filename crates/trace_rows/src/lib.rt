@@ -14,5 +14,5 @@ pub use fail::{TraceCode, TraceFail, TraceFault};
 pub use header::{is_header, kinds};
 pub use laws::written_section_is_read_back;
 pub use rows::{MAX_ROWS, RowValues, row_values};
-pub use section::records;
+pub use section::Records;
 pub use values::no_times;

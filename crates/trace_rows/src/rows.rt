@@ -8,6 +8,7 @@ ghost use Rattle.dbp_plan.specs.declared.limits.TheConstants.{MAX_INPUTS};
 ghost use Rattle.trace_rows.specs.Cells.{time_of};
 ghost use Rattle.trace_rows.specs.Columns.{HasSaid};
 ghost use Rattle.trace_rows.specs.Headers.{kind_of_column};
+ghost use Rattle.trace_rows.specs.Records.{StandsAtLine, records_left};
 ghost use Rattle.trace_rows.specs.Rows.{row_fault, row_faults, row_fits};
 ghost use Rattle.trace_rows.specs.Values.{event_times, samples_of};
 ghost use Rattle.trace_rows.specs.declared.fail.TraceCode.{TraceCode as AnyCode};
@@ -16,6 +17,7 @@ ghost use Rattle.trace_rows.specs.declared.fail.TraceFail.TheVariants.{Refused};
 use crate::cell::{Kind, Said, said_in, time_in};
 use crate::fail::{TraceCode, TraceFail, TraceFault};
 use crate::header::kinds;
+use crate::section::Records;
 use crate::values::{event_columns, input_columns, no_times, push_samples, push_times};
 use csv::ByteRecord;
 use dbp_plan::{Input, List, Name, NoMemory, Sample};
@@ -131,9 +133,10 @@ fn columns_of(
     })
 }
 
-/// What the rows of a section with this header say, if no row has a fault. Row k stands at `lines[k]`. Refused is the
-/// first row with a fault, with the first of its faults in this order: `TooManyRows`, `BadRow`, `BadCell`,
-/// `TimeNotRising`, `TimePastEnd`. Each cell is read once.
+/// What the rows of a section with this header say, if no row has a fault. They are the records that are left, and row k
+/// stands at `lines[k]`. Refused is the first row with a fault, with the first of its faults in this order:
+/// `TooManyRows`, `BadRow`, `BadCell`, `TimeNotRising`, `TimePastEnd`. No row is read after that; each is kept no longer
+/// than until the next is read.
 #[tactic(auto, using(crate::proofs::EventTimes::no_rows))]
 pub fn row_values(
     alloc: Global,
@@ -141,32 +144,35 @@ pub fn row_values(
     inputs: &[Input],
     events: &[Name],
     header: &ByteRecord,
-    rows: &[ByteRecord],
+    rows: &mut Records,
     lines: &[u32],
 ) -> Result<RowValues, TraceFail>
+    requires stands { StandsAtLine rows.old }
     requires inputs { length inputs.now ≤ MAX_INPUTS }
-    requires lines { length rows.now ≤ length lines.now }
-    ensures times { IfOk result (λ said. said.times ≡ map time_of (map fields_of rows.now)) }
+    requires lines { length (records_left rows.old) ≤ length lines.now }
+    ensures times { IfOk result (λ said. said.times ≡ map time_of (records_left rows.old)) }
     ensures events { IfOk result (λ said. said.events.items
-        ≡ event_times (drop 1 (fields_of header.now)) (map fields_of rows.now) events.now) }
+        ≡ event_times (drop 1 (fields_of header.now)) (records_left rows.old) events.now) }
     ensures samples { IfOk result (λ said. said.samples
-        ≡ samples_of (drop 1 (fields_of header.now)) (map fields_of rows.now) inputs.now) }
+        ≡ samples_of (drop 1 (fields_of header.now)) (records_left rows.old) inputs.now) }
     ensures faultless { IfOk result (λ _. first_fault (row_faults until
         (map (kind_of_column inputs.now) (drop 1 (fields_of header.now)))
-        (map fields_of rows.now) lines.now) ≡ None) }
+        (records_left rows.old) lines.now) ≡ None) }
     ensures fault { (line : ℕ) (code : AnyCode) → result ≡ Err (Refused line code)
         → first_fault (row_faults until
         (map (kind_of_column inputs.now) (drop 1 (fields_of header.now)))
-        (map fields_of rows.now) lines.now) ≡ Some (line, code) }
+        (records_left rows.old) lines.now) ≡ Some (line, code) }
 {
     let columns = columns_of(alloc, inputs, events, header)?;
     let mut said = nothing_said(alloc, columns.kinds.len())?;
     let mut times = List::new(alloc);
     let mut marked = no_times(alloc, events.len())?;
     let mut samples = List::new(alloc);
-    for (place, row) in rows.iter().enumerate() {
+    let mut row = ByteRecord::new(alloc);
+    let mut place = 0;
+    while rows.read(&mut row)? {
         let before = times.items().last().copied();
-        match checked_row(until, &columns.kinds, place + 1, before, row, &mut said) {
+        match checked_row(until, &columns.kinds, place + 1, before, &row, &mut said) {
             Ok(time) => {
                 push_samples(&mut samples, time, &columns.inputs, &said)?;
                 push_times(&mut marked, time, &columns.events, &said)?;
@@ -177,6 +183,7 @@ pub fn row_values(
                 return Err(TraceFail::from(TraceFault { line, code }));
             }
         }
+        place += 1;
     }
     Ok(RowValues {
         times,

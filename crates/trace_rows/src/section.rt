@@ -1,17 +1,13 @@
 // The records of a trace section.
 
-ghost use Rattle.std.specs.Prelude.{◌≡◌, IfOk, OnOk, map};
+ghost use Rattle.std.specs.Prelude.{◌≡◌, OnOk, map};
 ghost use Rattle.std.specs.Char.{is_ascii_whitespace};
 ghost use Rattle.std.specs.List.{list_any};
 ghost use Rattle.csv.specs.Reading.{error_kind};
 ghost use Rattle.csv.specs.Records.{fields_of, trimmed};
-ghost use Rattle.dia_lines.specs.Lines.{SaysInTrace, row};
-ghost use Rattle.dia_lines.specs.Text.{lines_of};
-ghost use Rattle.dia_read.specs.Printable.{KeepsItself};
-ghost use Rattle.trace_rows.specs.Records.{cells_of};
 ghost use Rattle.trace_rows.specs.ReaderErrors.{IsOfMemory};
 
-use csv::{ByteRecord, Error, ErrorKind, ReaderBuilder};
+use csv::{ByteRecord, Error, ErrorKind, Reader, ReaderBuilder};
 use dbp_plan::NoMemory;
 use std::alloc::Global;
 
@@ -44,25 +40,49 @@ fn trim_cells(cells: &mut ByteRecord) -> Result<(), NoMemory>
     Ok(())
 }
 
-/// The records of a trace section's kept lines: record k is line k, cut at its commas, without spaces and tabs around
-/// its cells.
-pub fn records(alloc: Global, text: &[u8]) -> Result<Vec<ByteRecord>, NoMemory>
-    requires { KeepsItself SaysInTrace row text.now }
-    ensures { IfOk result (λ records.
-        map fields_of records.items ≡ map cells_of (lines_of text.now)) }
-{
-    let reader = ReaderBuilder::new()
-        .has_headers(false)
-        .flexible(true)
-        .from_reader(alloc, text);
-    let mut records = Vec::new(alloc);
-    for record in reader.into_byte_records() {
-        let mut record = match record {
-            Ok(record) => record,
-            Err(error) => return Err(want_of_memory(&error)),
-        };
-        trim_cells(&mut record)?;
-        records.push(record)?;
+/// The records of a trace section that haven't been read yet. A line's record is the line, cut at its commas, without
+/// spaces and tabs around its cells.
+#[derive(Drop)]
+pub struct Records<'t> {
+    reader: Reader<&'t [u8]>,
+}
+
+impl<'t> Records<'t> {
+    ghost use Rattle.std.specs.Prelude.{◌∷◌, [], IfOk, MatchBool, Ok, Some, true};
+    ghost use Rattle.dia_lines.specs.Lines.{SaysInTrace, row};
+    ghost use Rattle.dia_read.specs.Printable.{KeepsItself};
+    ghost use Rattle.trace_rows.specs.Records.{StandsAtLine, records_left, records_of};
+
+    /// The records of the section's kept lines, none of which is read.
+    pub fn new(alloc: Global, text: &'t [u8]) -> Records<'t>
+        requires { KeepsItself SaysInTrace row text.now }
+        ensures left { records_left result ≡ records_of (Some text.now) }
+        ensures stands { StandsAtLine result }
+    {
+        Records {
+            reader: ReaderBuilder::new()
+                .has_headers(false)
+                .flexible(true)
+                .from_reader(alloc, text),
+        }
     }
-    Ok(records)
+
+    /// Reads the next record in place of what `record` held. The result is whether there was one. After out of memory
+    /// no more is read.
+    pub fn read(&mut self, record: &mut ByteRecord) -> Result<bool, NoMemory>
+        requires { StandsAtLine self.old }
+        ensures left { IfOk result (λ found. MatchBool found
+            (records_left self.old ≡ fields_of «record».new ∷ records_left self.new)
+            (records_left self.old ≡ [])) }
+        ensures stands { result ≡ Ok true → StandsAtLine self.new }
+    {
+        match self.reader.read_byte_record(record) {
+            Ok(true) => {
+                trim_cells(record)?;
+                Ok(true)
+            }
+            Ok(false) => Ok(false),
+            Err(error) => Err(want_of_memory(&error)),
+        }
+    }
 }
