@@ -32,5 +32,6 @@ pub mod Operands
 pub mod Ranges
 pub mod Ranking
 pub mod Rankings
+pub mod TaskNumbers
 pub mod Times
 pub mod TreeLaws

@@ -1,30 +1,38 @@
 // The numbers of a few tasks.
 
 ghost use Rattle.std.specs.Prelude.{◌≡◌, ◌+◌, ◌^◌, ◌<◌, ◌↔◌, [], ◌∷◌, ◌++◌, length, IfOk, IsTrue, OnOk, OnErr};
+ghost use Rattle.dbp_plan.specs.TaskNumbers.{AreCounted, numbers_of};
 
-use crate::NoMemory;
-use smallvec::SmallVec;
+use crate::{List, NoMemory};
 use std::alloc::Global;
 use std::marker::Model;
 
-// So many numbers need no memory of their own: at most times few tasks occur together.
-const NEAR: usize = 4;
-
-/// A list of numbers of tasks, of at most 4294967295 items, which takes no memory for the first four. A contract sees
-/// the list of its items.
+/// A list of numbers of tasks, of at most 4294967295 items, which takes no memory for the first two: at most times few
+/// tasks occur together. A contract sees the list of its items.
 #[derive(Drop)]
 pub struct TaskNumbers {
-    items: SmallVec<u32, NEAR>,
+    alloc: Global,
+    numbers: Numbers,
+}
+
+// Few numbers stand here themselves and more in a list, so that all take two words.
+#[derive(Drop)]
+enum Numbers {
+    Zero([u32; 0]),
+    One([u32; 1]),
+    Two([u32; 2]),
+    More(Box<List<u32>>),
 }
 
 impl Model for TaskNumbers {
-    ghost use Rattle.std.specs.Prelude.{List, ℕ, length, ◌<◌, ◌^◌};
+    ghost use Rattle.std.specs.Prelude.{List, ℕ};
+    ghost use Rattle.dbp_plan.specs.TaskNumbers.{AreCounted, numbers_of};
 
     ghost Value = { List ℕ };
 
-    ghost view = { λ l. l.items.items };
+    ghost view = { λ l. numbers_of l.numbers };
 
-    ghost invariant = { λ l. length l.items.items < 2 ^ 32 };
+    ghost invariant = { λ l. AreCounted l.numbers };
 }
 
 impl TaskNumbers {
@@ -33,7 +41,8 @@ impl TaskNumbers {
         ensures { result ≡ [] }
     {
         TaskNumbers {
-            items: SmallVec::new(alloc),
+            alloc,
+            numbers: Numbers::Zero([]),
         }
     }
 
@@ -43,8 +52,8 @@ impl TaskNumbers {
         ensures ok { OnOk result (self.new ≡ self.old ++ task ∷ []) }
         ensures err { OnErr result (self.new ≡ self.old) }
     {
-        self.items.push(task)?;
-        Ok(())
+        let alloc = self.alloc;
+        self.numbers.push(alloc, task)
     }
 
     /// All numbers, in order.
@@ -53,30 +62,82 @@ impl TaskNumbers {
         // callers don't see the type's bound on the length
         ensures fits { length self.now < 2 ^ 32 }
     {
-        self.items.as_slice()
+        match &self.numbers {
+            Numbers::Zero(numbers) => numbers,
+            Numbers::One(numbers) => numbers,
+            Numbers::Two(numbers) => numbers,
+            Numbers::More(list) => list.items(),
+        }
     }
 
     /// The number of items.
     pub fn len(&self) -> u32
         ensures { result ≡ length self.now }
     {
-        self.items.len() as u32
+        self.items().len() as u32
     }
 
     /// Whether there are no items.
     pub fn is_empty(&self) -> bool
         ensures { IsTrue result ↔ (self.now ≡ []) }
     {
-        self.items.is_empty()
+        self.items().is_empty()
     }
 
     /// An equal list.
     pub fn copied(&self) -> Result<TaskNumbers, NoMemory>
         ensures { IfOk result (λ copy. copy ≡ self.now) }
     {
-        let alloc = *self.items.allocator();
         Ok(TaskNumbers {
-            items: SmallVec::from_slice(alloc, self.items.as_slice())?,
+            alloc: self.alloc,
+            numbers: self.numbers.copied(self.alloc)?,
         })
     }
 }
+
+impl Numbers {
+    // Adds the number at the end. If memory runs out they stay as they were.
+    fn push(&mut self, alloc: Global, task: u32) -> Result<(), NoMemory>
+        requires counted { AreCounted self.old }
+        requires room { length (numbers_of self.old) + 1 < 2 ^ 32 }
+        ensures counted { AreCounted self.new }
+        ensures ok { OnOk result (numbers_of self.new ≡ numbers_of self.old ++ task ∷ []) }
+        ensures err { OnErr result (numbers_of self.new ≡ numbers_of self.old) }
+    {
+        let more = match self {
+            Numbers::Zero(_) => Numbers::One([task]),
+            Numbers::One(numbers) => Numbers::Two([numbers[0], task]),
+            Numbers::Two(numbers) => Numbers::More(boxed(alloc, numbers[0], numbers[1], task)?),
+            Numbers::More(list) => return list.push(task),
+        };
+        *self = more;
+        Ok(())
+    }
+
+    // The same numbers.
+    fn copied(&self, alloc: Global) -> Result<Numbers, NoMemory>
+        requires { AreCounted self.now }
+        ensures counted { IfOk result (λ copy. AreCounted copy) }
+        ensures numbers { IfOk result (λ copy. numbers_of copy ≡ numbers_of self.now) }
+    {
+        match self {
+            Numbers::Zero(numbers) => Ok(Numbers::Zero(*numbers)),
+            Numbers::One(numbers) => Ok(Numbers::One(*numbers)),
+            Numbers::Two(numbers) => Ok(Numbers::Two(*numbers)),
+            Numbers::More(list) => Ok(Numbers::More(Box::new(alloc, list.copied()?)?)),
+        }
+    }
+}
+
+// A list of the three numbers, in a place of its own.
+fn boxed(alloc: Global, first: u32, second: u32, third: u32) -> Result<Box<List<u32>>, NoMemory>
+    ensures { IfOk result (λ list. list.value ≡ first ∷ second ∷ third ∷ []) }
+{
+    let mut list = List::new(alloc);
+    list.push(first)?;
+    list.push(second)?;
+    list.push(third)?;
+    Ok(Box::new(alloc, list)?)
+}
+
+const _: () = prove!(size_of::<TaskNumbers>() == 16);
