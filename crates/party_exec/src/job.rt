@@ -6,6 +6,7 @@ ghost use Rattle.party_exec.specs.Parties.{Belongs};
 
 use crate::pace::Pace;
 use crate::party::Party;
+use crate::progress::Progress;
 use crate::turn::Turn;
 use std::thread;
 use word_rule::SlotWords;
@@ -14,25 +15,52 @@ const MOST_TURNS: u32 = 4096;
 
 const MOST_IDLE: u32 = 64;
 
-// Makes turns of the party until it has finished, or until others are to have theirs. It yields the processor between idle
-// turns.
-pub(crate) fn job<P: Pace>(pace: &P, words: &SlotWords, party: &mut Party)
+// Makes turns of the party until it has finished, or until others are to have theirs.
+pub(crate) fn job<P: Pace>(pace: &P, words: &SlotWords, progress: &Progress, party: &mut Party)
+    requires { Belongs words.now party.old }
+    ensures { IsJob words.now party.old party.new }
+{
+    let idle = make_turns(pace, words, progress, party);
+    if idle == 0 {
+        progress.stop();
+    }
+}
+
+// The same, and returns how many turns in a row were idle at last.
+fn make_turns<P: Pace>(pace: &P, words: &SlotWords, progress: &Progress, party: &mut Party) -> u32
     requires { Belongs words.now party.old }
     ensures { IsJob words.now party.old party.new }
 {
     let mut idle = 0;
     for _ in 0..MOST_TURNS {
         if party.has_finished(words) {
-            return;
+            return idle;
         }
+        let before = idle;
         let turn = paced_turn(pace, words, party);
         idle = idle_turns(idle, turn);
         if idle == MOST_IDLE {
-            return;
+            return idle;
         }
-        if idle > 0 {
-            thread::yield_now();
+        after_turn(progress, before, idle);
+    }
+    idle
+}
+
+// Says whether the job is busy, if that has changed. After an idle turn it yields the processor, but only while another job
+// may get on: on a busy machine a yield takes a time slice of another program.
+fn after_turn(progress: &Progress, idle_before: u32, idle: u32) {
+    if idle == 0 {
+        if idle_before > 0 {
+            progress.go_on();
         }
+        return;
+    }
+    if idle_before == 0 {
+        progress.stop();
+    }
+    if progress.is_expected() {
+        thread::yield_now();
     }
 }
 

@@ -11,6 +11,7 @@ mod look_up;
 mod meeting;
 mod pace;
 mod party;
+mod progress;
 mod releaser_party;
 mod releaser_turns;
 mod rows;

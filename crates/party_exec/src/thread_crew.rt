@@ -14,6 +14,7 @@ use crate::job::job;
 use crate::meeting::Meeting;
 use crate::pace::{FreePace, Pace};
 use crate::party::Party;
+use crate::progress::Progress;
 use crate::runs::Runs;
 use dbp_plan::{NoMemory, Plan};
 use std::alloc::Global;
@@ -125,6 +126,7 @@ fn round<R: Threads + Sync, P: Pace>(rt: &R, pace: &P, words: &SlotWords, partie
     }
     let threads = parties.len();
     let meeting = Meeting::new(threads);
+    let progress = Progress::new(threads);
     thread::for_each_mut(
         rt,
         parties,
@@ -134,7 +136,7 @@ fn round<R: Threads + Sync, P: Pace>(rt: &R, pace: &P, words: &SlotWords, partie
             ensures { IsJob words.entry.now party.entry.now party.exit.now }
         {
             meeting.attend();
-            job(pace, words, party)
+            job(pace, words, &progress, party)
         },
     );
 }

@@ -3,7 +3,7 @@ use Rattle.std.proofs.lemmas.Bool.{false≢true}
 use Rattle.party_exec.specs.Jobs.{at_first}
 use Rattle.party_exec.proofs.Jobs.{idle_most, worked_further}
 use Rattle.party_exec.proofs.SameParties.{counted_turn_same, still_belongs}
-use Rattle.party_exec.proofs.job.job.Goals as goal
+use Rattle.party_exec.proofs.job.make_turns.Goals as goal
 
 pub loop-init : goal.loop-init
 loop-init g c = record { here = c.requires; quiet = omega arith; turns = at_first }
