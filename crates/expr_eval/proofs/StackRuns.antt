@@ -66,34 +66,29 @@ runs_none env below last [] end none runs = sym runs
 runs_none env below last (x ∷ nodes) end none runs = absurd (omega arith)
 
 -- the latest value goes onto the stack
-pub runs_pushed : (env stack : List ℤ) (height : ℕ) (last leaf : ℤ) (rest : List (Node ℕ)) (end : ℤ)
-    → height < length stack → Runs env (take height stack ++ last ∷ []) leaf rest end → Runs env (take (height + 1) (set stack height last)) leaf rest end
-runs_pushed env stack height last leaf rest end room runs = subst (λ (l : List ℤ). Runs env l leaf rest end) (sym (take_more_set stack height last room)) runs
+onto_stack : (env stack : List ℤ) (height : ℕ) (last z : ℤ) (rest : List (Node ℕ)) (end : ℤ)
+    → height < length stack → Runs env (take height stack ++ last ∷ []) z rest end → Runs env (take (height + 1) (set stack height last)) z rest end
+onto_stack env stack height last z rest end room runs = subst (λ (l : List ℤ). Runs env l z rest end) (sym (take_more_set stack height last room)) runs
 
 -- one node on, the nodes lead to the same value
-pub runs_number : (env below : List ℤ) (last z : ℤ) (nodes rest : List (Node ℕ)) (end : ℤ)
-    → nodes ≡ Num z ∷ rest → Runs env below last nodes end → Runs env (below ++ last ∷ []) z rest end
+pub runs_number : (env stack : List ℤ) (height : ℕ) (last z : ℤ) (nodes rest : List (Node ℕ)) (end : ℤ)
+    → nodes ≡ Num z ∷ rest → height < length stack → Runs env (take height stack) last nodes end
+    → Runs env (take (height + 1) (set stack height last)) z rest end
 unfolding Runs
-runs_number env below last z nodes rest end is runs = subst (λ (l : List (Node ℕ)). Runs env below last l end) is runs
+runs_number env stack height last z nodes rest end is room runs =
+    onto_stack env stack height last z rest end room (subst (λ (l : List (Node ℕ)). Runs env (take height stack) last l end) is runs)
 
-pub runs_variable : (env below : List ℤ) (last : ℤ) (v : ℕ) (nodes rest : List (Node ℕ)) (end : ℤ)
-    → nodes ≡ Var v ∷ rest → Runs env below last nodes end → Runs env (below ++ last ∷ []) (slice_index_or env v (pos 0)) rest end
+pub runs_variable : (env stack : List ℤ) (height : ℕ) (last : ℤ) (v : ℕ) (nodes rest : List (Node ℕ)) (end : ℤ)
+    → nodes ≡ Var v ∷ rest → height < length stack → Runs env (take height stack) last nodes end
+    → Runs env (take (height + 1) (set stack height last)) (slice_index_or env v (pos 0)) rest end
 unfolding Runs
-runs_variable env below last v nodes rest end is runs = subst (λ (l : List (Node ℕ)). Runs env below last l end) is runs
+runs_variable env stack height last v nodes rest end is room runs =
+    onto_stack env stack height last (slice_index_or env v (pos 0)) rest end room (subst (λ (l : List (Node ℕ)). Runs env (take height stack) last l end) is runs)
 
 pub runs_unary : (env below : List ℤ) (last : ℤ) (op : UnOp) (x : ℕ) (nodes rest : List (Node ℕ)) (end : ℤ)
     → nodes ≡ Un op x ∷ rest → Runs env below last nodes end → Runs env below (value_of_unary op last) rest end
 unfolding Runs
 runs_unary env below last op x nodes rest end is runs = subst (λ (l : List (Node ℕ)). Runs env below last l end) is runs
-
-pub runs_binary : (env below : List ℤ) (left right : ℤ) (op : BinOp) (x y : ℕ) (nodes rest : List (Node ℕ)) (end : ℤ)
-    → nodes ≡ Bin op x y ∷ rest → Runs env (below ++ left ∷ []) right nodes end → Runs env below (value_of_binary op left right) rest end
-unfolding Runs
-runs_binary env below left right op x y nodes rest end is runs =
-    let now : Runs env (below ++ left ∷ []) right (Bin op x y ∷ rest) end = subst (λ (l : List (Node ℕ)). Runs env (below ++ left ∷ []) right l end) is runs in
-    let parts = same_from_push now.0 below now.1 left (sym now.2) in
-    let taken : Runs env now.0 (value_of_binary op left right) rest end = subst (λ (a : ℤ). Runs env now.0 (value_of_binary op a right) rest end) parts.1 now.3 in
-    subst (λ (l : List ℤ). Runs env l (value_of_binary op left right) rest end) parts.0 taken
 
 -- an operator between two operands finds the left one on the stack
 pub some_left : (env stack : List ℤ) (height : ℕ) (last : ℤ) (op : BinOp) (x y : ℕ) (nodes rest : List (Node ℕ)) (end : ℤ)
@@ -103,12 +98,17 @@ some_left env stack height last op x y nodes rest end is runs =
     let now : Runs env (take height stack) last (Bin op x y ∷ rest) end = subst (λ (l : List (Node ℕ)). Runs env (take height stack) last l end) is runs in
     omega (arith, ap length now.2, length_push now.0 now.1, length-take height stack)
 
-pub runs_popped : (env stack : List ℤ) (height h : ℕ) (last : ℤ) (op : BinOp) (x y : ℕ) (nodes rest : List (Node ℕ)) (end : ℤ)
+pub runs_binary : (env stack : List ℤ) (height h : ℕ) (last : ℤ) (op : BinOp) (x y : ℕ) (nodes rest : List (Node ℕ)) (end : ℤ)
     → nodes ≡ Bin op x y ∷ rest → h + 1 ≡ height → height ≤ length stack → Runs env (take height stack) last nodes end
     → Runs env (take h stack) (value_of_binary op (get_or stack h (pos 0)) last) rest end
-runs_popped env stack height h last op x y nodes rest end is size room runs =
-    let top : take height stack ≡ take h stack ++ get_or stack h (pos 0) ∷ [] = ap (λ (k : ℕ). take k stack) (sym size) ∙ take_more stack h (pos 0) (omega arith) in
-    runs_binary env (take h stack) (get_or stack h (pos 0)) last op x y nodes rest end is (subst (λ (l : List ℤ). Runs env l last nodes end) top runs)
+unfolding Runs
+runs_binary env stack height h last op x y nodes rest end is size room runs =
+    let now : Runs env (take height stack) last (Bin op x y ∷ rest) end = subst (λ (l : List (Node ℕ)). Runs env (take height stack) last l end) is runs in
+    let within : h < length stack = omega arith in
+    let top : now.0 ++ now.1 ∷ [] ≡ take h stack ++ get_or stack h (pos 0) ∷ [] = sym now.2 ∙ ap (λ (k : ℕ). take k stack) (sym size) ∙ take_more stack h (pos 0) within in
+    let parts = same_from_push now.0 (take h stack) now.1 (get_or stack h (pos 0)) top in
+    let left : Runs env now.0 (value_of_binary op (get_or stack h (pos 0)) last) rest end = subst (λ (a : ℤ). Runs env now.0 (value_of_binary op a last) rest end) parts.1 now.3 in
+    subst (λ (l : List ℤ). Runs env l (value_of_binary op (get_or stack h (pos 0)) last) rest end) parts.0 left
 
 -- a choice finds its condition and its first value there
 pub some_choice : (env stack : List ℤ) (height : ℕ) (last : ℤ) (x y z : ℕ) (nodes rest : List (Node ℕ)) (end : ℤ)

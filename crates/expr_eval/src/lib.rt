@@ -32,9 +32,6 @@ pub fn eval(expr: &Expr<u32>, env: &[i64]) -> i64
 
 // The same, on a stack. Of the values that no operator has taken yet, the latest is `last`, and those before it are the
 // first `height` words of the stack. Before the first node `last` is a 0, which no operator takes.
-//
-// A leaf is taken together with a binary operator after it. Most operators have a leaf on the right, and then nothing
-// goes over the stack.
 fn eval_in(expr: &Expr<u32>, env: &[i64], stack: &mut [i64]) -> i64
     requires variables { VariablesBelow (length env.now) expr.now.nodes }
     requires room { length expr.now.nodes ≤ length stack.old }
@@ -45,33 +42,26 @@ fn eval_in(expr: &Expr<u32>, env: &[i64], stack: &mut [i64]) -> i64
     let mut height = 0;
     while let [node, rest @ ..] = nodes {
         nodes = rest;
-        let leaf = match *node {
-            Node::Num(word) => word,
-            Node::Var(place) => env[place as usize],
-            Node::Un(operator, _) => {
-                last = unary(operator, last);
-                continue;
+        match *node {
+            Node::Num(word) => {
+                stack[height] = last;
+                height += 1;
+                last = word;
             }
+            Node::Var(place) => {
+                stack[height] = last;
+                height += 1;
+                last = env[place as usize];
+            }
+            Node::Un(operator, _) => last = unary(operator, last),
             Node::Bin(operator, _, _) => {
                 height -= 1;
                 last = binary(operator, stack[height], last);
-                continue;
             }
             Node::Pick(..) => {
                 height -= 2;
                 last = choice(stack[height], stack[height + 1], last);
-                continue;
             }
-        };
-        if let [next, after @ ..] = rest
-            && let Node::Bin(operator, _, _) = *next
-        {
-            nodes = after;
-            last = binary(operator, last, leaf);
-        } else {
-            stack[height] = last;
-            height += 1;
-            last = leaf;
         }
     }
     last

@@ -16,7 +16,6 @@ pub(crate) fn unary(operator: UnOp, operand: i64) -> i64
 }
 
 // The value of an operator between two operands.
-#[inline(always)]
 pub(crate) fn binary(operator: BinOp, left: i64, right: i64) -> i64
     ensures { result ≡ value_of_binary operator left right }
 {

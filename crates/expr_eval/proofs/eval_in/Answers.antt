@@ -1,12 +1,10 @@
-use Rattle.std.proofs.Common.{rules, arith, ◌≡◌, ◌<◌, ◌≤◌, length, ℕ, ◌+◌, ◌-◌, List, [], ◌∷◌, ◌++◌, take, drop, refl, slice_index_or, get_or, w64, pos, to_z, of_z, sym, subst, ap, length-set}
+use Rattle.std.proofs.Common.{rules, arith, ◌≡◌, ◌<◌, ◌≤◌, length, ℕ, ◌+◌, ◌-◌, List, slice_index_or, get_or, w64, pos, to_z, of_z, sym, subst, ap, length-set}
 use Rattle.std.proofs.lemmas.Int.{to_z-of_z}
 use Rattle.dbp_plan.specs.declared.node.Node.{Node}
 use Rattle.dbp_plan.specs.declared.node.Node.TheVariants.{Num, Var, Un, Bin, Pick}
 use Rattle.dbp_plan.specs.LetOrder.{VariablesBelow}
-use Rattle.expr_eval.specs.Values.{value_of}
-use Rattle.expr_eval.proofs.StackRuns.{runs_all, runs_none, Runs, runs_pushed, runs_number, runs_variable, runs_unary, runs_binary, runs_popped, runs_choice, some_left, some_choice, first_and_rest, variables_after, first_variable}
+use Rattle.expr_eval.proofs.StackRuns.{runs_all, runs_none, runs_number, runs_variable, runs_unary, runs_binary, runs_choice, some_left, some_choice, first_and_rest, variables_after, first_variable}
 use Rattle.expr_eval.proofs.eval_in.Goals as goal
-use Rattle.expr_eval.proofs.eval_in.Goals.{Joined-node, in-Num, in-Var}
 
 pub loop-nodes-init : goal.loop-nodes-init
 loop-nodes-init c =
@@ -16,8 +14,30 @@ loop-nodes-init c =
       variables = subst (λ (l : List (Node ℕ)). VariablesBelow (length c.args.env.now) l) (sym c.items-nodes.ensures.value) c.requires.variables;
     }
 
+pub loop-nodes-preserved-in-Num : goal.loop-nodes-preserved-in-Num
+loop-nodes-preserved-in-Num c =
+    let is = first_and_rest c.loop-nodes.nodes.now (Num (pos 0)) (Num c.in-Num.word) c.in-len1-up.len_at_least c.in-Num.is in
+    let shown : to_z w64 (of_z w64 c.in-Num.word) ≡ c.in-Num.word = search (rules, to_z-of_z) in
+    let within : c.loop-nodes.height < length c.loop-nodes.stack = omega (arith, ap length is) in
+    record {
+      runs = rw shown (runs_number _ _ _ _ _ _ _ _ is within c.loop-nodes.invariant.runs);
+      room = omega (arith, ap length is, length-set c.loop-nodes.stack c.loop-nodes.height (to_z w64 c.loop-nodes.last-bits));
+      variables = variables_after _ _ _ _ is c.loop-nodes.invariant.variables;
+    }
+
 pub bounds-env-place : goal.bounds-env-place
 bounds-env-place c = first_variable _ _ _ _ (first_and_rest c.loop-nodes.nodes.now (Num (pos 0)) (Var c.in-Var.place) c.in-len1-up.len_at_least c.in-Var.is) c.loop-nodes.invariant.variables
+
+pub loop-nodes-preserved-in-Var : goal.loop-nodes-preserved-in-Var
+loop-nodes-preserved-in-Var c =
+    let is = first_and_rest c.loop-nodes.nodes.now (Num (pos 0)) (Var c.in-Var.place) c.in-len1-up.len_at_least c.in-Var.is in
+    let shown : to_z w64 (of_z w64 (slice_index_or c.args.env.now c.in-Var.place (pos 0))) ≡ slice_index_or c.args.env.now c.in-Var.place (pos 0) = search (rules, to_z-of_z) in
+    let within : c.loop-nodes.height < length c.loop-nodes.stack = omega (arith, ap length is) in
+    record {
+      runs = rw shown (runs_variable _ _ _ _ _ _ _ _ is within c.loop-nodes.invariant.runs);
+      room = omega (arith, ap length is, length-set c.loop-nodes.stack c.loop-nodes.height (to_z w64 c.loop-nodes.last-bits));
+      variables = variables_after _ _ _ _ is c.loop-nodes.invariant.variables;
+    }
 
 pub loop-nodes-preserved-in-Un : goal.loop-nodes-preserved-in-Un
 loop-nodes-preserved-in-Un c =
@@ -27,44 +47,6 @@ loop-nodes-preserved-in-Un c =
       runs = rw (shown, c.unary-last.ensures) (runs_unary _ _ _ _ _ _ _ _ is c.loop-nodes.invariant.runs);
       room = omega (arith, ap length is);
       variables = variables_after _ _ _ _ is c.loop-nodes.invariant.variables;
-    }
-
--- after a leaf, what is left of the nodes leads from its value to the expression's
-leaf_taken : (c : Joined-node) → Runs c.args.env.now (take c.loop-nodes.height c.loop-nodes.stack ++ to_z w64 c.loop-nodes.last-bits ∷ []) (to_z w64 c.match-node.leaf-bits)
-    (take (length c.loop-nodes.nodes.now - 1) (drop 1 c.loop-nodes.nodes.now)) (value_of c.args.expr.now c.args.env.now)
-leaf_taken c =
-    elim c.match-node.branch [
-      | in-Num w ↦
-          let is = first_and_rest c.loop-nodes.nodes.now (Num (pos 0)) (Num w.in-Num.word) c.in-len1-up.len_at_least w.in-Num.is in
-          let shown : to_z w64 (of_z w64 w.in-Num.word) ≡ w.in-Num.word = search (rules, to_z-of_z) in
-          rw (w.leaf-is, shown) (runs_number _ _ _ _ _ _ _ is c.loop-nodes.invariant.runs)
-      | in-Var w ↦
-          let is = first_and_rest c.loop-nodes.nodes.now (Num (pos 0)) (Var w.in-Var.place) c.in-len1-up.len_at_least w.in-Var.is in
-          let shown : to_z w64 (of_z w64 (slice_index_or c.args.env.now w.in-Var.place (pos 0))) ≡ slice_index_or c.args.env.now w.in-Var.place (pos 0) = search (rules, to_z-of_z) in
-          rw (w.leaf-is, shown) (runs_variable _ _ _ _ _ _ _ is c.loop-nodes.invariant.runs)
-    ]
-
-pub loop-nodes-preserved-in-len1-up : goal.loop-nodes-preserved-in-len1-up
-loop-nodes-preserved-in-len1-up c =
-    let nodes = c.loop-nodes.nodes.now in
-    let rest = take (length nodes - 1) (drop 1 nodes) in
-    let first = first_and_rest nodes (Num (pos 0)) _ c.in-len1-up.len_at_least refl in
-    let second = first_and_rest rest (Num (pos 0)) (Bin c.in-Bin-next.operator c.in-Bin-next.field-1 c.in-Bin-next.field-2) c.in-len1-up-rest.len_at_least c.in-Bin-next.is in
-    let shown : to_z w64 (of_z w64 c.binary-last-in-len1-up.result) ≡ c.binary-last-in-len1-up.result = search (rules, to_z-of_z) in
-    record {
-      runs = rw (shown, c.binary-last-in-len1-up.ensures) (runs_binary _ _ _ _ _ _ _ _ _ _ second (leaf_taken (goal.at.loop-nodes-preserved-in-len1-up c).Joined-node));
-      room = omega (arith, ap length first, ap length second);
-      variables = variables_after _ _ _ _ second (variables_after _ _ _ _ first c.loop-nodes.invariant.variables);
-    }
-
-pub loop-nodes-preserved : goal.loop-nodes-preserved
-loop-nodes-preserved c =
-    let first = first_and_rest c.loop-nodes.nodes.now (Num (pos 0)) _ c.in-len1-up.len_at_least refl in
-    let within : c.loop-nodes.height < length c.loop-nodes.stack = omega (arith, ap length first) in
-    record {
-      runs = runs_pushed _ _ _ _ _ _ _ within (leaf_taken (goal.at.loop-nodes-preserved c).Joined-node);
-      room = omega (arith, ap length first, length-set c.loop-nodes.stack c.loop-nodes.height (to_z w64 c.loop-nodes.last-bits));
-      variables = variables_after _ _ _ _ first c.loop-nodes.invariant.variables;
     }
 
 pub overflow_sub-height : goal.overflow_sub-height
@@ -79,7 +61,7 @@ loop-nodes-preserved-in-Bin c =
     let within : c.loop-nodes.height ≤ length c.loop-nodes.stack = omega arith in
     let left : to_z w64 (of_z w64 (get_or c.loop-nodes.stack (c.loop-nodes.height - 1) (pos 0))) ≡ get_or c.loop-nodes.stack (c.loop-nodes.height - 1) (pos 0) = search (rules, to_z-of_z) in
     record {
-      runs = rw (shown, c.binary-last.ensures, left) (runs_popped _ _ _ _ _ _ _ _ _ _ _ is size within c.loop-nodes.invariant.runs);
+      runs = rw (shown, c.binary-last.ensures, left) (runs_binary _ _ _ _ _ _ _ _ _ _ _ is size within c.loop-nodes.invariant.runs);
       room = omega (arith, ap length is);
       variables = variables_after _ _ _ _ is c.loop-nodes.invariant.variables;
     }
@@ -90,8 +72,8 @@ overflow_sub-height-in-Pick c = some_choice _ _ _ _ _ _ _ _ _ _ (first_and_rest 
 pub slice_copy_out-choice-in-Pick : goal.slice_copy_out-choice-in-Pick
 slice_copy_out-choice-in-Pick c = omega (arith, some_choice _ _ _ _ _ _ _ _ _ _ (first_and_rest c.loop-nodes.nodes.now (Num (pos 0)) (Pick c.in-Pick.field-0 c.in-Pick.field-1 c.in-Pick.field-2) c.in-len1-up.len_at_least c.in-Pick.is) c.loop-nodes.invariant.runs)
 
-pub loop-nodes-preserved-in-Pick : goal.loop-nodes-preserved-in-Pick
-loop-nodes-preserved-in-Pick c =
+pub loop-nodes-preserved : goal.loop-nodes-preserved
+loop-nodes-preserved c =
     let is = first_and_rest c.loop-nodes.nodes.now (Num (pos 0)) (Pick c.in-Pick.field-0 c.in-Pick.field-1 c.in-Pick.field-2) c.in-len1-up.len_at_least c.in-Pick.is in
     let shown : to_z w64 (of_z w64 c.choice-last.result) ≡ c.choice-last.result = search (rules, to_z-of_z) in
     let some = some_choice _ _ _ _ _ _ _ _ _ _ is c.loop-nodes.invariant.runs in
