@@ -21,6 +21,7 @@ enum Numbers {
     Zero([u32; 0]),
     One([u32; 1]),
     Two([u32; 2]),
+    Three([u32; 3]),
     More(Box<List<u32>>),
 }
 
@@ -66,6 +67,7 @@ impl TaskNumbers {
             Numbers::Zero(numbers) => numbers,
             Numbers::One(numbers) => numbers,
             Numbers::Two(numbers) => numbers,
+            Numbers::Three(numbers) => numbers,
             Numbers::More(list) => list.items(),
         }
     }
@@ -107,7 +109,11 @@ impl Numbers {
         let more = match self {
             Numbers::Zero(_) => Numbers::One([task]),
             Numbers::One(numbers) => Numbers::Two([numbers[0], task]),
-            Numbers::Two(numbers) => Numbers::More(boxed(alloc, numbers[0], numbers[1], task)?),
+            Numbers::Two(numbers) => Numbers::Three([numbers[0], numbers[1], task]),
+            Numbers::Three(numbers) => {
+                let [first, second, third] = *numbers;
+                Numbers::More(boxed(alloc, &[first, second, third, task])?)
+            }
             Numbers::More(list) => return list.push(task),
         };
         *self = more;
@@ -124,19 +130,22 @@ impl Numbers {
             Numbers::Zero(numbers) => Ok(Numbers::Zero(*numbers)),
             Numbers::One(numbers) => Ok(Numbers::One(*numbers)),
             Numbers::Two(numbers) => Ok(Numbers::Two(*numbers)),
+            Numbers::Three(numbers) => Ok(Numbers::Three(*numbers)),
             Numbers::More(list) => Ok(Numbers::More(Box::new(alloc, list.copied()?)?)),
         }
     }
 }
 
-// A list of the three numbers, in a place of its own.
-fn boxed(alloc: Global, first: u32, second: u32, third: u32) -> Result<Box<List<u32>>, NoMemory>
-    ensures { IfOk result (λ list. list.value ≡ first ∷ second ∷ third ∷ []) }
+// A list of the four numbers, in a place of its own.
+fn boxed(alloc: Global, numbers: &[u32; 4]) -> Result<Box<List<u32>>, NoMemory>
+    requires { length numbers.now ≡ 4 }
+    ensures { IfOk result (λ list. list.value ≡ numbers.now) }
 {
-    let mut list = List::new(alloc);
-    list.push(first)?;
-    list.push(second)?;
-    list.push(third)?;
+    let mut list = List::with_capacity(alloc, 4)?;
+    list.push(numbers[0])?;
+    list.push(numbers[1])?;
+    list.push(numbers[2])?;
+    list.push(numbers[3])?;
     Ok(Box::new(alloc, list)?)
 }
 
