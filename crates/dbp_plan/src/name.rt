@@ -11,7 +11,7 @@ use std::marker::Model;
 #[derive(Clone, Copy)]
 pub struct Name {
     held: [u8; MAX_NAME],
-    count: u8,
+    count: usize,
 }
 
 impl Model for Name {
@@ -54,7 +54,7 @@ impl Name {
         }
         Name {
             held,
-            count: bytes.len() as u8,
+            count: bytes.len(),
         }
     }
 
@@ -63,7 +63,7 @@ impl Name {
         ensures value { result.now ≡ self.now }
         ensures name { IsName self.now }
     {
-        &self.held[..self.count as usize]
+        &self.held[..self.count]
     }
 
     /// Whether this is the other name.
