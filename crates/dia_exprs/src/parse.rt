@@ -11,6 +11,7 @@ ghost use Rattle.dia_exprs.specs.Grammar.{Expression, Spells};
 ghost use Rattle.dia_exprs.specs.Answers.{IsSpelled, SpellsNone, Gives};
 
 use crate::ExpressionFail;
+use crate::counts::node_tokens;
 use crate::descent::whole;
 use dbp_plan::{Expr, List, Name, Node};
 use dia_tokens::Token;
@@ -36,7 +37,7 @@ fn nodes(alloc: Global, tokens: &[Token]) -> Result<List<Node<Name>>, Expression
     ensures few { IfOk result (λ nodes. length nodes ≤ MAX_NODES) }
     ensures none { IfErr result (λ e. e ≡ NoExpression → SpellsNone tokens.now) }
 {
-    let mut nodes = List::new(alloc);
+    let mut nodes = List::with_capacity(alloc, node_tokens(tokens) as u32)?;
     let rest = whole(&mut nodes, tokens)?;
     if rest.is_empty() {
         Ok(nodes)
