@@ -39,9 +39,9 @@ pub(crate) fn next_release(release: Option<Release>) -> NextStep
             number: 0,
             subject: 0,
         },
-        Some(Release::Aim { task }) => next_step(StepKind::Aim, task),
-        Some(Release::Claim { link }) => next_step(StepKind::Claim, link),
-        Some(Release::OpenGate { task }) => next_step(StepKind::OpenGate, task),
+        Some(Release::Aim { task }) => next_step(StepKind::Aim, u32::from(task)),
+        Some(Release::Claim { link }) => next_step(StepKind::Claim, u32::from(link)),
+        Some(Release::OpenGate { task }) => next_step(StepKind::OpenGate, u32::from(task)),
     }
 }
 

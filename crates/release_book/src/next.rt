@@ -19,9 +19,13 @@ pub(crate) fn next_step(plan: &Plan, wiring: &Wiring, part: &ReleaserPart) -> Re
     ensures { IsNextStep wiring.now part.now result }
 {
     match wiring.releases.get(part.place).copied() {
-        Some(Release::Aim { task }) => at_aim(plan, wiring, part, task),
-        Some(Release::Claim { link }) => ReleaseStep::Claim { link },
-        Some(Release::OpenGate { task }) => ReleaseStep::OpenGate { task },
+        Some(Release::Aim { task }) => at_aim(plan, wiring, part, u32::from(task)),
+        Some(Release::Claim { link }) => ReleaseStep::Claim {
+            link: u32::from(link),
+        },
+        Some(Release::OpenGate { task }) => ReleaseStep::OpenGate {
+            task: u32::from(task),
+        },
         None => at_end(wiring, part),
     }
 }

@@ -1,21 +1,23 @@
 // The list of the releaser's actions.
-ghost use Rattle.std.specs.Prelude.{◌≡◌, ◌+◌, ◌*◌, ◌<◌, ◌^◌, ◌++◌, All, IfOk, OnOk, length, map};
+ghost use Rattle.std.specs.Prelude.{◌≡◌, ◌+◌, ◌*◌, ◌<◌, ◌≤◌, ◌^◌, ◌++◌, All, IfOk, OnOk, length, map};
 ghost use Rattle.release_list.specs.Releases.{claims_by_task, claims_into, claims_of, releases_at, releases_of};
 ghost use Rattle.release_list.specs.declared.release.Release.TheVariants.{Aim, OpenGate};
 
 use dbp_plan::{Batch, Link, List, NoMemory, Plan};
 use std::alloc::Global;
 
-/// One action of the releaser.
+/// One action of the releaser. A diagram has so few tasks and links that a byte takes their numbers.
 #[derive(Clone, Copy, Debug, PartialEq, Eq)]
 pub enum Release {
     /// The task's next instance is given the slot that it is to fill.
-    Aim { task: u32 },
+    Aim { task: u8 },
     /// The link's reader is given the slot that its next instance is to read.
-    Claim { link: u32 },
+    Claim { link: u8 },
     /// The gate of the task's next instance is opened.
-    OpenGate { task: u32 },
+    OpenGate { task: u8 },
 }
+
+const _: () = prove!(size_of::<Release>() == 2);
 
 /// The releaser's actions of the whole plan, in order. For each batch it aims each task, then claims each link into
 /// each task, then opens each task's gate.
@@ -37,6 +39,7 @@ fn claims_by_task(
     links: &List<Link>,
     tasks: u32,
 ) -> Result<List<List<Release>>, NoMemory>
+    requires { length links.now ≤ 2 ^ 8 }
     ensures { IfOk result (λ claims. claims ≡ claims_by_task links.now tasks) }
 {
     let mut claims = List::new(alloc);
@@ -48,12 +51,13 @@ fn claims_by_task(
 
 // A claim of each link into the task.
 fn task_claims(alloc: Global, links: &List<Link>, task: u32) -> Result<List<Release>, NoMemory>
+    requires { length links.now ≤ 2 ^ 8 }
     ensures { IfOk result (λ claims. claims ≡ claims_into links.now task) }
 {
     let mut claims = List::new(alloc);
     for link in 0..links.len() {
         if links.items()[link as usize].reader == task {
-            claims.push(Release::Claim { link })?;
+            claims.push(Release::Claim { link: link as u8 })?;
         }
     }
     Ok(claims)
@@ -68,6 +72,7 @@ fn push_batch(
 ) -> Result<(), NoMemory>
     requires claims { claims.now ≡ claims_by_task links.now (length claims.now) }
     requires named { All (λ i. i < length claims.now) batch.now.tasks }
+    requires few { length claims.now ≤ 2 ^ 8 }
     requires room { length list.old + length batch.now.tasks * (length links.now + 2) < 2 ^ 32 }
     ensures { OnOk result (list.new ≡ list.old ++ releases_at links.now batch.now) }
 {
@@ -78,11 +83,12 @@ fn push_batch(
 }
 
 fn push_aims(list: &mut List<Release>, tasks: &[u32]) -> Result<(), NoMemory>
-    requires { length list.old + length tasks.now < 2 ^ 32 }
+    requires tasks { All (λ i. i < 2 ^ 8) tasks.now }
+    requires room { length list.old + length tasks.now < 2 ^ 32 }
     ensures { OnOk result (list.new ≡ list.old ++ map Aim tasks.now) }
 {
     for task in tasks {
-        list.push(Release::Aim { task: *task })?;
+        list.push(Release::Aim { task: *task as u8 })?;
     }
     Ok(())
 }
@@ -120,11 +126,12 @@ fn push_claims_into(
 }
 
 fn push_opens(list: &mut List<Release>, tasks: &[u32]) -> Result<(), NoMemory>
-    requires { length list.old + length tasks.now < 2 ^ 32 }
+    requires tasks { All (λ i. i < 2 ^ 8) tasks.now }
+    requires room { length list.old + length tasks.now < 2 ^ 32 }
     ensures { OnOk result (list.new ≡ list.old ++ map OpenGate tasks.now) }
 {
     for task in tasks {
-        list.push(Release::OpenGate { task: *task })?;
+        list.push(Release::OpenGate { task: *task as u8 })?;
     }
     Ok(())
 }

@@ -31,3 +31,6 @@ push_batch-requires-clause-room c =
     let plan = c.args.plan.now in
     let fits = room plan.diagram.links plan.batches c.items-batch-items.result.now c.loop-batch.batch-index c.batch-item.result c.items-batch-items.ensures.value c.loop-batch-test.true c.batch-item.is plan.rules.ranked.closed.links plan.rules.few in
     omega (arith, ap length c.loop-batch.invariant, fits)
+
+pub push_batch-requires-clause-few : goal.push_batch-requires-clause-few
+push_batch-requires-clause-few c = omega (arith, of_all c, c.args.plan.now.rules.ranked.closed.tasks)
