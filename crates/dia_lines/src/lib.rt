@@ -22,7 +22,7 @@ pub use fault::{Limit, LineError, ReadCode};
 pub use fronts::delay_at;
 pub use item::{Decl, Line, Part, RawClock, TaskLine};
 pub use laws::{one_line_fault, one_reading, one_statement};
-pub use line::read_line;
+pub use line::{read_line, read_line_with};
 pub use place::Place;
 pub use position::{Counts, Position};
 pub use ranges::short_delay;

@@ -1,6 +1,6 @@
 // What a line says after those before it, or its first fault.
 
-ghost use Rattle.std.specs.Prelude.{◌≡◌, ◌≢◌, false, ◌∷◌, List, Err, IfOk, IfErr};
+ghost use Rattle.std.specs.Prelude.{◌≡◌, ◌≢◌, false, ◌∷◌, List, Err, IfOk, IfErr, OnOk};
 ghost use Rattle.std.specs.List.{list_all};
 ghost use Rattle.dia_tokens.specs.Kinds.{is_allowed};
 ghost use Rattle.dia_tokens.specs.Line.{Spells as SpellsTokens, HasBadStart};
@@ -18,21 +18,26 @@ use crate::before_form::token_code;
 use crate::statement::statement;
 use crate::trace::trace_line;
 use crate::{Counts, Line, LineError, Place, Position};
-use dia_tokens::{Token, Word, line_spelling, tokens};
+use dia_tokens::{Token, Word, line_spelling, tokens_into};
 use std::alloc::Global;
 
-/// The tokens of a line, or its first fault.
-fn line_tokens(alloc: Global, line: &[u8]) -> Result<Vec<Token>, LineError>
-    ensures found { IfOk result (λ ts. SpellsTokens line.now ts.items) }
+/// The tokens of a line, which take the place of the list's, or its first fault.
+fn line_tokens(line: &[u8], out: &mut Vec<Token>) -> Result<(), LineError>
+    ensures found { OnOk result (SpellsTokens line.now out.new.items) }
     ensures fault { IfErr result (λ e. RefusesText line.now e) }
     ensures bad_byte { list_all is_allowed line.now ≡ false → result ≡ Err (Refused BadByte) }
     ensures bad_token { HasBadStart line.now → result ≡ Err (Refused BadToken) }
 {
-    Ok(tokens(alloc, line)?)
+    Ok(tokens_into(line, out)?)
 }
 
 /// A line of the diagram, and the counts after it.
-fn diagram_line(alloc: Global, position: Position, line: &[u8]) -> Result<(Line, Counts), LineError>
+fn diagram_line(
+    alloc: Global,
+    position: Position,
+    line: &[u8],
+    tokens: &mut Vec<Token>,
+) -> Result<(Line, Counts), LineError>
     ensures found { (before : List Said) → IsAfter before position
         → IfOk result (λ r. (s : Statement) × SaysStatement before line.now s × IsKept s r.0
         × AreCounts (s ∷ statements before) r.1) }
@@ -41,10 +46,10 @@ fn diagram_line(alloc: Global, position: Position, line: &[u8]) -> Result<(Line,
     ensures bad_byte { list_all is_allowed line.now ≡ false → result ≡ Err (Refused BadByte) }
     ensures bad_token { HasBadStart line.now → result ≡ Err (Refused BadToken) }
 {
-    let tokens = line_tokens(alloc, line)?;
-    let line = match token_code(position.place, &tokens) {
+    line_tokens(line, tokens)?;
+    let line = match token_code(position.place, tokens) {
         Some(code) => return Err(LineError::from(code)),
-        None => statement(alloc, position.place, &tokens)?,
+        None => statement(alloc, position.place, tokens)?,
     };
     match position.counts.with_line(&line) {
         Ok(counts) => Ok((line, counts)),
@@ -85,7 +90,12 @@ fn place_after(place: Place, line: &Line) -> Place
 }
 
 /// What the line says after those before it, and the counts after it.
-fn counted_line(alloc: Global, position: Position, line: &[u8]) -> Result<(Line, Counts), LineError>
+fn counted_line(
+    alloc: Global,
+    position: Position,
+    line: &[u8],
+    tokens: &mut Vec<Token>,
+) -> Result<(Line, Counts), LineError>
     ensures found { (before : List Said) → IsAfter before position
         → IfOk result (λ r. (said : Said) × Reads before line.now said × IsHeld said r.0
         × AreCounts (statements (said ∷ before)) r.1) }
@@ -102,7 +112,7 @@ fn counted_line(alloc: Global, position: Position, line: &[u8]) -> Result<(Line,
             Err(code) => Err(LineError::from(code)),
         },
         Place::Script => Ok((script_line(alloc, line)?, position.counts)),
-        _ => diagram_line(alloc, position, line),
+        _ => diagram_line(alloc, position, line, tokens),
     }
 }
 
@@ -111,6 +121,25 @@ pub fn read_line(
     alloc: Global,
     position: Position,
     line: &[u8],
+) -> Result<(Line, Position), LineError>
+    // As for `read_line_with`.
+    ensures found { IfOk result (λ r. IsNextLine position line.now r.0 r.1) }
+    ensures fault { IfErr result (λ e. RefusesAfter position line.now e) }
+    ensures memory { position.place ≡ Trace → IfErr result (λ e. e ≢ OutOfMemory) }
+    ensures bad_byte { list_all is_allowed line.now ≡ false → result ≡ Err (Refused BadByte) }
+    ensures bad_token { position.place ≢ Trace → position.place ≢ Script → HasBadStart line.now
+        → result ≡ Err (Refused BadToken) }
+{
+    read_line_with(alloc, position, line, &mut Vec::new(alloc))
+}
+
+/// The same, for a caller who reads many lines: the list's room is used again for the line's tokens, which take the place
+/// of what it holds.
+pub fn read_line_with(
+    alloc: Global,
+    position: Position,
+    line: &[u8],
+    tokens: &mut Vec<Token>,
 ) -> Result<(Line, Position), LineError>
     // The line says what is held of it.
     ensures found { IfOk result (λ r. IsNextLine position line.now r.0 r.1) }
@@ -124,7 +153,7 @@ pub fn read_line(
     ensures bad_token { position.place ≢ Trace → position.place ≢ Script → HasBadStart line.now
         → result ≡ Err (Refused BadToken) }
 {
-    let (line, counts) = counted_line(alloc, position, line)?;
+    let (line, counts) = counted_line(alloc, position, line, tokens)?;
     let place = place_after(position.place, &line);
     Ok((line, Position { place, counts }))
 }

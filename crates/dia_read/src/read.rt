@@ -14,7 +14,7 @@ ghost use Rattle.dia_read.specs.Printable.{IsPrintable, HasItemLines};
 use crate::draft::Draft;
 use crate::refusal::{blank_fault, is_blank_text, refused_at};
 use crate::{Doc, ReadCode, ReadFail};
-use dia_lines::{Position, next_line, read_line};
+use dia_lines::{Position, next_line, read_line_with};
 use std::alloc::Global;
 
 /// The document that a text with tokens spells, or its first fault.
@@ -27,13 +27,14 @@ fn read_lines(alloc: Global, bytes: &[u8]) -> Result<Doc, ReadFail>
     ensures fault { IfErr result (λ e. Refuses bytes.now e) }
 {
     let mut draft = Draft::new(alloc);
+    let mut tokens = Vec::new(alloc);
     let mut position = Position::start();
     let mut number = 0;
     let mut rest = bytes;
     while !rest.is_empty() {
         let (line, after) = next_line(rest);
         number += 1;
-        match read_line(alloc, position, line) {
+        match read_line_with(alloc, position, line, &mut tokens) {
             Ok((item, next)) => {
                 draft.add(alloc, number, line, item)?;
                 position = next;

@@ -1,5 +1,5 @@
 use Rattle.dia_lines.proofs.Reading.{after-found}
-use Rattle.dia_lines.proofs.line.read_line.Goals as goal
+use Rattle.dia_lines.proofs.line.read_line_with.Goals as goal
 
 pub returns-clause-found : goal.returns-clause-found
 returns-clause-found c before after =
