@@ -1,3 +1,4 @@
+pub mod Zipped
 pub mod Taken
 pub mod There
 pub mod Delays

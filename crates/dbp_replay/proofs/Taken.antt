@@ -1,7 +1,9 @@
 -- Steps taken so far.
-use Rattle.std.proofs.Common.{◌≡◌, ℕ, ◌+◌, All, List, [], ◌∷◌, ◌++◌, take, length, slice_get, Some, Result, Ok, Err, refl, sym, ap, ◌∙◌, subst, arith}
+use Rattle.std.proofs.Common.{◌≡◌, ℕ, ◌+◌, ◌<◌, List, [], ◌∷◌, ◌++◌, take, length, get_or, slice_get, append-nil, Some, Result, Ok, Err, refl, sym, ap, ◌∙◌, length-take, subst, arith}
+use Rattle.std.specs.Prelude.{zip}
 use Rattle.std.proofs.lemmas.List.{take_all}
-use Rattle.std.proofs.lemmas.List.Elements.{All-cons, All-head, All-nil, All-tail}
+use Rattle.std.proofs.lemmas.Option.{slice_get_within}
+use Rattle.std.proofs.lemmas.List.Concat.{flat_map-append}
 use Rattle.dbp_plan.proofs.ListParts.{take_push}
 use Rattle.dbp_rules.specs.declared.step.Count.{Count}
 use Rattle.dbp_rules.specs.declared.step.Heard.{Heard}
@@ -13,9 +15,11 @@ use Rattle.dbp_rules.specs.Lawful.{Leads}
 use Rattle.dbp_rules.specs.Rules.{IsNamed, IsStep, hears, next, refusal}
 use Rattle.dbp_rules.specs.Wired.{wiring_of}
 use Rattle.dbp_rules.proofs.LeadsLaws.{answer_allowed, answer_refused, leads_more}
+use Rattle.dbp_plan.specs.declared.diagram.Diagram.{Diagram}
 use Rattle.dbp_plan.specs.declared.plan.Plan.{Plan}
+use Rattle.dbp_replay.proofs.Zipped.{zip_at, zip_push}
 use Rattle.dbp_replay.proofs.OneReplay.{text-not-refused}
-use Rattle.dbp_replay.specs.NamedItems.{IsThere}
+use Rattle.dbp_replay.specs.Texts.{heard_line}
 use Rattle.dbp_replay.specs.Replays.{AreTaken, IsIllegal, IsReplay, first, taken_text, with_heard}
 
 -- ---- one step more
@@ -46,13 +50,21 @@ taken-more p count steps place s new taken more e h t here named answer added =
           ∙ sym (one-more p w (take place steps) (first p count) s e t.leads) ∙ ap (with_heard p w (first p count)) (sym front);
     }
 
-pub taken-all : (p : Plan) (count : Count) (steps : List Step) (place : ℕ) (s : State) (taken : List (Step × Heard)) → TakenTo p count steps place s taken → place ≡ length steps → AreTaken p count steps taken
-taken-all p count steps place s taken t end =
+-- what is heard at a place comes after what was heard before
+pub heard-more : (steps : List Step) (place : ℕ) (heard more : List Heard) (e : Step) (h : Heard) → slice_get steps place ≡ Some e → length heard ≡ place → more ≡ heard ++ h ∷ []
+    → zip (take (place + 1) steps) more ≡ zip (take place steps) heard ++ (e, h) ∷ []
+heard-more steps place heard more e h here size added =
+    let same : length (take place steps) ≡ length heard = omega (arith, size, length-take place steps, slice_get_within steps place e here) in
+    (λ i. zip (take_push steps place e here i) (added i)) ∙ zip_push (take place steps) heard e h same
+
+pub taken-all : (p : Plan) (count : Count) (steps : List Step) (place : ℕ) (s : State) (heard : List Heard) → TakenTo p count steps place s (zip (take place steps) heard) → place ≡ length steps
+    → AreTaken p count steps (zip steps heard)
+taken-all p count steps place s heard t end =
     let whole : take place steps ≡ steps = take_all place steps (omega (arith, end)) in
     record {
       state = s;
       leads = subst (λ (es : List Step). Leads p (wiring_of p count) (first p count) es s) whole t.leads;
-      told = t.told ∙ ap (with_heard p (wiring_of p count) (first p count)) whole;
+      told = ap (λ (es : List Step). zip es heard) (sym whole) ∙ t.told ∙ ap (with_heard p (wiring_of p count) (first p count)) whole;
     }
 
 -- a step of an equal plan under an equal count
@@ -74,13 +86,15 @@ refused-at p count steps place s new taken e why t here answer = record {
 
 -- ---- all steps were taken
 
-steps-there : (p : Plan) (w : Wiring) (s : State) (es : List Step) → All (IsThere p.diagram) es → All (λ x. IsThere p.diagram x.0) (with_heard p w s es)
-steps-there p w s [] there = All-nil (λ x. IsThere p.diagram x.0)
-steps-there p w s (e ∷ es) there =
-    All-cons (λ x. IsThere p.diagram x.0) (e, hears w s e) (with_heard p w (next p w s e) es) (All-head (IsThere p.diagram) e es there) (steps-there p w (next p w s e) es (All-tail (IsThere p.diagram) e es there))
-
-pub taken-there : (p : Plan) (count : Count) (steps : List Step) (taken : List (Step × Heard)) → AreTaken p count steps taken → All (IsThere p.diagram) steps → All (λ x. IsThere p.diagram x.0) taken
-taken-there p count steps taken t there = subst (All (λ x. IsThere p.diagram x.0)) (sym t.told) (steps-there p (wiring_of p count) (first p count) steps there)
+-- the line of the step at a place comes after the lines before
+pub line-more : (d : Diagram) (steps : List Step) (heard : List Heard) (place : ℕ) (e : Step) (h : Heard) → place < length steps → place < length heard
+    → taken_text d (take (place + 1) (zip steps heard)) ≡ taken_text d (take place (zip steps heard)) ++ heard_line d (get_or steps place e) (get_or heard place h)
+line-more d steps heard place e h below beside =
+    let pair : Step × Heard = (get_or steps place e, get_or heard place h) in
+    let before = taken_text d (take place (zip steps heard)) in
+    ap (taken_text d) (take_push (zip steps heard) place pair (zip_at steps heard place e h below beside))
+    ∙ flat_map-append (λ (x : Step × Heard). heard_line d x.0 x.1) (take place (zip steps heard)) (pair ∷ [])
+    ∙ ap (λ l. before ++ l) (append-nil (heard_line d (get_or steps place e) (get_or heard place h)))
 
 pub taken-replay : (p : Plan) (count : Count) (steps : List Step) (taken : List (Step × Heard)) (text : List ℕ) → AreTaken p count steps taken → text ≡ taken_text p.diagram taken → IsReplay p count steps text
 taken-replay p count steps taken text t is = record { state = t.state; leads = t.leads; told = is ∙ ap (taken_text p.diagram) t.told }

@@ -1,6 +1,6 @@
 // Steps taken on the core of a plan.
 
-ghost use Rattle.std.specs.Prelude.{◌≡◌, ◌<◌, ◌≤◌, ◌^◌, ℕ, [], All, Err, IfErr, IfOk, length, vec_capacity, vec_len};
+ghost use Rattle.std.specs.Prelude.{◌≡◌, ◌<◌, ◌≤◌, ◌^◌, ℕ, [], All, Err, IfErr, IfOk, length, vec_capacity, vec_len, zip};
 ghost use Rattle.dbp_core.specs.Cores.{count_in, plan_in, state_in};
 ghost use Rattle.dbp_replay.specs.NamedItems.{IsThere};
 ghost use Rattle.dbp_replay.specs.Replays.{IsIllegal, IsReplay, IsReplayRefusal, first, taken_text};
@@ -55,7 +55,7 @@ fn replay_in(
     alloc: Global,
     core: Core,
     steps: &[Step],
-    room: Vec<(Step, Heard)>,
+    room: Vec<Heard>,
 ) -> Result<Vec<u8>, ReplayFail>
     requires there { All (IsThere (plan_in core).diagram) steps.now }
     requires few { length steps.now < 2 ^ 32 }
@@ -73,22 +73,25 @@ fn replay_in(
         → result ≡ Err (replay_fail.Illegal number why) }
 {
     let mut core = core;
-    let taken = walk(&mut core, steps, room)?;
-    Ok(taken_text(alloc, &core.plan().diagram, &taken)?)
+    let all_heard = walk(&mut core, steps, room)?;
+    Ok(taken_text(alloc, &core.plan().diagram, steps, &all_heard)?)
 }
 
 /// The lines of steps, each with what it heard.
 fn taken_text(
     alloc: Global,
     diagram: &Diagram,
-    taken: &[(Step, Heard)],
+    steps: &[Step],
+    all_heard: &[Heard],
 ) -> Result<Vec<u8>, NoMemory>
-    requires { All (λ x. IsThere diagram.now x.0) taken.now }
-    ensures { IfOk result (λ text. text.items ≡ taken_text diagram.now taken.now) }
+    requires there { All (IsThere diagram.now) steps.now }
+    requires size { length all_heard.now ≡ length steps.now }
+    ensures { IfOk result
+        (λ text. text.items ≡ taken_text diagram.now (zip steps.now all_heard.now)) }
 {
     let mut text = Vec::new(alloc);
-    for (step, heard) in taken {
-        push_step(&mut text, diagram, *step)?;
+    for (place, heard) in all_heard.iter().enumerate() {
+        push_step(&mut text, diagram, steps[place])?;
         push_heard(&mut text, *heard)?;
         text.push(b'\n')?;
     }
