@@ -23,8 +23,8 @@ mod task_numbers;
 pub use diagram::{Clock, Diagram, Input, Let, Link, Next, Out, Policy, Read, Sense, State, Task};
 pub use expr::Expr;
 pub use limits::{
-    MAX_BODY, MAX_DELAY, MAX_EVENTS, MAX_INPUTS, MAX_NAME, MAX_NODES, MAX_OCCURRENCES, MAX_OUTS,
-    MAX_PRIO, MAX_READ_LINES, MAX_READS, MAX_TASKS, MAX_TEXT, MAX_TIME,
+    MAX_BODY, MAX_CPU, MAX_DELAY, MAX_EVENTS, MAX_INPUTS, MAX_NAME, MAX_NODES, MAX_OCCURRENCES,
+    MAX_OUTS, MAX_PRIO, MAX_READ_LINES, MAX_READS, MAX_TASKS, MAX_TEXT, MAX_TIME,
 };
 pub use list::{List, NoMemory};
 pub use mem_sink::MemSink;
