@@ -1,5 +1,6 @@
 pub mod BatchTasks
 pub mod Chunks
+pub mod ClockTimes
 pub mod Counts
 pub mod FirstFaults
 pub mod FirstIndexes
