@@ -3,6 +3,7 @@ pub mod Chunks
 pub mod Counts
 pub mod FirstFaults
 pub mod FirstIndexes
+pub mod InputValues
 pub mod ListEdits
 pub mod ListParts
 pub mod NameLaws
