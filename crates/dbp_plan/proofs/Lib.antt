@@ -5,12 +5,14 @@ pub mod FirstFaults
 pub mod FirstIndexes
 pub mod InputValues
 pub mod ListEdits
+pub mod ListMaps
 pub mod ListParts
 pub mod NameLaws
 pub mod NumberedItems
 pub mod Numbers
 pub mod OccurrenceBatches
 pub mod OccurrenceLemmas
+pub mod PlanRules
 pub mod RankLaws
 pub mod Searches
 pub mod TableRows
