@@ -1,12 +1,14 @@
 pub mod BatchTasks
 pub mod Chunks
 pub mod Counts
+pub mod Cycles
 pub mod FirstFaults
 pub mod FirstIndexes
 pub mod InputValues
 pub mod ListEdits
 pub mod ListMaps
 pub mod ListParts
+pub mod Listed
 pub mod NameLaws
 pub mod NumberedItems
 pub mod Numbers
