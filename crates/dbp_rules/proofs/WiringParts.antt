@@ -11,6 +11,7 @@ use Rattle.dbp_plan.specs.declared.schedule.Sample.{Sample}
 use Rattle.dbp_plan.specs.Occurrences.{occurrence_count}
 use Rattle.dbp_plan.specs.ListItems.{at_place}
 use Rattle.dbp_plan.specs.Lookups.{link_at, no_link, declared_task, no_declared_task}
+use Rattle.dbp_plan.specs.Samples.{own_samples}
 use Rattle.dbp_slots.specs.Slots.{longest_delay}
 use Rattle.release_list.specs.Releases.{releases_of}
 use Rattle.release_list.proofs.Room.{released_few}
@@ -57,11 +58,11 @@ samples_wired p count = record {
   each = λ x own at.
       let inside : x < length p.diagram.inputs = omega (arith, slice_get_within (wiring_of p count).samples x own at, length-made of_input p.diagram.inputs) in
       let input : (e : _) × (slice_get p.diagram.inputs x ≡ Some e) = at_place p.diagram.inputs x inside in
-      same_Some own (filter (λ s. s.input == x) p.samples) (sym at ∙ made_place of_input p.diagram.inputs x input.0 input.1);
+      same_Some own (own_samples x p.samples) (sym at ∙ made_place of_input p.diagram.inputs x input.0 input.1);
 }
   where
     of_input : {X : Type 0} → ℕ × X → List Sample
-    of_input x = filter (λ s. s.input == x.0) p.samples
+    of_input x = own_samples x.0 p.samples
 
 pub releases_few : (p : Plan) → length (releases_of p.diagram.links p.batches) + 1 < 2 ^ 32
 releases_few p =

@@ -10,15 +10,17 @@ use Rattle.std.proofs.lemmas.List.Elements.{All-contains, All-push}
 use Rattle.std.proofs.lemmas.List.Quantifiers.{all_pairs_push}
 use Rattle.std.proofs.lemmas.Map.Made.{is_member-Decides, IsDistinct-from_AllPairs}
 use Rattle.std.proofs.lemmas.Map.Steps.{length-le_from_distinct_below, le-length_from_below}
-use Rattle.expr_eval.specs.LetSearch.{AreListed}
+use Rattle.dbp_plan.specs.Listed.{AreListed}
 
 -- a number that a list has stands at a place
 pub place_of : (xs : List ℕ) (x : ℕ) → Contains xs x → (k : ℕ) × (k < length xs) × (slice_get xs k ≡ Some x)
 place_of xs x among = (among.0, among.1, slice_get-get_or xs among.0 x among.1 ∙ ap (λ (z : ℕ). Some z) among.2)
 
+-- what stands at a place is in the list
 pub contains_at : (xs : List ℕ) (k x : ℕ) → slice_get xs k ≡ Some x → Contains xs x
 contains_at xs k x at = (k, slice_get_within xs k x at, get_or_from_slice_get xs k x x at)
 
+-- a number is in the list or not
 pub contains_cases : (xs : List ℕ) (x : ℕ) → Contains xs x ⊎ (Contains xs x → ⊥)
 contains_cases xs x =
     let tells : Decides (is_member eqb xs x) (Contains xs x) = is_member-Decides Decides-eqb xs x in
@@ -39,10 +41,12 @@ one_place xs once k m x at_k at_m =
       ]
     ]
 
+-- a new number at the end leaves each once
 pub once_push : (xs : List ℕ) (x : ℕ) → AllPairs (λ i j. i ≢ j) xs → (Contains xs x → ⊥) → AllPairs (λ i j. i ≢ j) (xs ++ x ∷ [])
 once_push xs x once fresh =
     all_pairs_push (λ i j. i ≢ j) xs x once (λ k d below same. fresh (contains_at xs k x (slice_get-get_or xs k d below ∙ ap (λ (z : ℕ). Some z) same)))
 
+-- and if it is below the bound, all are distinct numbers below it
 pub listed_push : (n : ℕ) (xs : List ℕ) (x : ℕ) → AreListed n xs → x < n → (Contains xs x → ⊥) → AreListed n (xs ++ x ∷ [])
 listed_push n xs x listed below fresh = record {
   named = All-push (λ i. i < n) xs x listed.named below;
