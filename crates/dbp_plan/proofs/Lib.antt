@@ -15,6 +15,7 @@ pub mod NumberedItems
 pub mod Numbers
 pub mod OccurrenceBatches
 pub mod OccurrenceLemmas
+pub mod OwnSamples
 pub mod PlanRules
 pub mod RankLaws
 pub mod Searches

@@ -74,5 +74,5 @@ wiring_of p count = record {
   tasks = map (task_wiring p count) (enumerate_from 0 p.diagram.tasks);
   links = p.diagram.links;
   releases = releases_of p.diagram.links p.batches;
-  samples = map (λ x. own_samples x.0 p.samples) (enumerate_from 0 p.diagram.inputs);
+  samples = map (λ input. own_samples input p.samples) (range_with_len 0 (length p.diagram.inputs));
 }
