@@ -1,8 +1,8 @@
 // The batches of many clocks.
 
 ghost use Rattle.std.specs.Prelude.{◌≡◌, ◌<◌, ◌≤◌, All, IfOk, OnOk, length, map};
-ghost use Rattle.trace_io.specs.Batches.{AreBatches, HasNumbersInRange, IsClockOf, IsTimetable, total_of};
-ghost use Rattle.trace_io.specs.Merging.{AreNext, IsLeastBelow, TakesDue};
+ghost use Rattle.trace_io.specs.Counts.{IsClockOf};
+ghost use Rattle.trace_io.specs.Merging.{AreMerged, AreNext, IsLeastBelow, IsTimetable, TakesDue, ticks_of};
 
 use crate::clocks::{nth_time, occurrences};
 use dbp_plan::{

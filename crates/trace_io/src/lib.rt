@@ -5,6 +5,7 @@
 mod batches;
 mod clocks;
 mod code;
+mod guards;
 mod laws;
 mod printed;
 mod trace;
