@@ -1,4 +1,5 @@
 -- Definitions that public clauses cite.
+pub mod BareDiagrams
 pub mod Calls
 pub mod Clocks
 pub mod Closed

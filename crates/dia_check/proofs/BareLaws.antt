@@ -6,6 +6,7 @@ use Rattle.std.proofs.lemmas.List.{length-map, map-append}
 use Rattle.std.proofs.lemmas.Option.{slice_get-map}
 use Rattle.dbp_plan.specs.declared.diagram.Diagram.{Diagram}
 use Rattle.dbp_plan.specs.declared.diagram.Task.{Task}
+use Rattle.dbp_plan.specs.BareDiagrams.{bare_task, bare_diagram}
 use Rattle.dbp_plan.specs.FirstFault.{faults_after, first_fault}
 use Rattle.dbp_plan.proofs.ListMaps.{from-map, same-flat_map}
 use Rattle.dia_lines.specs.declared.item.Part.{Part}
@@ -15,7 +16,7 @@ use Rattle.dia_read.specs.declared.document.Doc.{Doc}
 use Rattle.dia_read.specs.declared.document.RawTask.{RawTask}
 use Rattle.dia_check.specs.declared.fail.LineFault.{LineFault}
 use Rattle.dia_check.specs.declared.shaped.Shaped.{Shaped}
-use Rattle.dia_check.specs.BareBodies.{bare_raw_task, bare_body, bare_task, bare_diagram, HaveSameBareBody, StandOnSameLines}
+use Rattle.dia_check.specs.BareBodies.{bare_raw_task, bare_body, HaveSameBareBody, StandOnSameLines}
 use Rattle.dia_check.specs.Diagrams.{link_of, links_used, firsts, links_of, read_of, task_of, IsTaskOf, IsDiagramOf}
 use Rattle.dia_check.specs.Faults.{decl_fault, task_fault, part_fault, task_faults, line_faults, IsWhole, HasNoShapeFault}
 use Rattle.dia_check.specs.Names.{task_names, port_names}
@@ -79,7 +80,7 @@ pub same-bare-diagrams : HaveOneOrder → (a b : Doc) (s t : Shaped) → HaveSam
 same-bare-diagrams law a b s t same one other =
     let moved : IsDiagramOf (bare_body a.body) (bare_diagram t.diagram) =
     subst (λ (body : Body). IsDiagramOf body (bare_diagram t.diagram)) (sym same) (diagram-is b.body t.diagram other.diagram) in
-    same-diagram law (bare_body a.body) (bare_diagram s.diagram) (bare_diagram t.diagram) (diagram-is a.body s.diagram one.diagram) moved (one.unranked ∙ sym other.unranked)
+    same-diagram law (bare_body a.body) (bare_diagram s.diagram) (bare_diagram t.diagram) (diagram-is a.body s.diagram one.diagram) moved refl
 
 -- ---- faults
 
