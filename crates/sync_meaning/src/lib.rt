@@ -12,6 +12,6 @@ mod run;
 
 pub use env::{Env, env_of};
 pub use instance::work;
-pub use laws::{one_meaning, some_meaning};
+pub use laws::{one_meaning, some_meaning, the_meaning_needs_no_ranks};
 pub use rows::{first_table, push_row};
 pub use run::mean;
