@@ -7,7 +7,7 @@ use Rattle.std.specs.Fn.{Called, ComputesKey}
 use denote.Ref.{Bor}
 use denote.Param.Members.{Mut}
 use Rattle.std.proofs.lemmas.List.Sorted.{IsPartitionPoint-from_clause, IsPartitionedBy-leb}
-use Rattle.std.proofs.lemmas.Bool.{cases_Bool, cases_lt}
+use Rattle.std.proofs.lemmas.Bool.{cases_Bool, cases_lt, le-leb, lt-leb}
 use Rattle.std.proofs.lemmas.Bool.Decides.{nat_tests}
 use Rattle.std.proofs.lemmas.List.Kept.{AllPairs-filter}
 use Rattle.dbp_plan.specs.declared.schedule.Sample.{Sample}
@@ -81,3 +81,11 @@ input_rising input samples pairs i j d less below = elim (cases_lt i j) [
   where
     earlier : (a b : Sample) → IsTrue (is_before a b) → a.time ≤ b.time
     earlier a b order = grind (arith, nat_tests)
+
+-- the value at a time that is at or after so many samples, and before the others, is the last of theirs
+pub value_in_front : (first : ℤ) (samples : List Sample) (time n : ℕ) → n ≤ length samples → ((k : ℕ) (d : Sample) → k < n → (get_or samples k d).time ≤ time)
+    → ((k : ℕ) (d : Sample) → n ≤ k → k < length samples → time < (get_or samples k d).time) → value_until first samples time ≡ last_value first (map (λ s. s.value) (take n samples))
+value_in_front first samples time n few front rest =
+    ap (λ given. last_value first (map (λ (s : Sample). s.value) given)) (parted (λ (s : Sample). nat_le s.time time) samples n few
+    (λ k d above below. le-leb (get_or samples k d).time time (front k d below))
+    (λ k d above below. lt-leb (get_or samples k d).time time (rest k d above below)))

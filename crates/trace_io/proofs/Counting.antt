@@ -33,7 +33,7 @@ no-times until n (On event) = repeated n event []
 
 -- ---- how many are before a time
 
-time-is : (until period offset k t : ℕ) → periodic_time until period offset k ≡ Some t → (offset + k * period ≡ t) × (offset + k * period < until)
+pub time-is : (until period offset k t : ℕ) → periodic_time until period offset k ≡ Some t → (offset + k * period ≡ t) × (offset + k * period < until)
 time-is until period offset k t at =
     let both = cond_some (nat_lt (offset + k * period) until) (offset + k * period) t at in
     (both.1, ltb-true (offset + k * period) until both.0)
@@ -84,6 +84,14 @@ module _ (until period offset time : ℕ) (some : 1 ≤ period) where
         let is = time-is until period offset k t (sym (periodic_place until period offset some k) ∙ at) in
         omega (arith, past-early k past, is.0, is.1);
   }
+
+-- so many base times of a periodic clock are before the time
+pub clock-before : (until time : ℕ) (events : List (List ℕ)) (clock : Clock) (period offset : ℕ) → clock ≡ Every period offset → HasNumbersInRange clock → (n : ℕ) → n ≡ count_of (min time until) events clock
+    → IsCountBefore (base_times until events clock) time n
+clock-before until time events clock period offset is range n count =
+    let some : 1 ≤ period = (subst HasNumbersInRange is range).0 in
+    let size : n ≡ length (periodic_times (min time until) period offset) = count ∙ ap (count_of (min time until) events) is ∙ sym (periodic_count (min time until) period offset some) in
+    rw (is, size) (periodic-before until period offset time some)
 
 -- a search by halves for the first one that isn't before the time finds how many are
 pub event-before : {F : Type 0} {g : Mut F (Bor ℕ × Unit {0}) _} {f : F} (times : List ℕ) (time n : ℕ) → IsStrictlyIncreasing times → n ≤ length times

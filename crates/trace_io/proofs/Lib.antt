@@ -1,10 +1,12 @@
 pub mod Due
+pub mod MergeClocks
 pub mod Merges
 pub mod AllLines
 pub mod BatchLines
 pub mod Counting
 pub mod OneSchedule
 pub mod Plans
+pub mod Spans
 pub mod TraceFaults
 pub mod TraceLines
 pub mod Timetables
