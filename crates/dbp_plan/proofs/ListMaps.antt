@@ -1,5 +1,5 @@
 -- Lists that are made from the items of others.
-use Rattle.std.proofs.Common.{◌≡◌, ℕ, zero, suc, ◌<◌, false, Bool, List, [], ◌∷◌, length, map, get_or, slice_get, Some, refl, arith}
+use Rattle.std.proofs.Common.{◌≡◌, ℕ, zero, suc, ◌<◌, false, All, Bool, List, [], ◌∷◌, length, map, get_or, slice_get, Some, refl, arith}
 use Rattle.std.specs.List.{filter, flat_map}
 use Rattle.std.proofs.lemmas.Option.{same_Some}
 
@@ -15,6 +15,6 @@ from-map f (x ∷ xs) zero y at = (x, refl, same_Some (f x) y at)
 from-map f (x ∷ xs) (suc i) y at = from-map f xs i y at
 
 -- functions that make the same list of each item make the same of all
-pub same-flat_map : {A B : Type 0} (f g : A → List B) → ((x : A) → f x ≡ g x) → (xs : List A) → flat_map f xs ≡ flat_map g xs
-same-flat_map f g same [] = refl
-same-flat_map f g same (x ∷ xs) = rw (same x, same-flat_map f g same xs) refl
+pub same-flat_map : {A B : Type 0} (f g : A → List B) (xs : List A) → All (λ x. f x ≡ g x) xs → flat_map f xs ≡ flat_map g xs
+same-flat_map f g [] same = refl
+same-flat_map f g (x ∷ xs) same = rw (same 0 x (omega arith), same-flat_map f g xs (λ k d below. same (suc k) d (omega arith))) refl

@@ -1,5 +1,5 @@
 -- The shape of a document depends on its bare body.
-use Rattle.std.proofs.Common.{◌≡◌, ℕ, zero, suc, ◌+◌, List, [], ◌∷◌, ◌++◌, length, map, drop, slice_get, option_map, Option, Some, refl, sym, ap, ◌∙◌, subst, inl, inr}
+use Rattle.std.proofs.Common.{◌≡◌, ℕ, ◌+◌, List, [], ◌∷◌, ◌++◌, length, map, drop, get_or, slice_get, option_map, Option, Some, refl, sym, ap, ◌∙◌, subst, inl, inr}
 use Rattle.std.specs.Str.{bytes_eq}
 use Rattle.std.proofs.lemmas.Bool.{cases_Bool}
 use Rattle.std.proofs.lemmas.List.{length-map, map-append}
@@ -43,7 +43,7 @@ same-link ts reader _ = refl
 same-used : (all : List RawTask) (number : ℕ) (ts : List RawTask) → links_used (map bare_raw_task all) number (map bare_raw_task ts) ≡ links_used all number ts
 same-used all number [] = refl
 same-used all number (t ∷ ts) =
-    rw (same-flat_map (link_of (map bare_raw_task all) number) (link_of all number) (same-link all number) t.parts, same-used all (number + 1) ts) refl
+    rw (same-flat_map (link_of (map bare_raw_task all) number) (link_of all number) t.parts (λ k d below. same-link all number (get_or t.parts k d)), same-used all (number + 1) ts) refl
 
 same-links : (ts : List RawTask) → links_of (map bare_raw_task ts) ≡ links_of ts
 same-links ts = ap firsts (same-used ts 0 ts)
@@ -56,7 +56,7 @@ same-read ts reader _ = refl
 
 same-task : (body : Body) (number : ℕ) (raw : RawTask) (order : List ℕ) → bare_task (task_of body number raw order) ≡ task_of (bare_body body) number (bare_raw_task raw) order
 same-task body number raw order =
-    rw (same-flat_map (read_of (map bare_raw_task body.tasks) number) (read_of body.tasks number) (same-read body.tasks number) raw.parts) refl
+    rw (same-flat_map (read_of (map bare_raw_task body.tasks) number) (read_of body.tasks number) raw.parts (λ k d below. same-read body.tasks number (get_or raw.parts k d))) refl
 
 task-is : (body : Body) (number : ℕ) (raw : RawTask) (t : Task) → IsTaskOf body number raw t → IsTaskOf (bare_body body) number (bare_raw_task raw) (bare_task t)
 task-is body number raw t is = record { is = ap bare_task is.is ∙ same-task body number raw t.order; order = is.order }
