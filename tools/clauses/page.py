@@ -8,12 +8,18 @@ from clauses.items import Unreadable, read_source
 
 FILE = TOP / "docs" / "CONTRACTS.md"
 
-HEAD = """# The contracts, crate by crate
-
-`tools/contracts` makes this page from the sources, and the gate compares it. So change the source, never this page.
-
-For each library crate it lists the public types, calls and laws, the lowest crate first. Beside each stands the first sentence of its comment; the link leads to the file, which has the whole comment and the clauses. A call meets its `ensures` clauses if its `requires` clauses hold. A name as `found` is that of a clause. A law is a function that does nothing: its clauses are the theorem. A type keeps its facts wherever one of its values is; *invariant* stands for those of a type that contracts see as another value. docs/PROVED.md says what all this comes to.
-"""
+TITLE = "# The contracts, crate by crate"
+HEAD = (
+    "`tools/contracts` makes this page from the sources, and the gate compares it. So change the source, never this page.",
+    "For each library crate it lists the public types, calls and laws, the lowest crate first. Beside each stands the "
+    "first sentence of its comment; the link leads to the file, which has the whole comment and the clauses.",
+    "- A call meets its `ensures` clauses if its `requires` clauses hold. A name after one of these words is that of a "
+    "clause.\n"
+    "- A law is a function that does nothing: its clauses are a theorem.\n"
+    "- A type keeps its facts wherever one of its values is. *invariant* stands for the facts of a type that contracts "
+    "see as a value of another type.",
+    "docs/PROVED.md says what all this comes to.",
+)
 
 
 def first_sentence(doc):
@@ -90,7 +96,7 @@ class Section:
                     yield code_link(name, self.crate, source), cell(says_of(it)), cell(clause_cell(it.clauses))
 
     def is_callable(self, call, source, types):
-        """Returns whether a function is listed: one that can be called from outside; in an impl of a trait, if it has clauses."""
+        """Returns whether a function is listed: it can be called from outside, and in a trait's impl has clauses."""
         if call.trait:
             return call.owner in types and bool(call.clauses)
         if call.owner:
@@ -126,7 +132,7 @@ def contracts_page():
     crates = listed_crates()
     ordered = from_the_lowest(crates)
     programs = [it for it in ordered if not is_of_tests(it, crates)]
-    parts = [HEAD]
+    parts = [f"{it}\n" for it in (TITLE, *HEAD)]
     for crate in ordered:
         if is_library(crate, crates):
             users = [it.name for it in programs if crate.name in it.libraries]
