@@ -25,7 +25,7 @@ from pathlib import Path
 TOP = Path(__file__).resolve().parents[2]
 sys.path.insert(0, str(TOP / ".ci"))
 
-from markdown import blocks_and_prose, pages  # noqa: E402
+from doc_pages import blocks_and_prose, pages  # noqa: E402
 
 PROGRAMS = ("dbp", "./dbp", "./try")
 LINKED = ("examples", "cases", "docs", "tools")

@@ -8,7 +8,7 @@ from urllib.parse import unquote
 TOP = Path(__file__).resolve().parents[2]
 sys.path.insert(0, str(TOP / ".ci"))
 
-from markdown import MADE, anchors, blocks_and_prose, links, pages  # noqa: E402
+from doc_pages import MADE, anchors, blocks_and_prose, links, pages  # noqa: E402
 
 ELSEWHERE = ("http://", "https://", "mailto:")
 

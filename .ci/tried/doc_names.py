@@ -1,4 +1,5 @@
-"""The docs name what is there: each name and each path in backticks, and each path of a folder of the repository.
+"""The docs name what is there: each name and each path in backticks, and each path of a folder of the repository. So do
+the comments at the heads of the crates.
 
 A name is looked up in the code of the crates, in the names of their files, in the tools and cases, in the page's own
 examples (which doc_examples.py tries), and among the commands of the program and of `rt`. Words that stand for
@@ -15,7 +16,7 @@ from pathlib import Path
 TOP = Path(__file__).resolve().parents[2]
 sys.path.insert(0, str(TOP / ".ci"))
 
-from markdown import blocks_and_prose, pages, spans, without_spans  # noqa: E402
+from doc_pages import blocks_and_prose, pages, spans, without_spans  # noqa: E402
 
 # Words in backticks that no file has, each with the reason why it may stand there.
 EXPLAINED = {
@@ -167,6 +168,15 @@ def faults_of(program, text):
         yield from (f"line {number}: {it}" for it in found if it)
 
 
+def fault_of_heads(program):
+    """Returns the faults of the comments at the heads of the crates, or nothing."""
+    found = []
+    for root in files_of("crates/*/src/lib.rt"):
+        head = [it[3:] for it in root.read_text(encoding="utf-8").splitlines() if it.startswith("//!")]
+        found += [f"{root.parts[-3]}, {it}" for it in faults_of(program, "\n".join(head))]
+    return "; ".join(found) or None
+
+
 def fault_of_page(program, page):
     """Returns the faults of a page, or nothing."""
     return "; ".join(faults_of(program, page.read_text(encoding="utf-8"))) or None
@@ -208,4 +218,5 @@ def trials(program):
     known_words()
     for page in pages():
         yield page.relative_to(TOP).as_posix(), partial(fault_of_page, program, page)
+    yield "heads of the crates", partial(fault_of_heads, program)
     yield "lines with faults", partial(fault_of_wrong_lines, program)
