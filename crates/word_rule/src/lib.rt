@@ -5,11 +5,11 @@
 //! as a value that contracts alone see. The rule of the table (`Keeps`) is that words and views show some sound state,
 //! so it holds between any two steps of any parties. Each call of `SlotWords` is a use of one of two laws, for a step
 //! that loads and for one that stores. Its condition is that the seat's own part allows the step: so no aim names a
-//! slot that a standing claim names. Its play (`Plays`) counts the step, and says what the call loads; the table asks
-//! this of it. That the body makes no other access to the table is read off the source. Plays are private: a reader of
-//! public clauses knows that a `Started`, a `Ready` and the number of `seen` are never ahead of the words, and that the
-//! number in a `Closed` or a `NotYet` isn't the one that is waited for. That it is the one that was loaded is tested
-//! (`word_tests`).
+//! slot that a standing claim names. Its play (`Plays`) counts the step and says what it loads, and the table asks the
+//! call for both. That the body makes no other access to the table is read off the source. Plays are private: a reader
+//! of public clauses knows that a `Started`, a `Ready` and the number of `seen` are never ahead of the words, and that
+//! the number in a `Closed` or a `NotYet` isn't the one that is waited for. That it is the one that was loaded is
+//! tested (`word_tests`).
 #![tactic(auto)]
 
 mod asking;
