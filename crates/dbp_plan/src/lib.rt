@@ -1,4 +1,11 @@
 //! The base of `dbp`: the data of a diagram and of its plan, the table of a run, and the traits of the outside.
+//!
+//! All other crates stand on this one. A diagram, a plan and a table are plain data with their rules in their types: a
+//! `Plan` is closed, ranked and in order (`IsPlan`), and the nodes of an `Expr` are those of one tree (`HasTree`). A
+//! batch's tasks are a `TaskNumbers`, which contracts see as a list. A `Source` and a `Sink` say what they gave and
+//! took, and count their faults: a caller knows a failure by this count. Those in memory say exactly which bytes, those
+//! over std's streams say nothing of them. The crate also has what several others prove with: lemmas on lists, times,
+//! occurrences, ranks, trees and names.
 #![tactic(auto)]
 
 mod calls;

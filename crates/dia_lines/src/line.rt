@@ -133,8 +133,8 @@ pub fn read_line(
     read_line_with(alloc, position, line, &mut Vec::new(alloc))
 }
 
-/// The same, for a caller who reads many lines: the list's room is used again for the line's tokens, which take the place
-/// of what it holds.
+/// As `read_line`, for a caller who reads many lines: the list's room is used again for the line's tokens, which take the
+/// place of what it holds. What the list holds afterwards no clause says.
 pub fn read_line_with(
     alloc: Global,
     position: Position,

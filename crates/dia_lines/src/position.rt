@@ -35,7 +35,7 @@ impl Position {
     ghost use Rattle.dia_lines.specs.declared.place.Place.TheVariants.{Ended};
     ghost use Rattle.dia_lines.specs.Positions.{IsAfter};
 
-    /// Before the first line.
+    /// The position before the first line.
     pub fn start() -> Position
         ensures { IsAfter [] result }
     {

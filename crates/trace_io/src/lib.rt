@@ -1,5 +1,12 @@
 //! The plan of a document, with the samples of its trace and the batches of its clocks; which texts are accepted and
 //! which are refused; and the printed lines of a table.
+//!
+//! `IsPlanOf` says that the trace has no fault, that the plan has the given diagram and the trace's samples, and that
+//! its batches are those of its clocks (`AreBatches`). So a document determines its plan. The faults are a list
+//! (`trace_faults`): the header's, the rows', and last the `until` line with too many occurrences. Occurrences are
+//! counted by division, and no loop walks ticks. `Accepts` puts the relations of reading, checking and this crate
+//! together, and `Refuses` has a case for the first fault of each; what a command makes of a document stands on these
+//! two. A text has one of both at most (`one_plan`).
 #![tactic(auto)]
 
 mod batches;
