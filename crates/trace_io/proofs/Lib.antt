@@ -5,6 +5,7 @@ pub mod AllLines
 pub mod BatchLines
 pub mod Counting
 pub mod OneSchedule
+pub mod OwnSamples
 pub mod Plans
 pub mod Spans
 pub mod TraceFaults

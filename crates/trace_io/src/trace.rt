@@ -26,7 +26,7 @@ struct Trace {
     /// The times of each event, in ticks.
     events: Vec<List<u64>>,
     samples: List<Sample>,
-    /// The samples of each input, if a task has a `when`; else nothing.
+    /// The samples of each input by itself, if a task has a `when`; else nothing.
     own: List<List<Sample>>,
 }
 
@@ -104,6 +104,7 @@ fn own_samples(
 }
 
 /// What the lines of the document's trace section give to the inputs and events of its diagram, or their first fault.
+/// The samples of each input by itself aren't made yet.
 fn lines_of_section(
     alloc: Global,
     diagram: &Diagram,
@@ -116,9 +117,6 @@ fn lines_of_section(
     requires ranked { IsRanked diagram.now }
     ensures trace { IfOk result
         (λ trace. IsTraceOf doc.now diagram.now trace.events.items trace.samples) }
-    ensures own { IfOk result
-        (λ trace. All (HasItsSamples trace.samples trace.own) diagram.now.tasks) }
-    ensures rising { IfOk result (λ trace. RiseInTime trace.own) }
     ensures fault { IfErr result (λ fail. IsTraceRefusal doc.now diagram.now fail) }
 {
     let inputs = diagram.inputs.items();
@@ -142,11 +140,10 @@ fn lines_of_section(
         &mut records,
         rest,
     )?;
-    let own = own_samples(alloc, diagram, &said.samples)?;
     Ok(Trace {
         events: said.events,
         samples: said.samples,
-        own,
+        own: List::new(alloc),
     })
 }
 
@@ -184,7 +181,8 @@ fn section_trace(
     if text.is_empty() {
         return Err(bad_header(doc.lines.trace_at));
     }
-    let trace = lines_of_section(alloc, diagram, doc, text)?;
+    let mut trace = lines_of_section(alloc, diagram, doc, text)?;
+    trace.own = own_samples(alloc, diagram, &trace.samples)?;
     few_occurrences(diagram, doc, &trace.events, trace.own.items())?;
     Ok(trace)
 }

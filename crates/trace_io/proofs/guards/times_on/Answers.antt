@@ -10,8 +10,7 @@ use mir.Val.{to_z, of_z}
 
 pub push_times-requires-clause-inside : goal.push_times-requires-clause-inside
 push_times-requires-clause-inside c =
-    let base : List ℕ = base_times c.args.until c.args.events.now c.args.clock in
-    (
+    let base : List ℕ = base_times c.args.until c.args.events.now c.args.clock in (
       span-order base c.args.own.now c.loop-k.k c.loop-k.from c.span_end-to.result c.loop-k.invariant.start c.span_end-to.ensures.end (omega (arith, c.loop-k-test.true)) c.requires.rising,
       end-within base c.args.own.now c.loop-k.k c.span_end-to.result c.span_end-to.ensures.end,
     )
