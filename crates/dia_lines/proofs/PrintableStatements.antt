@@ -1,5 +1,5 @@
 -- A statement can be printed if its tokens can.
-use Rattle.std.proofs.Common.{All, ℕ, List, [], ◌∷◌, ◌++◌, Option}
+use Rattle.std.proofs.Common.{All, ℕ, List, ◌∷◌, ◌++◌, Option}
 use Rattle.std.specs.List.{AllByRecursion}
 use Rattle.std.specs.Option.{IfSome}
 use Rattle.std.proofs.lemmas.List.Elements.{recursion_from_All}
