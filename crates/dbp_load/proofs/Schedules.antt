@@ -10,8 +10,8 @@ use Rattle.dbp_plan.specs.declared.diagram.Clock.{Clock}
 use Rattle.dbp_plan.specs.declared.diagram.Clock.TheVariants.{Every, On}
 use Rattle.dbp_plan.specs.declared.limits.TheConstants.{MAX_OCCURRENCES}
 use Rattle.dbp_plan.specs.declared.schedule.Batch.{Batch}
-use Rattle.trace_io.specs.Counts.{IsClockOf, count_of}
-use Rattle.trace_io.specs.Merging.{AreMerged, IsLeastNext, IsTimetable, TakesDue, is_at, next_of}
+use Rattle.trace_io.specs.Counts.{IsClockOf, IsTimetable, count_of}
+use Rattle.trace_io.specs.Merging.{AreMerged, IsLeastNext, TakesDue, is_at, next_of}
 use Rattle.trace_io.proofs.Due.{take-one, pass-one}
 use Rattle.trace_io.proofs.Merges.{Merged, after, after-push, merge-end, merge-step, merged-none}
 

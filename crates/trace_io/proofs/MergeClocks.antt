@@ -26,9 +26,9 @@ use Rattle.dbp_plan.proofs.ClockTimes.{periodic_place, periodic_rises}
 use Rattle.dbp_plan.proofs.InputValues.{input_until}
 use Rattle.dbp_plan.proofs.ListParts.{take_push}
 use Rattle.trace_io.specs.Batches.{AreBatches, times_in, total_of}
-use Rattle.trace_io.specs.Counts.{HasNumbersInRange, IsClockOf, count_of}
+use Rattle.trace_io.specs.Counts.{HasNumbersInRange, IsClockOf, IsTimetable, count_of}
 use Rattle.trace_io.specs.Guards.{HasItsSamples, HasMoreEvents, RiseInTime}
-use Rattle.trace_io.specs.Merging.{AreMerged, IsTimetable, ticks_of}
+use Rattle.trace_io.specs.Merging.{AreMerged, ticks_of}
 use Rattle.trace_io.specs.Spans.{is_on_by}
 use Rattle.trace_io.proofs.Counting.{base-count, base-place, time-is}
 use Rattle.trace_io.proofs.Merges.{in-range}

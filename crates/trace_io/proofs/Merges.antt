@@ -20,8 +20,8 @@ use Rattle.dbp_plan.specs.Clocks.{time_at}
 use Rattle.dbp_plan.specs.ListItems.{front_place, last_place}
 use Rattle.dbp_plan.proofs.BatchTasks.{some_item}
 use Rattle.dbp_plan.proofs.TaskTimes.{times-named, times-other}
-use Rattle.trace_io.specs.Counts.{HasNumbersInRange, IsClockOf, count_of}
-use Rattle.trace_io.specs.Merging.{AreMerged, AreNext, IsLeastBelow, IsLeastNext, IsTimetable, TakesDue, is_at, next_of}
+use Rattle.trace_io.specs.Counts.{HasNumbersInRange, IsClockOf, IsTimetable, count_of}
+use Rattle.trace_io.specs.Merging.{AreMerged, AreNext, IsLeastBelow, IsLeastNext, TakesDue, is_at, next_of}
 use Rattle.trace_io.proofs.Due.{rising-push}
 
 -- a clock's next time is later

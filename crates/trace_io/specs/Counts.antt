@@ -1,5 +1,6 @@
--- How often a clock ticks, counted by division.
-use Rattle.std.specs.Prelude.{ℕ, ◌+◌, ◌-◌, ◌/◌, ◌<◌, ◌≤◌, if◌then◌else◌, nat_le, List, [], length, slice_index_or}
+-- Clocks in range, the times of events, and how often a clock ticks.
+use Rattle.std.specs.Prelude.{ℕ, ◌+◌, ◌-◌, ◌/◌, ◌<◌, ◌≤◌, if◌then◌else◌, nat_le, All, List, [], length, slice_index_or}
+use Rattle.std.specs.List.Sorted.{IsStrictlyIncreasing}
 use Rattle.dbp_plan.specs.declared.diagram.Clock.{Clock}
 use Rattle.dbp_plan.specs.declared.diagram.Clock.TheVariants.{Every, On}
 use Rattle.dbp_plan.specs.declared.limits.TheConstants.{MAX_TIME}
@@ -13,6 +14,12 @@ HasNumbersInRange (On event) = Unit {0}
 abbrev pub IsClockOf : ℕ → Clock → Type 0
 IsClockOf events (Every period offset) = (1 ≤ period) × (period ≤ MAX_TIME) × (offset ≤ MAX_TIME)
 IsClockOf events (On event) = event < events
+
+-- `until` is at most the greatest time, and the times of each event rise and are below it
+pub record IsTimetable (until : ℕ) (events : List (List ℕ)) : Type 0 where
+  pub last : until ≤ MAX_TIME
+  pub rising : All IsStrictlyIncreasing events
+  pub ends : All (All (λ t. t < until)) events
 
 -- how many base times the clock has: a periodic one by division
 abbrev pub count_of : ℕ → List (List ℕ) → Clock → ℕ

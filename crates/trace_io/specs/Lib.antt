@@ -2,10 +2,10 @@
 pub mod Batches
 pub mod Counts
 pub mod Lines
+pub mod Spans
 pub mod Texts
 pub mod Traces
 -- What private functions, the inside of types and proofs cite.
 pub mod Guards
 pub mod Merging
 pub mod Printing
-pub mod Spans

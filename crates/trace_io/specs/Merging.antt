@@ -4,17 +4,11 @@ use Rattle.std.specs.List.{list_any}
 use Rattle.std.specs.List.Sorted.{IsStrictlyIncreasing}
 use Rattle.std.specs.Option.{option_eq}
 use Rattle.dbp_plan.specs.declared.diagram.Clock.{Clock}
-use Rattle.dbp_plan.specs.declared.limits.TheConstants.{MAX_OCCURRENCES, MAX_TIME}
+use Rattle.dbp_plan.specs.declared.limits.TheConstants.{MAX_OCCURRENCES}
 use Rattle.dbp_plan.specs.declared.schedule.Batch.{Batch}
 use Rattle.dbp_plan.specs.Clocks.{time_at}
 use Rattle.dbp_plan.specs.Occurrences.{occurrence_count, times_of}
 use Rattle.trace_io.specs.Counts.{count_of}
-
--- `until` is at most the greatest time, and the times of each event rise and are below it
-pub record IsTimetable (until : ℕ) (events : List (List ℕ)) : Type 0 where
-  pub last : until ≤ MAX_TIME
-  pub rising : All IsStrictlyIncreasing events
-  pub ends : All (All (λ t. t < until)) events
 
 -- how often all clocks together tick
 abbrev pub ticks_of : ℕ → List (List ℕ) → List Clock → ℕ

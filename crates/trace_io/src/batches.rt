@@ -1,8 +1,8 @@
 // The batches of many clocks.
 
 ghost use Rattle.std.specs.Prelude.{◌≡◌, ◌<◌, ◌≤◌, All, IfOk, OnOk, length};
-ghost use Rattle.trace_io.specs.Counts.{IsClockOf};
-ghost use Rattle.trace_io.specs.Merging.{AreMerged, AreNext, IsLeastBelow, IsTimetable, TakesDue, ticks_of};
+ghost use Rattle.trace_io.specs.Counts.{IsClockOf, IsTimetable};
+ghost use Rattle.trace_io.specs.Merging.{AreMerged, AreNext, IsLeastBelow, TakesDue, ticks_of};
 
 use crate::clocks::nth_time;
 use dbp_plan::{Batch, Clock, List, MAX_OCCURRENCES, MAX_TASKS, NoMemory, TaskNumbers};

@@ -3,8 +3,7 @@
 ghost use Rattle.std.specs.Prelude.{◌≡◌, ◌^◌, ℕ, ◌<◌, ◌↔◌, ◌≤◌, IsSome, length};
 ghost use Rattle.dbp_plan.specs.declared.limits.TheConstants.{MAX_TIME};
 ghost use Rattle.dbp_plan.specs.Clocks.{base_times, time_at};
-ghost use Rattle.trace_io.specs.Counts.{HasNumbersInRange, IsClockOf, count_of};
-ghost use Rattle.trace_io.specs.Merging.{IsTimetable};
+ghost use Rattle.trace_io.specs.Counts.{HasNumbersInRange, IsClockOf, IsTimetable, count_of};
 ghost use Rattle.trace_io.specs.Spans.{IsCountBefore};
 
 use dbp_plan::{Clock, List};

@@ -6,8 +6,7 @@ ghost use Rattle.std.specs.Ordering.{int_eq};
 ghost use Rattle.std.specs.List.Sorted.{IsNonDecreasingBy};
 ghost use Rattle.dbp_plan.specs.Clocks.{base_times};
 ghost use Rattle.dbp_plan.specs.Samples.{last_value};
-ghost use Rattle.trace_io.specs.Counts.{HasNumbersInRange, IsClockOf};
-ghost use Rattle.trace_io.specs.Merging.{IsTimetable};
+ghost use Rattle.trace_io.specs.Counts.{HasNumbersInRange, IsClockOf, IsTimetable};
 ghost use Rattle.trace_io.specs.Spans.{IsSpanEnd, is_on_by};
 
 use crate::clocks::{count_before, nth_time, occurrences};
@@ -45,14 +44,10 @@ fn is_on_before(first: i64, own: &[Sample], k: usize) -> bool
     value_before(first, own, k) != 0
 }
 
-// How many base times the clock has at which the input that has this first value and these samples isn't 0.
-pub(crate) fn count_on(
-    until: u64,
-    events: &[List<u64>],
-    clock: Clock,
-    first: i64,
-    own: &[Sample],
-) -> u64
+/// How many base times the clock has, below tick `until`, at which the input that has this first value and these samples
+/// isn't 0. The times of event `e` are those of `events[e]`; an event that isn't there has none. It takes no memory, and
+/// walks no tick.
+pub fn count_on(until: u64, events: &[List<u64>], clock: Clock, first: i64, own: &[Sample]) -> u64
     requires clock { HasNumbersInRange clock }
     requires table { IsTimetable until events.now }
     requires rising { IsNonDecreasingBy (λ s. s.time) own.now }
@@ -72,8 +67,9 @@ pub(crate) fn count_on(
     count
 }
 
-// The base times of the clock at which the input that has this first value and these samples isn't 0.
-pub(crate) fn times_on(
+/// The base times of the clock, below tick `until`, at which the input that has this first value and these samples isn't 0,
+/// in order. The times of event `e` are those of `events[e]`. Only these times are walked.
+pub fn times_on(
     alloc: Global,
     until: u64,
     events: &[List<u64>],

@@ -7,7 +7,7 @@ ghost use Rattle.dia_check.specs.Checks.{IsCheckedOf};
 ghost use Rattle.dia_read.specs.Printable.{HasItemLines, IsPrintable};
 ghost use Rattle.trace_io.specs.Batches.{total_of};
 ghost use Rattle.trace_io.specs.Guards.{HasItsSamples, RiseInTime};
-ghost use Rattle.trace_io.specs.Merging.{IsTimetable};
+ghost use Rattle.trace_io.specs.Counts.{IsTimetable};
 ghost use Rattle.trace_io.specs.Traces.{IsPlanOf, IsTraceOf, IsTraceRefusal, events_of, given_samples};
 ghost use Rattle.trace_rows.specs.declared.fail.TraceCode.TheVariants.{BadHeader, TooManyOccurrences};
 ghost use Rattle.trace_rows.specs.declared.fail.TraceFail.TheVariants.{Refused};

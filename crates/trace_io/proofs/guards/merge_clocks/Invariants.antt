@@ -2,9 +2,8 @@ use Rattle.std.proofs.Common.{◌≡◌, ◌+◌, ◌≤◌, All, List, length, 
 use Rattle.dbp_plan.specs.declared.schedule.Sample.{Sample}
 use Rattle.dbp_plan.specs.Clocks.{base_times}
 use Rattle.trace_io.specs.Batches.{times_in}
-use Rattle.trace_io.specs.Counts.{IsClockOf}
+use Rattle.trace_io.specs.Counts.{IsClockOf, IsTimetable}
 use Rattle.trace_io.specs.Guards.{HasItsSamples, HasMoreEvents}
-use Rattle.trace_io.specs.Merging.{IsTimetable}
 use Rattle.trace_io.proofs.guards.merge_clocks.Given as goal
 
 abbrev pub invariant-loop-i : goal.invariant-loop-i
