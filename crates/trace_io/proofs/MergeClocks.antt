@@ -141,6 +141,10 @@ event-times until events times = grind (arith, common_steps)
 
 -- ---- all tasks
 
+-- as many clocks as tasks
+pub same-count : (d : Diagram) (samples : List Sample) (events more : List (List ℕ)) (clocks : List Clock) → map (base_times d.until more) clocks ≡ map (times_in d samples events) d.tasks → length clocks ≡ length d.tasks
+same-count d samples events more clocks same = sym (length-map clocks (base_times d.until more)) ∙ ap (λ (ts : List (List ℕ)). length ts) same ∙ length-map d.tasks (times_in d samples events)
+
 -- as many base times as all tasks together have times
 pub same-total : (d : Diagram) (samples : List Sample) (events more : List (List ℕ)) (clocks : List Clock) → All (IsClockOf (length more)) clocks
     → map (base_times d.until more) clocks ≡ map (times_in d samples events) d.tasks → ticks_of d.until more clocks ≡ total_of d samples events
@@ -186,7 +190,7 @@ merged-tasks d samples events more clocks batches are same merged = record {
 }
   where
     count : length clocks ≡ length d.tasks
-    count = sym (length-map clocks (base_times d.until more)) ∙ ap (λ (ts : List (List ℕ)). length ts) same ∙ length-map d.tasks (times_in d samples events)
+    count = same-count d samples events more clocks same
 
     all-at : (clock : Clock) (i : ℕ) → slice_get clocks i ≡ Some clock → IsClockOf (length more) clock
     all-at clock i is =
