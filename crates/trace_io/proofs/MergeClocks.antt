@@ -1,16 +1,16 @@
 -- What is handed to the merge: the clocks of tasks without a `when`, and for each task with one an event that has the task's times.
-use Rattle.std.proofs.Common.{◌≡◌, ℕ, zero, suc, ◌+◌, ◌<◌, ◌≤◌, true, List, [], ◌∷◌, ◌++◌, length, take, get_or, map, slice_get, Option, Some, None, refl, sym, ap, subst, ◌∙◌, arith, inl, inr}
+use Rattle.std.proofs.Common.{◌≡◌, ℕ, suc, ◌+◌, ◌<◌, ◌≤◌, List, [], ◌∷◌, ◌++◌, length, take, get_or, map, slice_get, Option, Some, None, refl, sym, ap, subst, ◌∙◌, arith, inl, inr}
 use Rattle.std.specs.Prelude.{All, filter, not, pos, sum_by}
 use Rattle.std.specs.Ordering.{int_eq}
 use Rattle.std.specs.Option.{option_map}
 use Rattle.std.specs.List.Sorted.{IsNonDecreasingBy, IsStrictlyIncreasing}
 use Rattle.std.proofs.lemmas.Bool.{cases_lt}
 use Rattle.std.proofs.lemmas.Grind.{common_steps}
-use Rattle.std.proofs.lemmas.List.{get_or_default, get_or_past, length-map, length_push, map-append}
+use Rattle.std.proofs.lemmas.List.{get_or_past, length-map, length_push, map-append}
 use Rattle.std.proofs.lemmas.List.Elements.{All-filter, All-get_or, All-push}
 use Rattle.std.proofs.lemmas.List.Kept.{IsStrictlyIncreasing-filter}
 use Rattle.std.proofs.lemmas.List.Sums.{sum_by-cons}
-use Rattle.std.proofs.lemmas.Option.{none-some, same_Some, slice_get-get_or, slice_get-map, slice_get_within}
+use Rattle.std.proofs.lemmas.Option.{same_Some, slice_get-get_or, slice_get-map, slice_get_within}
 use Rattle.dbp_plan.specs.declared.diagram.Clock.{Clock}
 use Rattle.dbp_plan.specs.declared.diagram.Clock.TheVariants.{Every, On}
 use Rattle.dbp_plan.specs.declared.diagram.Diagram.{Diagram}
@@ -21,7 +21,6 @@ use Rattle.dbp_plan.specs.declared.schedule.Sample.{Sample}
 use Rattle.dbp_plan.specs.Clocks.{base_times, is_on, periodic_times}
 use Rattle.dbp_plan.specs.ListItems.{at_place, read_place}
 use Rattle.dbp_plan.specs.Occurrences.{times_of}
-use Rattle.dbp_plan.specs.Samples.{own_samples}
 use Rattle.dbp_plan.proofs.ClockTimes.{periodic_place, periodic_rises}
 use Rattle.dbp_plan.proofs.InputValues.{input_until}
 use Rattle.dbp_plan.proofs.ListParts.{take_push}

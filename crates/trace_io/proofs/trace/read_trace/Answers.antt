@@ -1,8 +1,5 @@
-use Rattle.std.proofs.Common.{◌≡◌, ◌∙◌, ◌≤◌, ℕ, All, List, length, map, sym, ap, subst, refl, arith}
-use Rattle.dbp_plan.specs.Clocks.{base_times}
-use Rattle.dbp_plan.specs.declared.diagram.Clock.{Clock}
-use Rattle.dbp_plan.specs.declared.limits.TheConstants.{MAX_OCCURRENCES}
-use Rattle.trace_io.specs.Batches.{AreBatches, times_in, total_of}
+use Rattle.std.proofs.Common.{◌≡◌, All, subst, refl, arith}
+use Rattle.trace_io.specs.Batches.{AreBatches, total_of}
 use Rattle.trace_io.specs.Guards.{HasItsSamples}
 use Rattle.trace_io.specs.Merging.{AreMerged}
 use Rattle.trace_io.specs.Traces.{events_of, given_samples, IsTraceOf}
