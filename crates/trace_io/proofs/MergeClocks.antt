@@ -23,6 +23,7 @@ use Rattle.dbp_plan.specs.ListItems.{at_place, read_place}
 use Rattle.dbp_plan.specs.Occurrences.{times_of}
 use Rattle.dbp_plan.proofs.ClockTimes.{periodic_place, periodic_rises}
 use Rattle.dbp_plan.proofs.InputValues.{input_until}
+use Rattle.dbp_plan.proofs.ListMaps.{filter-all}
 use Rattle.dbp_plan.proofs.ListParts.{take_push}
 use Rattle.trace_io.specs.Batches.{AreBatches, times_in, total_of}
 use Rattle.trace_io.specs.Counts.{HasNumbersInRange, IsClockOf, IsTimetable, count_of}
@@ -31,14 +32,13 @@ use Rattle.trace_io.specs.Merging.{AreMerged, ticks_of}
 use Rattle.trace_io.specs.Spans.{is_on_by}
 use Rattle.trace_io.proofs.Counting.{base-count, base-place, time-is}
 use Rattle.trace_io.proofs.Merges.{in-range}
-use Rattle.trace_io.proofs.Spans.{filter-all}
 
 -- ---- the times of one task
 
 -- a task without a `when` has all base times of its clock
 pub plain-times : (d : Diagram) (samples : List Sample) (events : List (List ℕ)) (t : Task) → t.when ≡ None → times_in d samples events t ≡ base_times d.until events t.clock
 plain-times d samples events t none =
-    ap (λ (w : Option ℕ). filter (is_on d.inputs samples w) (base_times d.until events t.clock)) none ∙ filter-all (is_on d.inputs samples None) (base_times d.until events t.clock) (λ k time at. refl)
+    ap (λ (w : Option ℕ). filter (is_on d.inputs samples w) (base_times d.until events t.clock)) none ∙ filter-all (is_on d.inputs samples None) (base_times d.until events t.clock) (λ k e below. refl)
 
 pub plain-clocks : (d : Diagram) (samples : List Sample) (events : List (List ℕ)) (tasks : List Task) → All (λ t. t.when ≡ None) tasks
     → map (base_times d.until events) (map (λ t. t.clock) tasks) ≡ map (times_in d samples events) tasks
