@@ -75,7 +75,8 @@ def known_words():
 @lru_cache(maxsize=None)
 def known_files():
     """Returns the names of all files and folders of the repository, as paths from its top."""
-    names = subprocess.run(["git", "ls-files", "-z"], cwd=TOP, capture_output=True, check=False).stdout.decode()
+    listing = ["git", "ls-files", "-z", "--cached", "--others", "--exclude-standard"]
+    names = subprocess.run(listing, cwd=TOP, capture_output=True, check=False).stdout.decode()
     files = [it for it in names.split("\0") if it] or [it.relative_to(TOP).as_posix() for it in files_of("**/*")]
     folders = {parent.as_posix() for it in files for parent in Path(it).parents}
     return {*files, *folders, *(it.name for it in map(Path, files))}
