@@ -7,6 +7,7 @@ from checking.language import GREATEST_VALUE, LEAST_VALUE
 from checking.messages import Note, warning
 from checking.occurrences import times_of_events
 from checking.ranks import CODES
+from program import table_lines
 
 VALUES = ("state", "sense", "read", "let")
 
@@ -18,7 +19,7 @@ def warnings_of(run, text, document):
         found += warned_of(document)
     table = run(["mean"], text)
     if table.status == 0:
-        lines = table.stdout.decode("ascii").splitlines()
+        lines = table_lines(table)
         found += [*never_occurs(document, lines), *ends_of_values(document, lines)]
     return found
 
