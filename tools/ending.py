@@ -4,6 +4,7 @@ A script of this folder calls `serve` with the module of its command. From then 
 status 130 at once: what is half written is removed, and the programs that run are ended.
 """
 
+import gc
 import os
 import signal
 import sys
@@ -110,6 +111,7 @@ def status_of(tool, command):
 
 def serve(module, name="main"):
     """Ends the process with the status of a command, which is the function of this name of a module."""
+    gc.disable()  # nothing that grows is held by a cycle, and looking for cycles takes a third of a long run
     catch_stops()
     fill_closed_streams()
     tool = os.path.basename(sys.argv[0])

@@ -71,9 +71,8 @@ def record_of(program, text):
     return ran.stdout.decode(errors="replace").splitlines(), None
 
 
-def cut_text(form, tick):
-    """Returns a canonical text without the releases from a tick on."""
-    document = read_document(form)
+def cut_text(form, document, tick):
+    """Returns the canonical text of a document without the releases from a tick on."""
     lines = form.decode().split("\n")
     lines[2] = f"until {tick}"
     if document.trace:
@@ -103,8 +102,5 @@ def simulated(program, text):
     service = serve(document)
     must_agree(service.overrun, overrun)
     if overrun:
-        form = cut_text(form, overrun.time)
-        document = read_document(form)
-        service = serve(document)
-        lines, _ = record_of(program, form)
+        lines, _ = record_of(program, cut_text(form, document, overrun.time))
     return Simulated(document, slots, service, agreed_steps(document, service, lines), overrun)
