@@ -109,6 +109,11 @@ def status_of(tool, command):
         return Status.OUT_OF_MEMORY
 
 
+def status_of_all(statuses):
+    """Returns the status of a call for several files: the first that is neither 0 nor 1, else the greatest."""
+    return next((it for it in statuses if it > Status.REFUSED), max(statuses))
+
+
 def serve(module, name="main"):
     """Ends the process with the status of a command, which is the function of this name of a module."""
     gc.disable()  # nothing that grows is held by a cycle, and looking for cycles takes a third of a long run
