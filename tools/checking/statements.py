@@ -89,10 +89,14 @@ def task(cursor, statement):
     if cursor.here is None or not cursor.says("every", "on"):
         cursor.form = f"{FORMS['task']}` or `{TASK_ON_EVENT}"
     if cursor.word("every", "on").text == "every":
+        if cursor.here is not None and cursor.here.kind is Kind.NAME:
+            cursor.leave("the period, a number,", f"a task that occurs with an event is `on {cursor.here.text}`")
         statement.numbers["every"] = cursor.number("the period, a number,")
         left = ["from", "prio", "deadline", "cost"]
     else:
         cursor.form = TASK_ON_EVENT
+        if cursor.here is not None and cursor.here.kind is Kind.NUMBER:
+            cursor.leave("the name of an event", f"a task with a period is `every {cursor.here.text}`")
         statement.source = cursor.name("the name of an event")
         left = ["prio", "deadline", "cost"]
     given = ["every" if "every" in statement.numbers else "on"]

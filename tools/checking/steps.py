@@ -82,7 +82,8 @@ def name_fault(step, document):
         if token.text not in tasks:
             if document.hides_names or token.text in document.doubtful:
                 return None
-            return error_at(token, step.line, 28, f"`{token.text}` is no task: {what_there_is('task', tasks)}")
+            there = what_there_is("task", tasks, wrong=token.text)
+            return error_at(token, step.line, 28, f"`{token.text}` is no task: {there}")
     task = tasks[tokens[1].text]
     if tokens[0].text == "claim":
         return link_fault(step, task, document)
@@ -90,8 +91,8 @@ def name_fault(step, document):
     names = task.declared(kind) if kind else {}
     if kind is None or tokens[2].text in names or tokens[2].text in document.doubtful:
         return None
-    text = f"`{tokens[2].text}` is no {kind} of `{task.name}`: {what_there_is(kind, names, task.name)}"
-    return error_at(tokens[2], step.line, 28, text)
+    there = what_there_is(kind, names, task.name, tokens[2].text)
+    return error_at(tokens[2], step.line, 28, f"`{tokens[2].text}` is no {kind} of `{task.name}`: {there}")
 
 
 def link_fault(step, task, document):
