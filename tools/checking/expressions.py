@@ -1,8 +1,8 @@
 """Expressions: which names they use, and where they leave their form."""
 
-from checking.foreign import CALLS, WORDS, about_word
 from checking.cursor import LeavesForm
-from checking.language import FORMS
+from checking.foreign import CALLS, WORDS, about_word, in_lower_case
+from checking.language import FORMS, RESERVED
 from checking.tokens import Kind, spelled
 
 OPERAND = "an expression (a number, a name, `(`, `-`, `not`, `min`, `max`)"
@@ -133,6 +133,8 @@ def about_rest(cursor):
     here, before = cursor.here, cursor.last
     if here is None or cursor.advice(""):
         return ""
+    if in_lower_case(before, RESERVED):
+        return in_lower_case(before, RESERVED)
     if here.says("="):
         return "equal is `==`"
     if here.says(")"):

@@ -171,12 +171,16 @@ def about_hyphen(tokens, at):
 
 def about_word(token, words):
     """Returns which of the words that may stand at a place a token may be meant for, or nothing."""
-    if token.kind is not Kind.NAME:
-        return None
-    if token.text.lower() in words:
-        return f"words are in lower case: `{token.text.lower()}`"
+    if token.kind is not Kind.NAME or in_lower_case(token, words):
+        return in_lower_case(token, words)
     meant = nearest(token.text, words)
     return f"did you mean `{meant}`?" if meant else None
+
+
+def in_lower_case(token, words):
+    """Returns how a word is written that stands in capitals, or nothing."""
+    word = token.text.lower()
+    return f"words are in lower case: `{word}`" if token.kind is Kind.NAME and word in words else None
 
 
 def begins_comment(tokens):

@@ -1,6 +1,7 @@
 """Faults of names, line by line: declared twice, not there, a task's own out, and reads past the cost."""
 
-from checking.foreign import COMMENT, WORDS, begins_comment, hyphenated
+from checking.foreign import COMMENT, WORDS, begins_comment, hyphenated, in_lower_case
+from checking.language import RESERVED
 from checking.messages import Note, error_at
 from checking.nearest import nearest
 from checking.text import what_there_is
@@ -120,7 +121,7 @@ class NameFaults:
         if found is not None:
             return error_at(token, statement.line, 11, about_found(task, token, found), note_of(found))
         why = f"did you mean `{whole.replace('-', '_')}`? `{whole}` is a difference" if whole else None
-        why = why or self.about_state(task, token) or WORDS.get(token.text.lower())
+        why = why or self.about_state(task, token) or WORDS.get(token.text.lower()) or in_lower_case(token, RESERVED)
         why = why or self.about_others(task, values, token)
         why = why or what_there_is("name", values, task.name, self.searched(token))
         comment = f"; {COMMENT}" if begins_comment(statement.tokens) else ""
@@ -168,7 +169,7 @@ class NameFaults:
         no_kind = f"no {kind} of `{owner}`" if task else f"no {kind}"
         what = f"{SAID[found.word]}, and {no_kind}" if found else no_kind
         text = f"`{token.text}` is {what}: {what_there_is(kind, names, owner, self.searched(token))}"
-        if kind == "state" and not found:
+        if kind == "state" and not found and "did you mean" not in text:
             text += f"; a line `state {token.text} = V` declares it, with its value before the first instance"
         return error_at(token, statement.line, 11, text, *([note_of(found)] if found else []))
 

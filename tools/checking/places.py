@@ -104,7 +104,8 @@ def about_start(statement):
     if is_row(tokens):
         return "the rows of a trace stand after a line `trace`"
     if is_step(tokens):
-        return "the steps of a script stand after a line `script`"
+        more = f"; {LINE_WORDS['end']}" if statement.word == "end" else ""
+        return f"the steps of a script stand after a line `script`{more}"
     if statement.head.kind is Kind.NAME and len(tokens) > 1 and tokens[1].says("="):
         if len(tokens) > 4 and tokens[3].says(".") or len(tokens) > 2 and tokens[2].says("pre"):
             return f"a line begins with its kind, as `read {statement.word} = TASK.OUT`"

@@ -13,6 +13,7 @@ from checking.foreign import ONE_LINE, about_pair
 from checking.line_faults import (
     MARK_OF_UTF_8,
     MARKS_OF_UTF_16,
+    about_row,
     byte_fault,
     depth_fault,
     node_fault,
@@ -27,7 +28,7 @@ from checking.tokens import Kind, Token, code_of, tokens_of
 WORDS = re.compile(r"[A-Za-z_][A-Za-z0-9_]*")
 FOREIGN_COMMENTS = ("//", "/*", "--", ";", "%")
 SECOND_WORD = re.compile(r"[ \t]*\w+[ \t]+([A-Za-z_][A-Za-z0-9_]*)")
-TOLD_ONCE = (b";", b".", b"+", b'"')  # signs that stand in many lines, if in one
+TOLD_ONCE = (b";", b".", b"+", b'"', b"a line")  # what stands in many lines, if in one: signs, a trace's lines of a diagram
 MEANT_AS_DONE = ("end", "done", "quit", "exit", "stop", "fin")
 
 
@@ -80,7 +81,8 @@ class Reader:
         """Adds to each fault of a sign that is told once which later lines have it too."""
         for place, later in self.signs.values():
             if later:
-                text = f"this line has it too, the first of {times(len(later), 'more line')}"
+                more = f", and in {times(len(later) - 1, 'later one')}" if later[1:] else ""
+                text = f"the same stands in this line{more}"
                 fault = self.faults[place]
                 self.faults[place] = replace(fault, notes=(*fault.notes, Note(later[0], 1, text)))
 
@@ -138,6 +140,8 @@ class Reader:
             self.open_line = line.number
             return
         statement = Statement(line.number, tokens[0], tokens=tuple(tokens)) if tokens else None
+        if tokens and tokens[-1].text == "\\":
+            self.open_line = line.number
         fault = fault or self.fault_of(line, tokens, statement)
         self.go_on(line, tokens, statement, fault)
         self.keep(fault, line)
@@ -247,7 +251,8 @@ class Reader:
 
     def is_told(self, fault, line):
         """Whether a fault is one of a sign of which an earlier line's fault tells; keeps where the first one stands."""
-        sign = line.text[fault.column - 1 : fault.column]
+        is_of_diagram = self.section is Section.TRACE and about_row(code_of(line.text))
+        sign = b"a line" if is_of_diagram else line.text[fault.column - 1 : fault.column]
         if fault.code not in (1, 2) or sign not in TOLD_ONCE:
             return False
         place, later = self.signs.setdefault((fault.code, sign), (len(self.faults), []))

@@ -1,5 +1,6 @@
 """Faults of the script's lines: steps without a form, and names that the document doesn't have."""
 
+from checking.foreign import about_word
 from checking.language import GREATEST_DELAY, GREATEST_SLOT, STEP_FORMS
 from checking.messages import error, error_at
 from checking.text import listed, what_there_is
@@ -32,7 +33,9 @@ def form_fault(step):
         text = "`trace` is no step: all lines from `script` to `done` are steps, so the trace must stand before it"
         return error_at(tokens[0], step.line, 27, text)
     if word not in STEP_FORMS:
-        return error_at(tokens[0], step.line, 27, f"no step begins with `{word}`: there are {listed(STEP_FORMS)}")
+        meant = about_word(tokens[0], STEP_FORMS)
+        there = f"{meant} the steps are" if meant else "there are"
+        return error_at(tokens[0], step.line, 27, f"no step begins with `{word}`: {there} {listed(STEP_FORMS)}")
     left = [leaves(form.split(), tokens) for form in STEP_FORMS[word]]
     if None in left:
         return None
