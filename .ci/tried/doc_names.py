@@ -21,6 +21,7 @@ from doc_pages import blocks_and_prose, pages, spans, without_spans  # noqa: E40
 # Words in backticks that no file has, each with the reason why it may stand there.
 EXPLAINED = {
     ".vscode/tasks.json": "a file of the reader's own",
+    "TASK_instance_": "a signal whose name is put together, of a task, `_instance` and as many `_` as it needs",
     "UnusedLet": "a warning whose name is put together, of `Unused` and the kind of the line",
     "UnusedRead": "as `UnusedLet`",
     "UnusedSense": "as `UnusedLet`",
