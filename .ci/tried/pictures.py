@@ -53,6 +53,15 @@ TAMPERED = {
     "an overrun": ("$s/.*/overrun: control 2 at 3/;$!d", 3, 3),
 }
 
+# How many ends of a document are drawn as late ones, and what one says.
+LATE = {
+    ".ci/tried/check/late_by_priorities.dbp": (1, b"slow 1 ends at 11, after its deadline 9"),
+    ".ci/tried/check/late_by_deadlines.dbp": (3, b"b 2 ends at 12, after its deadline 11"),
+    "examples/sim/mended.dbp": (0, b"ends at"),
+}
+
+MOST_ROWS = 50_000
+
 RULES = "".join([*styles.STYLES, *styles.BOX_STYLES])
 SIZES = {name: int(size) for name, size in re.findall(r"\.([a-z-]+)\{font-size:(\d+)px", RULES)}
 ANCHORS = dict(re.findall(r"\.([a-z-]+)\{[^}]*text-anchor:(\w+)", RULES))
@@ -121,6 +130,14 @@ def refused_record_fault(program):
     return None if is_right else f"the status is {ran.returncode}, and it said {ran.stderr!r}"
 
 
+def late_fault(program, document, count, said):
+    """Returns how the late ends of a document are drawn, if not in red, each once, and with a line in the legend."""
+    picture = run_tool(program, ["timeline", document]).stdout
+    marks, is_in_legend = picture.count(b'class="late"'), b"end after the deadline" in picture
+    is_right = marks == count + is_in_legend and is_in_legend == (count > 0) == (b".late{stroke:#d01010" in picture)
+    return None if is_right and said in picture else f"{marks} marks are red, the legend has one: {is_in_legend}"
+
+
 def picture_fault(program, picture):
     """Returns how a picture of docs/ differs from one that is drawn anew."""
     return difference(picture.draw(program), (gallery.FOLDER / picture.file).read_bytes())
@@ -182,15 +199,39 @@ def documents():
     return sorted([*(TOP / "examples").rglob("*.dbp"), *(TOP / "cases" / "sim").rglob("*.dbp")])
 
 
+def long_text(first):
+    """Returns a document with 50,000 rows, of which two are only one tick apart from the one before: the task overruns."""
+    times = [2 * row - (row == first or row == MOST_ROWS - 1) for row in range(MOST_ROWS)]
+    rows = "".join(f"{time},1\n" for time in times)
+    head = f"dbp 1\npolicy fp\nuntil {2 * MOST_ROWS}\nevent go\ntask a on go prio 1 cost 2\n  out y = 0 then 1\n"
+    return f"{head}trace\ntime,go\n{rows}done\n".encode()
+
+
+def long_fault(program, first):
+    """Returns how the timeline of a long document that overruns differs. With work that is no multiple of its length it
+    takes minutes."""
+    overrun = f"overrun: a {first + 1} at {2 * first - 1}".encode()
+    words = [sys.executable, "tools/timeline", "--program", str(program), "-"]
+    try:
+        ran = subprocess.run(words, cwd=TOP, input=long_text(first), capture_output=True, timeout=30, check=False)
+    except subprocess.TimeoutExpired:
+        return "it hadn't ended after 30 seconds"
+    return None if ran.returncode == 0 and overrun in ran.stdout else f"the status is {ran.returncode}: {ran.stderr[-200:]!r}"
+
+
 def trials(program):
     """Yields the trials: a name, and a call that returns what differs, or nothing."""
     for file, words in EXACT.items():
         yield f"exact {file}", lambda it=(file, *words): exact_fault(program, *it)
     for name, wanted in STATUSES.items():
         yield f"status of {name}", lambda it=wanted: status_fault(program, *it)
+    for document, wanted in LATE.items():
+        yield f"late ends of {document}", lambda it=(document, *wanted): late_fault(program, *it)
     for name, wanted in TAMPERED.items():
         yield f"a record with {name}", lambda it=wanted: tampered_fault(program, *it)
     yield "status of a record that differs", lambda: refused_record_fault(program)
+    for first in (1, MOST_ROWS - 1):
+        yield f"50,000 rows that overrun at row {first}", lambda it=first: long_fault(program, it)
     for picture in gallery.PICTURES:
         yield f"docs/pictures/{picture.file}", lambda it=picture: picture_fault(program, it)
     for file in documents():

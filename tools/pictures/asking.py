@@ -1,14 +1,13 @@
 """What the pictures ask the program for: a checked document, and the record of its simulation."""
 
 from dataclasses import dataclass
-from typing import List, Optional, Tuple
+from typing import Dict, List, Optional, Tuple
 
 from canonical import Document, read_document
+from ending import Status
 from pictures.record import Disagreement, Step, agreed_steps
 from pictures.service import Overrun, Service, serve
-from program import run_program
-
-OVERRUN = 3  # the exit status of a simulation that overruns
+from program import read_as_answer, run_program, table_lines
 
 
 class Refused(Exception):
@@ -24,7 +23,8 @@ class Refused(Exception):
 class Simulated:
     """A document with its simulation: the service, the steps to be drawn, and the overrun if there is one.
 
-    If it overruns, service and steps are those of the releases before the overrun. `slots` has how many each task has.
+    If it overruns, service and steps are those of the releases before the overrun. `slots` has how many each task has,
+    `table` the outs of each instance, by its task and its number as `dbp mean` prints them.
     """
 
     document: Document
@@ -32,6 +32,15 @@ class Simulated:
     service: Service
     steps: List[Step]
     overrun: Optional[Overrun]
+    table: Dict[Tuple[str, str], str]
+
+    def value(self, task, number, port):
+        """Returns the value of an out of a task's instance; of number 0 it is the first value."""
+        outs = self.document.tasks[task].outs
+        at = next(at for at, out in enumerate(outs) if out.name == port)
+        if number == 0:
+            return outs[at].first
+        return int(self.table[self.document.tasks[task].name, str(number)].split(",")[at])
 
 
 def answer(program, words, text):
@@ -44,13 +53,22 @@ def answer(program, words, text):
 
 def canonical_text(program, text):
     """Returns the canonical text of a document that the program accepts as a whole, and the lines of its plan."""
-    plan = answer(program, ["plan"], text).decode().splitlines()
+    plan = answer(program, ["plan"], text).decode(errors="replace").splitlines()
     return answer(program, ["form"], text), plan
 
 
 def checked_document(program, text):
     """Returns a document that the program accepts as a whole."""
-    return read_document(canonical_text(program, text)[0])
+    form, _ = canonical_text(program, text)
+    with read_as_answer(program):
+        return read_document(form)
+
+
+def table_of(program, text):
+    """Returns the outs of each instance by its task and its number, as texts."""
+    cut = (line.split(",", 3) for line in table_lines(run_program(program, ["mean"], text)))
+    with read_as_answer(program):
+        return {(task, number): outs for _, task, number, outs in cut}
 
 
 def overrun_of(line):
@@ -62,24 +80,24 @@ def overrun_of(line):
 def record_of(program, text):
     """Returns the lines of the record, or the overrun that the program prints instead."""
     ran = run_program(program, ["sim", "--record"], text)
-    if ran.status == OVERRUN:
-        return [], overrun_of(ran.stdout.decode())
-    if ran.status != 0:
+    if ran.status == Status.OVERRUN:
+        with read_as_answer(program):
+            return [], overrun_of(ran.stdout.decode())
+    if ran.status != Status.DONE:
         raise Refused(ran)
-    return ran.stdout.decode().splitlines(), None
+    return ran.stdout.decode(errors="replace").splitlines(), None
 
 
-def cut_text(form, tick):
-    """Returns a canonical text without the releases from a tick on."""
-    document = read_document(form)
+def cut_text(form, document, tick):
+    """Returns the canonical text of a document without the releases from a tick on."""
     lines = form.decode().split("\n")
     lines[2] = f"until {tick}"
     if document.trace:
         first = len(lines) - 2 - len(document.trace.lines)
         if document.script is not None:
             first -= 1 + len(document.script)
-        late = [at for at, row in enumerate(document.trace.rows, first + 1) if row.time >= tick]
-        lines = [line for at, line in enumerate(lines) if at not in set(late)]
+        late = {at for at, row in enumerate(document.trace.rows, first + 1) if row.time >= tick}
+        lines = [line for at, line in enumerate(lines) if at not in late]
     return "\n".join(lines).encode()
 
 
@@ -94,14 +112,13 @@ def must_agree(computed, told):
 def simulated(program, text):
     """Returns the simulation of a document, in which the program's record and the computed order agree."""
     form, plan = canonical_text(program, text)
-    slots = tuple(int(line.split(",")[4]) for line in plan)
-    document = read_document(form)
-    lines, overrun = record_of(program, form)
+    with read_as_answer(program):
+        slots = tuple(int(line.split(",")[4]) for line in plan)
+        document = read_document(form)
+    lines, overrun = record_of(program, text)
     service = serve(document)
     must_agree(service.overrun, overrun)
     if overrun:
-        form = cut_text(form, overrun.time)
-        document = read_document(form)
-        service = serve(document)
-        lines, _ = record_of(program, form)
-    return Simulated(document, slots, service, agreed_steps(document, service, lines), overrun)
+        lines, _ = record_of(program, cut_text(form, document, overrun.time))
+    steps = agreed_steps(document, service, lines)
+    return Simulated(document, slots, service, steps, overrun, table_of(program, text))

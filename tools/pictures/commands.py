@@ -1,48 +1,37 @@
 """The command lines of tools/timeline and tools/diagram."""
 
 import argparse
-import sys
+from dataclasses import replace
+from functools import partial
 from pathlib import Path
 
+from command_line import Parser, read_bytes, write_text
+from ending import Ended, Status, say, status_of
 from pictures.asking import Refused, checked_document, simulated
 from pictures.diagram import draw_diagram
 from pictures.dot import dot_text
 from pictures.record import Disagreement
+from pictures.service import rank_order
 from pictures.slot_rows import draw_slots
 from pictures.timeline import draw_timeline
-from program import CannotRun, add_program_option
-
-DIFFERS, USAGE, CANNOT_READ, CANNOT_WRITE, CANNOT_RUN = 1, 2, 4, 5, 70  # exit statuses
+from program import add_program_option
 
 
 class NoTask(Exception):
     """A word of a command names no task of the document."""
 
 
-def say(tool, text):
-    """Writes a line on standard error."""
-    print(f"{tool}: {text}", file=sys.stderr)
-
-
 def add_file_options(parser):
     """Adds the document and the picture to the words of a command."""
     parser.add_argument("file", metavar="FILE", help="the document, or - for standard input")
     parser.add_argument("-o", dest="out", metavar="OUT", help="the file of the picture (standard output)")
+    parser.add_argument("--tasks", type=names, metavar="TASK,..", help="draw these tasks alone")
     add_program_option(parser)
 
 
-def read_file(name):
-    """Returns the bytes of a document."""
-    return sys.stdin.buffer.read() if name == "-" else Path(name).read_bytes()
-
-
-def write_picture(text, name):
-    """Writes a picture to a file or to standard output."""
-    if name:
-        Path(name).write_bytes(text.encode())
-    else:
-        sys.stdout.buffer.write(text.encode())
-        sys.stdout.buffer.flush()
+def names(word):
+    """Returns the names that a word of a command lists."""
+    return word.split(",")
 
 
 def tick(word):
@@ -52,11 +41,19 @@ def tick(word):
     return int(word)
 
 
-def must_name_tasks(document, names):
+def must_name_tasks(document, asked):
     """Refuses a name that isn't one of the document's tasks."""
-    for name in names:
+    for name in asked:
         if name is not None and name not in {task.name for task in document.tasks}:
             raise NoTask(f"it has no task {name}")
+
+
+def places_of(document, asked):
+    """Returns the places of the tasks that are asked for in the order of ranks, or nothing if all are."""
+    if asked is None:
+        return None
+    must_name_tasks(document, asked)
+    return [at for at in rank_order(document) if document.tasks[at].name in asked]
 
 
 def shown_name(name):
@@ -65,39 +62,30 @@ def shown_name(name):
     return "".join(letter if letter.isprintable() else "?" for letter in last)
 
 
-def run(tool, options, draw):
-    """Draws the picture of a document and returns the exit status; what goes wrong is said on standard error."""
-    try:
-        text = read_file(options.file)
-    except OSError as error:
-        say(tool, f"{options.file}: {error.strerror}")
-        return CANNOT_READ
-    name = shown_name(options.file)
+def run(options, draw):
+    """Draws the picture of a document and returns the exit status."""
+    text, name = read_bytes(options.file), shown_name(options.file)
     try:
         picture = draw(text, name)
     except Refused as refused:
-        say(tool, f"{name}: {refused}")
-        return refused.status
+        raise Ended(refused.status, f"{name}: {refused}") from refused
     except Disagreement as differing:
-        say(tool, f"{name}: the record and the computed order differ at {differing}")
-        return DIFFERS
+        text = f"{name}: the record and the computed order differ at {differing}"
+        raise Ended(Status.REFUSED, text) from differing
     except NoTask as error:
-        say(tool, f"{name}: {error}")
-        return USAGE
-    except CannotRun as error:
-        say(tool, error)
-        return CANNOT_RUN
-    try:
-        write_picture(picture, options.out)
-    except OSError as error:
-        say(tool, f"{options.out or 'standard output'}: {error.strerror}")
-        return CANNOT_WRITE
-    return 0
+        raise Ended(Status.WRONG_WORDS, f"{name}: {error}") from error
+    write_text([picture], options.out)
+    return Status.DONE
 
 
-def timeline(words):
+def timeline(words=None):
     """Draws a timeline, and returns the exit status."""
-    parser = argparse.ArgumentParser("timeline", description="Draws the simulation of a document as SVG.")
+    return status_of("timeline", partial(run_timeline, words))
+
+
+def run_timeline(words):
+    """Draws the timeline that the words ask for."""
+    parser = Parser("timeline", description="Draws the simulation of a document as SVG.")
     add_file_options(parser)
     parser.add_argument("--from", dest="start", type=tick, metavar="T", help="the first tick that is shown (0)")
     parser.add_argument("--to", dest="stop", type=tick, metavar="T", help="the last tick that is shown")
@@ -107,6 +95,8 @@ def timeline(words):
     asked = (options.start, options.stop)
     if options.stop is not None and (options.start or 0) >= options.stop:
         parser.error("--to must be after --from")
+    if options.slots and options.tasks:
+        parser.error("--slots shows a task and its readers, and --tasks others")
 
     def draw(text, name):
         found = simulated(options.program, text)
@@ -114,23 +104,32 @@ def timeline(words):
         if options.slots:
             picture, window = draw_slots(found, name, asked, options.slots)
         else:
-            picture, window = draw_timeline(found, name, asked, options.claims)
+            places = places_of(found.document, options.tasks)
+            picture, window = draw_timeline(found, name, asked, options.claims, places)
         if window.is_cut:
-            say("timeline", f"{name}: drawn are ticks {window.start} to {window.stop}; --from and --to choose others")
+            say(f"timeline: {name}: drawn are ticks {window.start} to {window.stop}; --from and --to choose others")
         return picture
 
-    return run("timeline", options, draw)
+    return run(options, draw)
 
 
-def diagram(words):
+def diagram(words=None):
     """Draws a diagram, and returns the exit status."""
-    parser = argparse.ArgumentParser("diagram", description="Draws the tasks of a document and their links as SVG.")
+    return status_of("diagram", partial(run_diagram, words))
+
+
+def run_diagram(words):
+    """Draws the diagram that the words ask for."""
+    parser = Parser("diagram", description="Draws the tasks of a document and their links as SVG.")
     add_file_options(parser)
     parser.add_argument("--dot", action="store_true", help="write text for Graphviz's dot in place of SVG")
     options = parser.parse_args(words)
 
     def draw(text, name):
         document = checked_document(options.program, text)
+        places = places_of(document, options.tasks)
+        if places is not None:
+            document = replace(document, tasks=tuple(document.tasks[at] for at in sorted(places)))
         return dot_text(document, name) if options.dot else draw_diagram(document, name)
 
-    return run("diagram", options, draw)
+    return run(options, draw)

@@ -53,6 +53,12 @@ class End:
     instance: Instance
 
 
+def is_late(document, instance, end):
+    """Whether an end is after the deadline of its instance; under `fp` too, if its task has a number for it."""
+    length = document.tasks[instance.task].deadline
+    return length is not None and end > instance.release + length
+
+
 @dataclass(frozen=True)
 class Span:
     """Ticks in a row in which one instance is served, the last one not among them."""
@@ -77,7 +83,7 @@ class Overrun:
 
 @dataclass(frozen=True)
 class Service:
-    """What happens, in order, and who is served when: all of it, or up to the overrun."""
+    """What happens, in order, and who is served when: all of it, or what the releases before the overrun give."""
 
     events: Tuple[object, ...]
     spans: Tuple[Span, ...]
@@ -193,6 +199,5 @@ def serve(document):
             overrun = Overrun(document.tasks[late.task].name, late.number, time)
             break
         processor.release(time, batch)
-    else:
-        processor.serve_until(None)
+    processor.serve_until(None)
     return Service(tuple(processor.events), tuple(processor.spans), overrun)

@@ -1,10 +1,18 @@
-"""Waves as tables of comma-separated values, each with a header."""
+"""Waves, and the lines of the program, as tables of comma-separated values, each with a header."""
 
 import csv
+import io
 
 from waveforms.signals import Kind, by_tick, task_signals
 
 TICK_COLUMN = "tick"
+
+
+def headed_lines(lines, tasks):
+    """Returns the lines that the program prints, below a header with a column for each out of the task with the most."""
+    most = max((len(task.outs) for task in tasks), default=0)
+    columns = [TICK_COLUMN, "task", "instance", *(f"out{number}" for number in range(1, most + 1))]
+    return ",".join(columns) + "\n" + lines.decode("ascii")
 
 
 def rows_of_task(task, occurrences):
@@ -33,3 +41,10 @@ def wide_rows(waves):
 def write_rows(rows, sink):
     """Writes rows, each ended by a line feed."""
     csv.writer(sink, lineterminator="\n").writerows(rows)
+
+
+def table_text(rows):
+    """Returns rows as a text."""
+    sink = io.StringIO()
+    write_rows(rows, sink)
+    return sink.getvalue()
