@@ -38,6 +38,8 @@ STATUSES = {
     "no document": (2, ["timeline"], b"usage"),
     "another word": (2, ["diagram", "examples/logger.dbp", "--slots", "monitor"], b"usage"),
     "ticks in the wrong order": (2, ["timeline", "examples/logger.dbp", "--from", "5", "--to", "5"], b"--to"),
+    "a tick of 400 digits": (2, ["timeline", "examples/logger.dbp", "--to", "9" * 400], b"is no tick"),
+    "ticks after all": (0, ["timeline", "examples/logger.dbp", "--from", "1000000000", "--to", "999999999999"], b""),
     "a tick below 0": (2, ["timeline", "examples/logger.dbp", "--from=-1"], b"-1 is no tick"),
     "tasks of which one isn't there": (2, ["diagram", "examples/logger.dbp", "--tasks", "doors,nobody"], b"no task nobody"),
     "slots and tasks": (2, ["timeline", "examples/logger.dbp", "--slots", "doors", "--tasks", "monitor"], b"usage"),

@@ -38,7 +38,7 @@ def draw_flag(canvas, mark, x, base, about=""):
 
 
 def draw_read(canvas, x, y, about="", inside=()):
-    """Draws the mark of a read: with a dot if first values are read, with a bar if what an arrow before has brought."""
+    """Draws the mark of a read: with a dot for first values, with a bar for what an arrow before has brought."""
     canvas.add(Layer.MARKS, "circle", tip(about), cx=x, cy=y, r=3.4, cls=Mark.READ.value)
     if Mark.FIRST in inside:
         canvas.add(Layer.MARKS, "circle", tip(about), cx=x, cy=y, r=1.7, cls=Mark.FIRST.value)
