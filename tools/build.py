@@ -18,6 +18,8 @@ import time
 from concurrent.futures import FIRST_COMPLETED, ThreadPoolExecutor, wait
 from pathlib import Path
 
+import ending
+
 TOP = Path(__file__).resolve().parent.parent
 PROGRAM = "dbp"
 PARTS = ("src", "specs", "proofs")
@@ -27,8 +29,11 @@ LAST_LINES = 12  # of a log, shown if a proof fails
 SMALLEST = b"dbp 1\npolicy fp\nuntil 0\ndone\n"
 
 
+NO_RT = "rt isn't on the path: the command of the Rattle kit that proves the crates and builds the program"
+
+
 def say(text):
-    print(f"dbp: {text}", file=sys.stderr, flush=True)
+    ending.say(f"dbp: {text}")
 
 
 class Failed(Exception):
@@ -225,7 +230,7 @@ def build(rooms):
             say("interrupted: what is proved is kept for the next call")
             return 130
         log = it.logs / str(failed)
-        print(*log.read_text(errors="replace").splitlines()[-LAST_LINES:], sep="\n", file=sys.stderr)
+        ending.say("\n".join(log.read_text(errors="replace").splitlines()[-LAST_LINES:]))
         say(f"{failed} isn't proved or built. Its whole log: {log}")
         return 70
     stamp = TOP / "crates" / PROGRAM / "out" / "launcher.stamp"
@@ -236,10 +241,19 @@ def build(rooms):
 
 
 def main():
+    if not shutil.which("rt"):
+        say(NO_RT)
+        return ending.Status.CANNOT_RUN
     git = TOP / ".git"
-    with tempfile.TemporaryDirectory(prefix="dbp-rooms-", dir=git if git.is_dir() else None) as rooms:
-        return build(Path(rooms))
+    try:
+        with tempfile.TemporaryDirectory(prefix="dbp-rooms-", dir=git if git.is_dir() else None) as rooms:
+            return build(Path(rooms))
+    except OSError as error:
+        say(f"the program can't be built: {error}")
+        return ending.Status.CANNOT_RUN
 
 
 if __name__ == "__main__":
+    ending.catch_stops()
+    ending.fill_closed_streams()
     sys.exit(main())

@@ -38,7 +38,8 @@ CALLS = (
     ("no script", ["--as", "replay", "-"], EXAMPLE.read_bytes(), 1, b"-:14:1: error: 29 NoScript: "),
     ("a file that is too large", ["-"], TOO_LARGE, 7, b"-:1:1: error: TooLarge: "),
     ("a file that isn't there", ["none.dbp"], b"", 4, b"none.dbp:1:1: error: CannotRead: "),
-    ("a program that isn't there", ["--program", "/none", "-"], b"", 70, b"-:1:1: error: CannotRun: "),
+    ("a program that isn't there", ["--program", "/none", "-"], b"", 70, b"check: /none: No such file or directory\n"),
+    ("no program, no list", ["--program", "/none", "--json", "-"], b"", 70, b""),
     ("no words", [], b"", 2, b"usage: check "),
 )
 

@@ -362,16 +362,45 @@ def fault_of_extension():
     return None if found == wanted else f"the problems are {found}"
 
 
+def task_of_docs():
+    """Returns the task of docs/TOOLS.md that uses the extension's problem matcher."""
+    blocks = re.findall(r"```json\n(.*?)```", (TOP / "docs" / "TOOLS.md").read_text(), re.DOTALL)
+    tasks = [task for block in blocks for task in json.loads(block).get("tasks", ())]
+    return next(task for task in tasks if task["problemMatcher"] == "$dbp")
+
+
+def fault_of_task(program):
+    """Returns what differs if that task checks a document, the repository and the document in folders with spaces."""
+    contributes = json.loads((VSCODE / "package.json").read_text())["contributes"]
+    if contributes["configuration"]["properties"]["dbp.check"]["type"] != "string":
+        return "the setting dbp.check isn't a text"
+    task = task_of_docs()
+    with tempfile.TemporaryDirectory() as room:
+        repository, document = Path(room) / "a b" / "the repository", Path(room) / "c d" / "a document.dbp"
+        repository.parent.mkdir()
+        document.parent.mkdir()
+        repository.symlink_to(TOP)
+        document.write_text("dbp 1\npolicy fp\nuntil 5\ntask a every 5 prio 1 cost 1\n  out y = 0 then z\ndone\n")
+        values = {"${config:dbp.check}": repository / "tools" / "check", "${file}": document}
+        words = [str(values[word]) for word in (task["command"], *task["args"])]
+        ran = subprocess.run([*words, "--program", program], cwd=room, capture_output=True, text=True)
+        matcher = re.compile(contributes["problemMatchers"][0]["pattern"]["regexp"])
+        found = [it.groups()[:4] for it in map(matcher.match, ran.stderr.splitlines()) if it]
+        is_process = task["type"] == "process"
+        return None if is_process and found == [(str(document), "5", "18", "error")] else f"it finds {found}"
+
+
 def fault_of_words():
     """Returns the words of the language that the document of all tokens lacks."""
     missing = {*RESERVED, *STEPS} - {*TOKENS.read_text().split()}
     return f"{TOKENS.name} lacks {sorted(missing)}" if missing or len(STEPS) < 12 else None
 
 
-def trials(_program):
+def trials(program):
     """Yields the trials of the editors, each a name and a call that returns what differs, or None."""
     yield "every word", fault_of_words
     yield "vim", fault_of_vim
     yield "vscode", fault_of_extension
+    yield "vscode's task", partial(fault_of_task, program)
     for document in documents():
         yield f"textmate: {document.relative_to(TOP)}", partial(fault_of_textmate, document)

@@ -53,6 +53,13 @@ TAMPERED = {
     "an overrun": ("$s/.*/overrun: control 2 at 3/;$!d", 3, 3),
 }
 
+# How many ends of a document are drawn as late ones, and what one says.
+LATE = {
+    ".ci/tried/check/late_by_priorities.dbp": (1, b"slow 1 ends at 11, after its deadline 9"),
+    ".ci/tried/check/late_by_deadlines.dbp": (3, b"b 2 ends at 12, after its deadline 11"),
+    "examples/sim/mended.dbp": (0, b"ends at"),
+}
+
 RULES = "".join([*styles.STYLES, *styles.BOX_STYLES])
 SIZES = {name: int(size) for name, size in re.findall(r"\.([a-z-]+)\{font-size:(\d+)px", RULES)}
 ANCHORS = dict(re.findall(r"\.([a-z-]+)\{[^}]*text-anchor:(\w+)", RULES))
@@ -119,6 +126,14 @@ def refused_record_fault(program):
     said = b"timeline: preempted.dbp: the record and the computed order differ at tick 4: step 33 is `end control`"
     is_right = ran.returncode == 1 and not ran.stdout and ran.stderr.startswith(said)
     return None if is_right else f"the status is {ran.returncode}, and it said {ran.stderr!r}"
+
+
+def late_fault(program, document, count, said):
+    """Returns how the late ends of a document are drawn, if not in red, each once, and with a line in the legend."""
+    picture = run_tool(program, ["timeline", document]).stdout
+    marks, is_in_legend = picture.count(b'class="late"'), b"end after the deadline" in picture
+    is_right = marks == count + is_in_legend and is_in_legend == (count > 0) == (b".late{stroke:#d01010" in picture)
+    return None if is_right and said in picture else f"{marks} marks are red, the legend has one: {is_in_legend}"
 
 
 def picture_fault(program, picture):
@@ -188,6 +203,8 @@ def trials(program):
         yield f"exact {file}", lambda it=(file, *words): exact_fault(program, *it)
     for name, wanted in STATUSES.items():
         yield f"status of {name}", lambda it=wanted: status_fault(program, *it)
+    for document, wanted in LATE.items():
+        yield f"late ends of {document}", lambda it=(document, *wanted): late_fault(program, *it)
     for name, wanted in TAMPERED.items():
         yield f"a record with {name}", lambda it=wanted: tampered_fault(program, *it)
     yield "status of a record that differs", lambda: refused_record_fault(program)

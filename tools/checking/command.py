@@ -1,29 +1,27 @@
 """The command line of tools/check."""
 
 import argparse
-import sys
 from functools import partial
 
 from checking.messages import Message, Severity
 from checking.printed import as_json, objects, plain
 from checking.text import lines_of
 from checking.verdicts import Command, Judged
+from command_line import Parser, bytes_of, write_errors, write_text
+from ending import Ended, Status, reason_of
 from program import CannotRun, add_program_option, run_program
 
 ABOUT = """Checks documents of dbp: says of each error where it is and what stands there, and warns of what is
 accepted and hardly meant. Each verdict is the program's. Messages go to standard error.
 
-exit status: 0 no error; 1 a document is refused; the program's own status for another end (as 6, 7);
-2 wrong words; 4 a file can't be read; 70 the program can't be run."""
-
-CANNOT_READ = 4
-CANNOT_RUN = 70
+exit status: 0 no error; 1 a document is refused; 7 it is too large; 2 wrong words; 4 a file can't be read;
+5 the messages can't be written; 6 the program's memory ran out; 70 it can't be run; 130 interrupted."""
 
 
 def parser():
     """Returns the parser of the words."""
     as_written = argparse.RawDescriptionHelpFormatter
-    made = argparse.ArgumentParser(prog="check", description=ABOUT, formatter_class=as_written)
+    made = Parser(prog="check", description=ABOUT, formatter_class=as_written)
     made.add_argument("files", nargs="+", metavar="FILE", help="a document; `-` is standard input")
     made.add_argument("--json", action="store_true", help="print one JSON list on standard output instead")
     made.add_argument("--no-warnings", action="store_true", help="print errors alone")
@@ -34,24 +32,18 @@ def parser():
     return made
 
 
-def text_of(file):
-    """Returns the bytes of a file or of standard input."""
-    if file == "-":
-        return sys.stdin.buffer.read()
-    with open(file, "rb") as opened:
-        return opened.read()
-
-
 def judged(program, file, command):
-    """Returns the status, the lines and the messages of a file."""
+    """Returns the status, the lines and the messages of a file. What is wrong with the program is no message of it."""
     try:
-        text = text_of(file)
-        verdict = Judged(partial(run_program, program), text).verdict(command)
+        text = bytes_of(file)
     except OSError as failed:
-        return CANNOT_READ, [], (Message(1, 1, Severity.ERROR, None, "CannotRead", failed.strerror),)
-    except CannotRun as failed:
-        text = " ".join(str(failed).split())
-        return CANNOT_RUN, [], (Message(1, 1, Severity.ERROR, None, "CannotRun", text),)
+        return Status.READ_FAILED, [], (Message(1, 1, Severity.ERROR, None, "CannotRead", reason_of(failed)),)
+    try:
+        verdict = Judged(partial(run_program, program), text).verdict(command)
+    except CannotRun:
+        raise
+    except Ended as ended:
+        raise Ended(ended.status, f"{file}: {ended}") from ended
     return verdict.status, lines_of(text) if verdict.status in (0, 1) else [], verdict.messages
 
 
@@ -72,7 +64,7 @@ def main(words=None):
         statuses.append(status)
         found += objects(file, kept)
         if not given.json:
-            sys.stderr.write(plain(file, lines, kept))
+            write_errors(plain(file, lines, kept))
     if given.json:
-        sys.stdout.write(as_json(found))
+        write_text([as_json(found)])
     return status_of(statuses)

@@ -1,18 +1,24 @@
 """A place in the tokens of a line, and what is wrong where the tokens leave the line's form."""
 
-from checking.foreign import about_pair, about_point
+import re
+
+from checking.foreign import about_hyphen, about_pair, about_point, about_word
 from checking.language import FORMS
 from checking.tokens import Kind
 
 
 class LeavesForm(Exception):
-    """The tokens leave the form of their line: the place, how many bytes it is about, and what is wrong."""
+    """The tokens leave the form of their line: the place, how many bytes it is about, and what is wrong.
 
-    def __init__(self, column, width, text):
+    `is_at_end` says whether they end too early, so that the next line may be meant to go on.
+    """
+
+    def __init__(self, column, width, text, is_at_end):
         super().__init__(text)
         self.column = column
         self.width = width
         self.text = text
+        self.is_at_end = is_at_end
 
 
 class Cursor:
@@ -75,7 +81,7 @@ class Cursor:
     def fail(self, text):
         """Raises what is wrong at the next token."""
         column, width = (self.here.column, self.here.width) if self.here else (self.tokens[-1].end, 1)
-        raise LeavesForm(column, width, f"{text}; the line is `{self.form}`")
+        raise LeavesForm(column, width, f"{text}; the line is `{self.form}`", self.here is None)
 
     def found(self):
         """Returns what stands here."""
@@ -85,16 +91,17 @@ class Cursor:
         """Returns more about what stands here, or nothing."""
         if self.here is None:
             return None
-        more = about_pair(self.tokens, self.at) or about_point(self.tokens, self.at)
-        if more:
-            return more
+        for about in (about_pair, about_point, about_hyphen):
+            more = about(self.tokens, self.at)
+            if more:
+                return more
         if self.here.kind is Kind.WORD and "name" in wanted:
             return f"`{self.here.text}` is a reserved word, and no name"
         if "line's end" in wanted and self.here.kind is Kind.WORD and self.here.text in FORMS:
             return "each statement has a line of its own"
         if self.here.says("-") and self.at + 1 < len(self.tokens) and self.tokens[self.at + 1].kind is Kind.NUMBER:
             return "a number's sign stands directly before its digits"
-        return None
+        return about_word(self.here, re.findall("`([a-z]+)", wanted))
 
 
 def cursor_of(tokens):

@@ -55,7 +55,7 @@ class Document:
     """What the lines say.
 
     `doubtful` has the names in lines with faults, of which nothing is known; `hides_names` says whether such a line hides
-    the name of an input, an event or a task.
+    the name of an input, an event or a task, `is_header_bad` whether the trace's header has a byte that isn't allowed.
     """
 
     lines: list[Line]
@@ -65,6 +65,7 @@ class Document:
     tasks: list[Task] = field(default_factory=list)
     trace_at: int | None = None
     rows: list[Line] = field(default_factory=list)
+    is_header_bad: bool = False
     script_at: int | None = None
     steps: list[Step] = field(default_factory=list)
     done_at: int | None = None

@@ -1,8 +1,9 @@
 """Expressions: which names they use, and where they leave their form."""
 
-from checking.foreign import WORDS
-from checking.language import FORMS
-from checking.tokens import Kind
+from checking.cursor import LeavesForm
+from checking.foreign import CALLS, WORDS, about_word, in_lower_case
+from checking.language import FORMS, RESERVED
+from checking.tokens import Kind, spelled
 
 OPERAND = "an expression (a number, a name, `(`, `-`, `not`, `min`, `max`)"
 COMPARISONS = ("==", "!=", "<", "<=", ">", ">=")
@@ -27,13 +28,36 @@ def level(cursor, names, depth):
     if depth == len(LEVELS):
         operand(cursor, names)
         return
+    if LEVELS[depth] is COMPARISONS:
+        comparison(cursor, names, depth)
+        return
     level(cursor, names, depth + 1)
     while cursor.takes(*LEVELS[depth]):
         level(cursor, names, depth + 1)
-        if LEVELS[depth] is COMPARISONS:
-            if cursor.says(*COMPARISONS):
-                cursor.leave("another operator", "two comparisons in a row need parentheses")
-            return
+
+
+def comparison(cursor, names, depth):
+    """Takes an operand, or a comparison of two; a third one leaves the form."""
+    start = cursor.at
+    level(cursor, names, depth + 1)
+    if cursor.takes(*COMPARISONS):
+        middle = cursor.at
+        level(cursor, names, depth + 1)
+        if cursor.says(*COMPARISONS):
+            cursor.leave("another operator", about_chain(cursor, start, middle, depth))
+
+
+def about_chain(cursor, start, middle, depth):
+    """Returns how two comparisons in a row are written; the first one's operands begin at two places of the tokens."""
+    last = cursor.at
+    cursor.at += 1
+    try:
+        level(cursor, [], depth + 1)
+        chain = f"`{spelled(cursor.tokens[start:last])} and {spelled(cursor.tokens[middle : cursor.at])}`"
+    except LeavesForm:
+        chain = "`A < B and B < C`"
+    cursor.at = last
+    return f"write {chain}; in parentheses the first one is 0 or 1, and that is compared"
 
 
 def operand(cursor, names):
@@ -109,14 +133,18 @@ def about_rest(cursor):
     here, before = cursor.here, cursor.last
     if here is None or cursor.advice(""):
         return ""
+    if in_lower_case(before, RESERVED):
+        return in_lower_case(before, RESERVED)
     if here.says("="):
         return "equal is `==`"
     if here.says(")"):
         return "no parenthesis is open"
     if here.says("(") and before.kind is Kind.NAME:
-        return f"`{before.text}` can't be called: there are `min(E, E)` and `max(E, E)` alone"
+        meant = CALLS.get(before.text.lower())
+        more = f"; `{before.text}(x)` is `{meant}`" if meant else ""
+        return f"`{before.text}` can't be called: there are `min(E, E)` and `max(E, E)` alone{more}"
     if here.says(".") and before.kind is Kind.NAME:
         return "the out of a task gets a name by a line `read NAME = TASK.OUT`"
     if here.kind is Kind.WORD and here.text not in FORMS:
         return f"`{here.text}` is a reserved word, and no operator"
-    return WORDS.get(here.text, "") if here.kind is Kind.NAME else ""
+    return WORDS.get(here.text.lower()) or about_word(here, ("and", "or")) or ""

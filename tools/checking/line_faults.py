@@ -9,6 +9,8 @@ from checking.tokens import Kind
 
 OUTSIDE = re.compile(rb"[^\x20-\x7e\t]")
 OUTSIDE_TRACE = re.compile(rb"[^A-Za-z0-9_\-, \t]")
+MARK_OF_UTF_8 = b"\xef\xbb\xbf"
+MARKS_OF_UTF_16 = (b"\xff\xfe", b"\xfe\xff")
 TRACE_SIGNS = {
     "#": "a trace has no comments, not even after its last line",
     ".": "a value is a whole number, without a point",
@@ -37,7 +39,7 @@ def about_byte(line, at, is_trace):
     shown = f"the byte 0x{byte:02x}"
     if byte == 0x0D:
         return f"{shown}, a carriage return, stands only directly before a line feed", 1
-    if line.number == 1 and line.text.startswith((b"\xef\xbb\xbf", b"\xff\xfe", b"\xfe\xff")):
+    if line.number == 1 and line.text.startswith((MARK_OF_UTF_8, *MARKS_OF_UTF_16)):
         return f"{shown} begins a byte order mark: write the document as ASCII without one", 1
     if byte >= 0x80:
         character = character_at(line.text, at)

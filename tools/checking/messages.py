@@ -7,10 +7,11 @@ from enum import Enum
 
 
 class Severity(Enum):
-    """Whether the program refuses the document for it."""
+    """Whether the program refuses the document for it, else whether it is hardly meant or only to be known."""
 
     ERROR = "error"
     WARNING = "warning"
+    NOTE = "note"
 
 
 @dataclass(frozen=True)
@@ -50,6 +51,12 @@ def error_at(token, line, code, text, *notes, detail=""):
 def warning(line, token, name, text, *notes):
     """Makes a warning at a token of a line."""
     return Message(line, token.column, Severity.WARNING, None, name, text, notes, token.width)
+
+
+def warning_over(line, tokens, name, text, *notes, severity=Severity.WARNING):
+    """Makes a warning, or a note, over several tokens of a line."""
+    column = tokens[0].column
+    return Message(line, column, severity, None, name, text, notes, tokens[-1].end - column)
 
 
 CODE_NAMES = {

@@ -2,7 +2,7 @@
 
 from enum import IntEnum
 
-from checking.foreign import about_pair
+from checking.foreign import GOING_ON, LINE_WORDS, ONE_LINE, about_pair, about_word
 from checking.language import BODY, COUNTED, COUNTS, FORMS, SPANS, STEP_FORMS
 from checking.messages import Note, error_at
 from checking.text import listed
@@ -104,12 +104,20 @@ def about_start(statement):
     if is_row(tokens):
         return "the rows of a trace stand after a line `trace`"
     if is_step(tokens):
-        return "the steps of a script stand after a line `script`"
+        more = f"; {LINE_WORDS['end']}" if statement.word == "end" else ""
+        return f"the steps of a script stand after a line `script`{more}"
     if statement.head.kind is Kind.NAME and len(tokens) > 1 and tokens[1].says("="):
         if len(tokens) > 4 and tokens[3].says(".") or len(tokens) > 2 and tokens[2].says("pre"):
             return f"a line begins with its kind, as `read {statement.word} = TASK.OUT`"
         return f"a line begins with its kind, as `let {statement.word} = E` or `next {statement.word} = E`"
-    return None
+    if may_go_on(statement.head):
+        return f"{ONE_LINE}, and can't go on in a second one"
+    return LINE_WORDS.get(statement.word.lower()) or about_word(statement.head, FORMS)
+
+
+def may_go_on(token):
+    """Whether a token may be the first of a line that is meant to go on with an expression."""
+    return token.kind is Kind.NUMBER or token.says(*GOING_ON)
 
 
 def is_row(tokens):

@@ -59,5 +59,6 @@ def objects(file, messages):
 
 
 def as_json(found):
-    """Returns a list of objects as a text, one object a line."""
-    return "[" + ",".join("\n" + json.dumps(it, ensure_ascii=False) for it in found) + "\n]\n"
+    """Returns a list of objects as a text, one object a line. A byte of a file's name that is no UTF-8 is an escape."""
+    text = "[" + ",".join("\n" + json.dumps(it, ensure_ascii=False) for it in found) + "\n]\n"
+    return text.encode("utf-8", "backslashreplace").decode()

@@ -4,20 +4,32 @@ After a fault the reading goes on, so that later faults are found too; what a li
 """
 
 import re
+from dataclasses import replace
 
 from checking.cursor import LeavesForm, cursor_of
 from checking.document import Document, Step, Task
 from checking.language import BODY, FORMS, RESERVED
-from checking.line_faults import byte_fault, depth_fault, node_fault, token_fault
+from checking.foreign import ONE_LINE, about_pair
+from checking.line_faults import (
+    MARK_OF_UTF_8,
+    MARKS_OF_UTF_16,
+    about_row,
+    byte_fault,
+    depth_fault,
+    node_fault,
+    token_fault,
+)
 from checking.messages import Note, error, error_at
-from checking.places import AFTER, ENDS, Section, count_fault, is_row, is_step, number_fault, place_fault
+from checking.places import AFTER, ENDS, Section, count_fault, is_row, is_step, may_go_on, number_fault, place_fault
 from checking.statements import FORM_OF, Statement
-from checking.text import lines_of
+from checking.text import Line, lines_of, times
 from checking.tokens import Kind, Token, code_of, tokens_of
 
 WORDS = re.compile(r"[A-Za-z_][A-Za-z0-9_]*")
 FOREIGN_COMMENTS = ("//", "/*", "--", ";", "%")
 SECOND_WORD = re.compile(r"[ \t]*\w+[ \t]+([A-Za-z_][A-Za-z0-9_]*)")
+TOLD_ONCE = (b";", b".", b"+", b'"', b"a line")  # what stands in many lines, if in one: signs, a trace's lines of a diagram
+MEANT_AS_DONE = ("end", "done", "quit", "exit", "stop", "fin")
 
 
 class Reader:
@@ -28,11 +40,15 @@ class Reader:
         self.section = Section.HEADER
         self.faults = []
         self.stray = None  # the section outside of which the line before stood: one message tells of all such lines
+        self.open_line = None  # the number of the line before, if it is meant to go on in the next one
+        self.signs = {}  # the places of the faults of signs that are told once, and the later lines with such a sign
 
     def read(self):
         """Reads all lines, and returns the document and its faults."""
+        if self.is_utf_16():
+            return self.document, [byte_fault(self.document.lines[0])]
         has_tokens = False
-        for line in self.document.lines:
+        for line in self.lines_after_mark():
             has_tokens = has_tokens or bool(code_of(line.text).strip(" \t"))
             if self.section is Section.TRACE:
                 self.take_row(line)
@@ -45,18 +61,50 @@ class Reader:
             self.faults = in_first or [error(1, 1, 8, "the text has no line with tokens; it must begin with `dbp 1`")]
         elif self.section is not Section.END and not self.is_end_doubtful():
             self.faults.append(self.missing_done())
+        self.note_signs()
         return self.document, self.faults
+
+    def is_utf_16(self):
+        """Whether the document begins as UTF-16, in which no line has the bytes that it is meant to have."""
+        return bool(self.document.lines) and self.document.lines[0].text.startswith(MARKS_OF_UTF_16)
+
+    def lines_after_mark(self):
+        """Returns the lines to be read: without a byte order mark, of which one message tells."""
+        lines = self.document.lines
+        if not lines or not lines[0].text.startswith(MARK_OF_UTF_8):
+            return lines
+        self.faults.append(byte_fault(lines[0]))
+        size = len(MARK_OF_UTF_8)
+        return [Line(1, b" " * size + lines[0].text[size:]), *lines[1:]]
+
+    def note_signs(self):
+        """Adds to each fault of a sign that is told once which later lines have it too."""
+        for place, later in self.signs.values():
+            if later:
+                more = f", and in {times(len(later) - 1, 'later one')}" if later[1:] else ""
+                text = f"the same stands in this line{more}"
+                fault = self.faults[place]
+                self.faults[place] = replace(fault, notes=(*fault.notes, Note(later[0], 1, text)))
 
     def is_end_doubtful(self):
         """Whether the last line that isn't blank is a short one with a fault, so that it may be meant as `done`."""
-        last = [line for line in self.document.lines if code_of(line.text).strip(" \t")][-1]
+        last = self.last_line()
         return any(fault.line == last.number for fault in self.faults) and len(code_of(last.text).split()) <= 2
 
     def missing_done(self):
         """Returns the message of a document that ends without `done`."""
         begun = {Section.TRACE: self.document.trace_at, Section.SCRIPT: self.document.script_at}.get(self.section)
         notes = [Note(begun, 1, "the section begins here, and goes to a line that is `done` alone")] if begun else []
+        last = self.last_line()
+        if code_of(last.text).strip(" \t;.").lower() in MEANT_AS_DONE:
+            notes.append(Note(last.number, 1, "the word that ends a document is `done`"))
+            self.document.rows = [it for it in self.document.rows if it is not last]
+            self.document.steps = [it for it in self.document.steps if it.line != last.number]
         return error(len(self.document.lines) + 1, 1, 7, "the document ends without a line `done`", *notes)
+
+    def last_line(self):
+        """Returns the last line that has more than a comment."""
+        return [line for line in self.document.lines if code_of(line.text).strip(" \t")][-1]
 
     def take_row(self, line):
         """Reads a line of the trace section."""
@@ -66,6 +114,8 @@ class Reader:
             self.begin(words[0], line)
         elif fault is None and not line.is_blank:
             self.document.rows.append(line)
+        elif fault and words[:1] == ["time"] and not self.document.rows:
+            self.document.is_header_bad = True
         self.keep(fault, line)
 
     def take_step(self, line):
@@ -86,7 +136,12 @@ class Reader:
         fault = fault or token_fault(line, tokens)
         if fault is None and not tokens:
             return
+        if self.open_line == line.number - 1 and goes_on(tokens):
+            self.open_line = line.number
+            return
         statement = Statement(line.number, tokens[0], tokens=tuple(tokens)) if tokens else None
+        if tokens and tokens[-1].text == "\\":
+            self.open_line = line.number
         fault = fault or self.fault_of(line, tokens, statement)
         self.go_on(line, tokens, statement, fault)
         self.keep(fault, line)
@@ -110,8 +165,18 @@ class Reader:
             return error_at(statement.head, line.number, 8, "the first line with tokens must be `dbp 1`" + more)
         fault = size_fault or place_fault(statement, self.section, self.document)
         if fault is None and form_fault:
-            fault = error(line.number, form_fault.column, 3, form_fault.text, width=form_fault.width)
+            more = self.about_next_line(line) if form_fault.is_at_end else ""
+            fault = error(line.number, form_fault.column, 3, form_fault.text + more, width=form_fault.width)
+        elif fault and fault.code == 3 and may_go_on(tokens[0]) and about_pair(tokens, 0) is None:
+            self.open_line = line.number
         return fault or number_fault(statement) or count_fault(statement, self.document)
+
+    def about_next_line(self, line):
+        """Returns what is wrong with a line that ends too early, if it is meant to go on in the next one."""
+        if line.number == len(self.document.lines) or not goes_on(tokens_of(self.document.lines[line.number].text)):
+            return ""
+        self.open_line = line.number
+        return f"; {ONE_LINE}, and can't go on in the next one"
 
     def go_on(self, line, tokens, statement, fault):
         """Keeps what a line says, and moves on to the section after it."""
@@ -179,10 +244,21 @@ class Reader:
     def keep(self, fault, line):
         """Keeps a fault, unless the line before stood outside of the same section."""
         stray = self.outside_of(line) if fault is not None and fault.code == 3 else None
-        if fault is not None and (stray is None or stray is not self.stray):
+        if fault is not None and (stray is None or stray is not self.stray) and not self.is_told(fault, line):
             self.faults.append(fault)
         if fault is not None or not line.is_blank:
             self.stray = stray
+
+    def is_told(self, fault, line):
+        """Whether a fault is one of a sign of which an earlier line's fault tells; keeps where the first one stands."""
+        is_of_diagram = self.section is Section.TRACE and about_row(code_of(line.text))
+        sign = b"a line" if is_of_diagram else line.text[fault.column - 1 : fault.column]
+        if fault.code not in (1, 2) or sign not in TOLD_ONCE:
+            return False
+        place, later = self.signs.setdefault((fault.code, sign), (len(self.faults), []))
+        if place < len(self.faults):
+            later.append(line.number)
+        return place < len(self.faults)
 
     def outside_of(self, line):
         """Returns the section outside of which a refused line stands, or nothing."""
@@ -194,6 +270,14 @@ class Reader:
         if is_row(tokens):
             return Section.TRACE
         return Section.SCRIPT if is_step(tokens) else None
+
+
+def goes_on(tokens):
+    """Whether a line can only be meant to go on with the line before: no kind of line, and no name of one, begins it."""
+    if not tokens or tokens[0].kind is Kind.WORD and tokens[0].text in FORMS:
+        return False
+    is_named = tokens[0].kind is Kind.NAME and len(tokens) > 1
+    return not (is_named and (tokens[1].says("=") or tokens[1].kind is Kind.NAME))
 
 
 def kind_of(words):

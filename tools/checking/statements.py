@@ -68,6 +68,8 @@ def until(cursor, statement):
 def with_value(cursor, statement):
     """Takes the name and the first value of an input or a state."""
     statement.name = cursor.name("a name")
+    if cursor.here is None:
+        cursor.leave("`=`", f"it has a first value, as `{statement.word} {statement.name.text} = 0`")
     cursor.word("=")
     statement.value = cursor.number("a number")
     if cursor.here is not None:
@@ -78,6 +80,8 @@ def with_value(cursor, statement):
 def event(cursor, statement):
     """Takes the name of an event."""
     statement.name = cursor.name("a name")
+    if cursor.says("="):
+        cursor.leave("the line's end", "an event has no value")
     cursor.end()
 
 
@@ -89,10 +93,14 @@ def task(cursor, statement):
     if cursor.here is None or not cursor.says("every", "on"):
         cursor.form = f"{FORMS['task']}` or `{TASK_ON_EVENT}"
     if cursor.word("every", "on").text == "every":
+        if cursor.here is not None and cursor.here.kind is Kind.NAME:
+            cursor.leave("the period, a number,", f"a task that occurs with an event is `on {cursor.here.text}`")
         statement.numbers["every"] = cursor.number("the period, a number,")
         left = ["from", "prio", "deadline", "cost"]
     else:
         cursor.form = TASK_ON_EVENT
+        if cursor.here is not None and cursor.here.kind is Kind.NUMBER:
+            cursor.leave("the name of an event", f"a task with a period is `every {cursor.here.text}`")
         statement.source = cursor.name("the name of an event")
         left = ["prio", "deadline", "cost"]
     given = ["every" if "every" in statement.numbers else "on"]
@@ -124,6 +132,8 @@ def about_task(cursor, given, left):
 def sense(cursor, statement):
     """Takes the name of a value and of an input."""
     statement.name = cursor.name("a name")
+    if cursor.here is None:
+        cursor.leave("`=`", f"the value has a name, as `sense NAME = {statement.name.text}`")
     cursor.word("=")
     statement.source = cursor.name("the name of an input")
     cursor.end()
@@ -132,6 +142,8 @@ def sense(cursor, statement):
 def read(cursor, statement):
     """Takes what a `read` names: a task and an out of it, with a delay, at a time."""
     statement.name = cursor.name("a name")
+    if cursor.says("."):
+        cursor.leave("`=`", f"the value has a name, as `read NAME = {statement.name.text}.OUT`")
     cursor.word("=")
     statement.is_delayed = bool(cursor.takes("pre"))
     if statement.is_delayed and cursor.here is not None and cursor.here.kind is Kind.NUMBER:

@@ -1,5 +1,6 @@
 """Faults of the script's lines: steps without a form, and names that the document doesn't have."""
 
+from checking.foreign import about_word
 from checking.language import GREATEST_DELAY, GREATEST_SLOT, STEP_FORMS
 from checking.messages import error, error_at
 from checking.text import listed, what_there_is
@@ -32,7 +33,9 @@ def form_fault(step):
         text = "`trace` is no step: all lines from `script` to `done` are steps, so the trace must stand before it"
         return error_at(tokens[0], step.line, 27, text)
     if word not in STEP_FORMS:
-        return error_at(tokens[0], step.line, 27, f"no step begins with `{word}`: there are {listed(STEP_FORMS)}")
+        meant = about_word(tokens[0], STEP_FORMS)
+        there = f"{meant} the steps are" if meant else "there are"
+        return error_at(tokens[0], step.line, 27, f"no step begins with `{word}`: {there} {listed(STEP_FORMS)}")
     left = [leaves(form.split(), tokens) for form in STEP_FORMS[word]]
     if None in left:
         return None
@@ -82,7 +85,8 @@ def name_fault(step, document):
         if token.text not in tasks:
             if document.hides_names or token.text in document.doubtful:
                 return None
-            return error_at(token, step.line, 28, f"`{token.text}` is no task: {what_there_is('task', tasks)}")
+            there = what_there_is("task", tasks, wrong=token.text)
+            return error_at(token, step.line, 28, f"`{token.text}` is no task: {there}")
     task = tasks[tokens[1].text]
     if tokens[0].text == "claim":
         return link_fault(step, task, document)
@@ -90,8 +94,8 @@ def name_fault(step, document):
     names = task.declared(kind) if kind else {}
     if kind is None or tokens[2].text in names or tokens[2].text in document.doubtful:
         return None
-    text = f"`{tokens[2].text}` is no {kind} of `{task.name}`: {what_there_is(kind, names, task.name)}"
-    return error_at(tokens[2], step.line, 28, text)
+    there = what_there_is(kind, names, task.name, tokens[2].text)
+    return error_at(tokens[2], step.line, 28, f"`{tokens[2].text}` is no {kind} of `{task.name}`: {there}")
 
 
 def link_fault(step, task, document):

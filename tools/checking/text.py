@@ -2,6 +2,8 @@
 
 from dataclasses import dataclass
 
+from checking.nearest import MOST_LISTED, by_nearness, is_near
+
 
 @dataclass(frozen=True)
 class Line:
@@ -32,13 +34,27 @@ def listed(names, join="and"):
     return f"{', '.join(quoted[:-1])} {join} {quoted[-1]}"
 
 
-def what_there_is(kind, names, owner=None):
-    """Returns which names of a kind there are, of an owner or of the document: the tasks are `a` and `b`."""
-    names = list(dict.fromkeys(names))
+def what_there_is(kind, names, owner=None, wrong=None):
+    """Returns which names of a kind there are, of an owner or of the document: the tasks are `a` and `b`.
+
+    If a wrong name is given, the nearest ones come first, and the one that it may be meant for is told.
+    """
+    names = by_nearness(wrong, names) if wrong else list(dict.fromkeys(names))
     if not names:
         return f"`{owner}` has none" if owner else "none is declared"
     of = f" of `{owner}`" if owner else ""
-    return f"the only {kind}{of} is `{names[0]}`" if len(names) == 1 else f"the {kind}s{of} are {listed(names)}"
+    is_meant = wrong is not None and is_near(wrong, names[0])
+    if len(names) == 1:
+        return f"did you mean `{names[0]}`, the only {kind}{of}?" if is_meant else f"the only {kind}{of} is `{names[0]}`"
+    meant = f"did you mean `{names[0]}`? " if is_meant else ""
+    return f"{meant}the {kind}s{of} are {first_listed(names)}"
+
+
+def first_listed(names):
+    """Returns the first names for a sentence, and how many more there are."""
+    left = len(names) - MOST_LISTED
+    shown = ", ".join(f"`{name}`" for name in names[:MOST_LISTED])
+    return f"{shown} and {left} more" if left > 0 else listed(names)
 
 
 def times(count, one, many=None):

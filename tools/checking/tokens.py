@@ -61,6 +61,14 @@ class Token:
         return self.kind in (Kind.WORD, Kind.SYMBOL) and self.text in texts
 
 
+def spelled(tokens):
+    """Returns tokens of one line as they stand there, with one space for those between."""
+    parts = [tokens[0].text] if tokens else []
+    for before, token in zip(tokens, tokens[1:]):
+        parts.append(" " * (token.column > before.end) + token.text)
+    return "".join(parts)
+
+
 def code_of(text):
     """Returns a line's bytes before its comment, as characters of the same places."""
     return text.split(b"#", 1)[0].decode("latin-1")

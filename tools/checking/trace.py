@@ -69,7 +69,7 @@ class TraceFaults:
 
     def all(self):
         """Returns the messages of the header, or those of the rows, one for each row with a fault."""
-        if self.document.trace_at is None:
+        if self.document.trace_at is None or self.document.is_header_bad:
             return []
         fault = self.header_fault()
         if fault:
@@ -111,7 +111,9 @@ class TraceFaults:
         is_doubtful = self.document.hides_names or cell.text in self.document.doubtful
         if cell.text in self.inputs or cell.text in self.events or is_doubtful and cell.text:
             return None
-        there = f"{what_there_is('input', self.inputs)}, and {what_there_is('event', self.events)}"
+        kinds = {"input": self.inputs, "event": self.events}
+        declared = [what_there_is(kind, names, wrong=cell.text or None) for kind, names in kinds.items() if names]
+        there = ", and ".join(declared or ["no input and no event is declared"])
         what = f"`{cell.text}` is no declared input or event" if cell.text else "this cell is empty"
         return at_cell(header, cell, 20, f"{what}: {there}")
 

@@ -15,18 +15,22 @@ from checking.steps import no_script, step_faults
 from checking.tasks import task_faults
 from checking.trace import trace_faults
 from checking.warned import warnings_of
+from ending import Ended, Status
+from program import CannotRun
 
 REFUSED = re.compile(rb"refused: line ([0-9]+): ([0-9]+) ([A-Za-z ]+)\n")
 
 # What is said of a refusal that isn't found here.
 NOT_FOUND = "the program refuses this line; docs/LANGUAGE.md says when exactly"
 
+TOO_LARGE = "the document has more than 1,048,576 bytes"
+
+# What is said of ends that no document is to blame for.
 ENDS = {
-    2: ("Usage", "the program doesn't know the command that it was given"),
-    4: ("ReadFault", "the program couldn't read the document"),
-    5: ("WriteFault", "the program couldn't write its answer"),
-    6: ("OutOfMemory", "the program's memory ran out"),
-    7: ("TooLarge", "the document has more than 1,048,576 bytes"),
+    Status.WRONG_WORDS: "the program doesn't know the command that it was given",
+    Status.READ_FAILED: "the program couldn't read the document",
+    Status.WRITE_FAILED: "the program couldn't write its answer",
+    Status.OUT_OF_MEMORY: "the program's memory ran out",
 }
 
 
@@ -80,7 +84,7 @@ class Judged:
         """Returns the verdict of a command; without one, of `replay` if there is a script, else of `plan`."""
         command, ran = self.judged_by(command)
         if ran.status not in (0, 1):
-            return Verdict(ran.status, command, (self.other_end(ran.status),))
+            return Verdict(ran.status, command, (other_end(ran.status),))
         errors = [] if ran.status == 0 else self.errors(command, ran)
         warned = warnings_of(self.run, self.text, self.document) if self.is_diagram_accepted(command, ran) else []
         return Verdict(ran.status, command, (*errors, *sorted(warned, key=lambda it: (it.line, it.column))))
@@ -107,11 +111,6 @@ class Judged:
         refusal = refusal_of(ran.stdout)
         return command is not Command.PLAN and refusal is not None and refusal.code in (27, 28, 29)
 
-    def other_end(self, status):
-        """Returns the message of an end that is no verdict."""
-        name, text = ENDS.get(status, ("Ended", f"the program ended with status {status}"))
-        return Message(1, 1, Severity.ERROR, None, name, text)
-
     def errors(self, command, ran):
         """Returns the errors of a refused document, the program's first."""
         stopped = illegal_of(ran.stdout)
@@ -119,8 +118,7 @@ class Judged:
             return [explained(self.run, command.words, self.document, stopped)]
         refusal = refusal_of(ran.stdout)
         if refusal is None:
-            said = ran.stdout.decode("ascii", "replace").strip()
-            return [Message(1, 1, Severity.ERROR, None, "Refused", f"the program says `{said}`")]
+            raise CannotRun(f"the program's answer isn't one of dbp: {ran.stdout[:80]!r}")
         return merged(refusal, self.faults(command))
 
     def faults(self, command):
@@ -134,6 +132,13 @@ class Judged:
         if command is Command.PLAN:
             return found
         return found + (step_faults(document) if document.script_at is not None else [no_script(document)])
+
+
+def other_end(status):
+    """Returns the message of a document that is too large; another end is no verdict of it."""
+    if status != Status.TOO_LARGE:
+        raise Ended(status, ENDS.get(status, f"the program ended with status {status}"))
+    return Message(1, 1, Severity.ERROR, None, "TooLarge", TOO_LARGE)
 
 
 def merged(refusal, found):

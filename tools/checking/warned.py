@@ -3,10 +3,12 @@
 from fractions import Fraction
 from itertools import accumulate
 
-from checking.language import GREATEST_VALUE, LEAST_VALUE
-from checking.messages import Note, warning
-from checking.occurrences import times_of_events
-from checking.ranks import CODES
+from checking.formulas import formula_warnings
+from checking.messages import Note, Severity, warning, warning_over
+from checking.ranks import CODES, key_of
+from checking.tabled import table_warnings
+from checking.timing import late_warnings
+from checking.trace import row_of
 
 VALUES = ("state", "sense", "read", "let")
 
@@ -14,13 +16,10 @@ VALUES = ("state", "sense", "read", "let")
 def warnings_of(run, text, document):
     """Returns the warnings of a document whose diagram and trace the program accepts."""
     found = []
-    for warned_of in (trace_after_script, unused, equal_ranks, long_costs, load):
+    for warned_of in (trace_after_script, unused, kept_inputs, delayed_downward, equal_ranks, long_costs, load):
         found += warned_of(document)
-    table = run(["mean"], text)
-    if table.status == 0:
-        lines = table.stdout.decode("ascii").splitlines()
-        found += [*never_occurs(document, lines), *ends_of_values(document, lines)]
-    return found
+    found += formula_warnings(run, document)
+    return [*found, *table_warnings(run, text, document), *late_warnings(run, text, document)]
 
 
 def trace_after_script(document):
@@ -50,6 +49,39 @@ def unused(document):
                 kind = statement.word
                 text = f"no out of the task `{task.name}` depends on the {kind} `{name}`"
                 yield of_name(statement, f"Unused{kind.capitalize()}", text)
+
+
+def kept_inputs(document):
+    """Yields a warning of each input that a task senses and no column of the trace gives values."""
+    if any(step.text == "trace" for step in document.steps):
+        return
+    columns = [cell.text for cell in row_of(document.rows[0]).cells] if document.rows else []
+    sensed = {sense.source.text for task in document.tasks for sense in task.lines("sense")}
+    for name, declaration in document.declared("input").items():
+        if name in sensed and name not in columns[1:]:
+            why = "the document has no trace" if document.trace_at is None else "the trace has no such column"
+            text = f"the input `{name}` is always {declaration.value.value}: {why}"
+            yield of_name(declaration, "KeptInput", text)
+
+
+def delayed_downward(document):
+    """Yields a note of each read with `pre` that would be allowed without, and is the only one of its out in its task."""
+    tasks = document.named_tasks
+    for task, read in document.reads:
+        writer = tasks[read.source.text]
+        others = [it for it in task.lines("read") if same_out(it, read)]
+        if read.is_delayed and len(others) == 1 and key_of(document, writer) < key_of(document, task):
+            out = f"{read.source.text}.{read.port.text}"
+            before = "the occurrence before" if read.delay == 1 else f"{read.delay} occurrences before"
+            text = f"`{task.name}` is ranked below `{writer.name}`, so it may read `{out}` without `pre`, which is its value "
+            text += f"of this time; `pre` reads that of {before}"
+            pre = [token for token in read.tokens if token.says("pre")]
+            yield warning_over(read.line, pre, "DelayedDownward", text, severity=Severity.NOTE)
+
+
+def same_out(read, other):
+    """Whether two reads are of the same out."""
+    return (read.source.text, read.port.text) == (other.source.text, other.port.text)
 
 
 def of_name(statement, name, text):
@@ -113,44 +145,3 @@ def decimal(value):
     """Returns a fraction with three digits after the point, rounded up."""
     thousandths = -(-value.numerator * 1000 // value.denominator)
     return f"{thousandths // 1000}.{thousandths % 1000:03}"
-
-
-def never_occurs(document, lines):
-    """Yields a warning of each task of which the program's table has no line."""
-    occurring = {line.split(",", 2)[1] for line in lines}
-    events = times_of_events(document)
-    for task in document.tasks:
-        if task.name not in occurring:
-            text = f"the task `{task.name}` never occurs: {why_never(document, task, events)}"
-            yield of_name(task.head, "NeverOccurs", text)
-
-
-def why_never(document, task, events):
-    """Returns why a task never occurs."""
-    source, end = task.head.source, document.until.number("until")
-    if source is None:
-        return f"its first time, {task.head.number('from', 0)}, isn't below `until {end}`"
-    if source.text in events:
-        return f"no row of the trace has `1` in the column `{source.text}`"
-    if document.trace_at is None:
-        return f"without a trace its event `{source.text}` never occurs"
-    return f"the trace has no column `{source.text}`"
-
-
-def ends_of_values(document, lines):
-    """Yields a warning of each out that has the least or the greatest value of 64 bits in the program's table."""
-    ends = {str(LEAST_VALUE), str(GREATEST_VALUE)}
-    found = {}
-    for line in lines:
-        if str(GREATEST_VALUE)[:-1] in line:
-            time, name, _, *values = line.split(",")
-            for place, value in enumerate(values):
-                if value in ends:
-                    found.setdefault((name, place), (time, value))
-    for task in document.tasks:
-        for place, out in enumerate(task.lines("out")):
-            if (task.name, place) in found:
-                time, value = found[task.name, place]
-                what = f"the out `{out.name.text}` of `{task.name}` is {value} at tick {time}"
-                text = f"{what}: results stop at the ends of 64 bits"
-                yield of_name(out, "EndOfValues", text)

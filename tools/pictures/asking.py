@@ -4,11 +4,10 @@ from dataclasses import dataclass
 from typing import List, Optional, Tuple
 
 from canonical import Document, read_document
+from ending import Status
 from pictures.record import Disagreement, Step, agreed_steps
 from pictures.service import Overrun, Service, serve
-from program import run_program
-
-OVERRUN = 3  # the exit status of a simulation that overruns
+from program import read_as_answer, run_program
 
 
 class Refused(Exception):
@@ -44,13 +43,15 @@ def answer(program, words, text):
 
 def canonical_text(program, text):
     """Returns the canonical text of a document that the program accepts as a whole, and the lines of its plan."""
-    plan = answer(program, ["plan"], text).decode().splitlines()
+    plan = answer(program, ["plan"], text).decode(errors="replace").splitlines()
     return answer(program, ["form"], text), plan
 
 
 def checked_document(program, text):
     """Returns a document that the program accepts as a whole."""
-    return read_document(canonical_text(program, text)[0])
+    form, _ = canonical_text(program, text)
+    with read_as_answer(program):
+        return read_document(form)
 
 
 def overrun_of(line):
@@ -62,11 +63,12 @@ def overrun_of(line):
 def record_of(program, text):
     """Returns the lines of the record, or the overrun that the program prints instead."""
     ran = run_program(program, ["sim", "--record"], text)
-    if ran.status == OVERRUN:
-        return [], overrun_of(ran.stdout.decode())
-    if ran.status != 0:
+    if ran.status == Status.OVERRUN:
+        with read_as_answer(program):
+            return [], overrun_of(ran.stdout.decode())
+    if ran.status != Status.DONE:
         raise Refused(ran)
-    return ran.stdout.decode().splitlines(), None
+    return ran.stdout.decode(errors="replace").splitlines(), None
 
 
 def cut_text(form, tick):
@@ -78,8 +80,8 @@ def cut_text(form, tick):
         first = len(lines) - 2 - len(document.trace.lines)
         if document.script is not None:
             first -= 1 + len(document.script)
-        late = [at for at, row in enumerate(document.trace.rows, first + 1) if row.time >= tick]
-        lines = [line for at, line in enumerate(lines) if at not in set(late)]
+        late = {at for at, row in enumerate(document.trace.rows, first + 1) if row.time >= tick}
+        lines = [line for at, line in enumerate(lines) if at not in late]
     return "\n".join(lines).encode()
 
 
@@ -94,9 +96,10 @@ def must_agree(computed, told):
 def simulated(program, text):
     """Returns the simulation of a document, in which the program's record and the computed order agree."""
     form, plan = canonical_text(program, text)
-    slots = tuple(int(line.split(",")[4]) for line in plan)
-    document = read_document(form)
-    lines, overrun = record_of(program, form)
+    with read_as_answer(program):
+        slots = tuple(int(line.split(",")[4]) for line in plan)
+        document = read_document(form)
+    lines, overrun = record_of(program, text)
     service = serve(document)
     must_agree(service.overrun, overrun)
     if overrun:

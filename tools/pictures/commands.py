@@ -1,27 +1,22 @@
 """The command lines of tools/timeline and tools/diagram."""
 
 import argparse
-import sys
+from functools import partial
 from pathlib import Path
 
+from command_line import Parser, read_bytes, write_text
+from ending import Ended, Status, say, status_of
 from pictures.asking import Refused, checked_document, simulated
 from pictures.diagram import draw_diagram
 from pictures.dot import dot_text
 from pictures.record import Disagreement
 from pictures.slot_rows import draw_slots
 from pictures.timeline import draw_timeline
-from program import CannotRun, add_program_option
-
-DIFFERS, USAGE, CANNOT_READ, CANNOT_WRITE, CANNOT_RUN = 1, 2, 4, 5, 70  # exit statuses
+from program import add_program_option
 
 
 class NoTask(Exception):
     """A word of a command names no task of the document."""
-
-
-def say(tool, text):
-    """Writes a line on standard error."""
-    print(f"{tool}: {text}", file=sys.stderr)
 
 
 def add_file_options(parser):
@@ -29,20 +24,6 @@ def add_file_options(parser):
     parser.add_argument("file", metavar="FILE", help="the document, or - for standard input")
     parser.add_argument("-o", dest="out", metavar="OUT", help="the file of the picture (standard output)")
     add_program_option(parser)
-
-
-def read_file(name):
-    """Returns the bytes of a document."""
-    return sys.stdin.buffer.read() if name == "-" else Path(name).read_bytes()
-
-
-def write_picture(text, name):
-    """Writes a picture to a file or to standard output."""
-    if name:
-        Path(name).write_bytes(text.encode())
-    else:
-        sys.stdout.buffer.write(text.encode())
-        sys.stdout.buffer.flush()
 
 
 def tick(word):
@@ -65,39 +46,30 @@ def shown_name(name):
     return "".join(letter if letter.isprintable() else "?" for letter in last)
 
 
-def run(tool, options, draw):
-    """Draws the picture of a document and returns the exit status; what goes wrong is said on standard error."""
-    try:
-        text = read_file(options.file)
-    except OSError as error:
-        say(tool, f"{options.file}: {error.strerror}")
-        return CANNOT_READ
-    name = shown_name(options.file)
+def run(options, draw):
+    """Draws the picture of a document and returns the exit status."""
+    text, name = read_bytes(options.file), shown_name(options.file)
     try:
         picture = draw(text, name)
     except Refused as refused:
-        say(tool, f"{name}: {refused}")
-        return refused.status
+        raise Ended(refused.status, f"{name}: {refused}") from refused
     except Disagreement as differing:
-        say(tool, f"{name}: the record and the computed order differ at {differing}")
-        return DIFFERS
+        text = f"{name}: the record and the computed order differ at {differing}"
+        raise Ended(Status.REFUSED, text) from differing
     except NoTask as error:
-        say(tool, f"{name}: {error}")
-        return USAGE
-    except CannotRun as error:
-        say(tool, error)
-        return CANNOT_RUN
-    try:
-        write_picture(picture, options.out)
-    except OSError as error:
-        say(tool, f"{options.out or 'standard output'}: {error.strerror}")
-        return CANNOT_WRITE
-    return 0
+        raise Ended(Status.WRONG_WORDS, f"{name}: {error}") from error
+    write_text([picture], options.out)
+    return Status.DONE
 
 
-def timeline(words):
+def timeline(words=None):
     """Draws a timeline, and returns the exit status."""
-    parser = argparse.ArgumentParser("timeline", description="Draws the simulation of a document as SVG.")
+    return status_of("timeline", partial(run_timeline, words))
+
+
+def run_timeline(words):
+    """Draws the timeline that the words ask for."""
+    parser = Parser("timeline", description="Draws the simulation of a document as SVG.")
     add_file_options(parser)
     parser.add_argument("--from", dest="start", type=tick, metavar="T", help="the first tick that is shown (0)")
     parser.add_argument("--to", dest="stop", type=tick, metavar="T", help="the last tick that is shown")
@@ -116,15 +88,20 @@ def timeline(words):
         else:
             picture, window = draw_timeline(found, name, asked, options.claims)
         if window.is_cut:
-            say("timeline", f"{name}: drawn are ticks {window.start} to {window.stop}; --from and --to choose others")
+            say(f"timeline: {name}: drawn are ticks {window.start} to {window.stop}; --from and --to choose others")
         return picture
 
-    return run("timeline", options, draw)
+    return run(options, draw)
 
 
-def diagram(words):
+def diagram(words=None):
     """Draws a diagram, and returns the exit status."""
-    parser = argparse.ArgumentParser("diagram", description="Draws the tasks of a document and their links as SVG.")
+    return status_of("diagram", partial(run_diagram, words))
+
+
+def run_diagram(words):
+    """Draws the diagram that the words ask for."""
+    parser = Parser("diagram", description="Draws the tasks of a document and their links as SVG.")
     add_file_options(parser)
     parser.add_argument("--dot", action="store_true", help="write text for Graphviz's dot in place of SVG")
     options = parser.parse_args(words)
@@ -133,4 +110,4 @@ def diagram(words):
         document = checked_document(options.program, text)
         return dot_text(document, name) if options.dot else draw_diagram(document, name)
 
-    return run("diagram", options, draw)
+    return run(options, draw)

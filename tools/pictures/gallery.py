@@ -2,13 +2,18 @@
 
 from dataclasses import dataclass
 from enum import Enum
+from functools import partial
 from pathlib import Path
 from typing import Optional, Tuple
 
-from pictures.asking import checked_document, simulated
+from command_line import Parser, write_text
+from ending import Ended, Status, status_of
+from pictures.asking import Refused, checked_document, simulated
 from pictures.diagram import draw_diagram
+from pictures.record import Disagreement
 from pictures.slot_rows import draw_slots
 from pictures.timeline import draw_timeline
+from program import add_program_option
 
 TOP = Path(__file__).resolve().parent.parent.parent
 FOLDER = TOP / "docs" / "pictures"
@@ -68,3 +73,23 @@ PICTURES = (
     Picture("docs/pictures/served.dbp", Kind.TIMELINE),
     Picture("docs/pictures/kept.dbp", Kind.SLOTS, (0, 12), "sensor"),
 )
+
+
+def main(words=None):
+    """Draws all pictures, prints the names of their files, and returns the exit status."""
+    return status_of("draw_pictures", partial(draw_all, words))
+
+
+def draw_all(words):
+    """Draws all pictures with the program that the words name."""
+    parser = Parser("draw_pictures", description="Draws the pictures of README.md and docs/ into docs/pictures, each anew.")
+    add_program_option(parser)
+    program = parser.parse_args(words).program
+    for picture in PICTURES:
+        try:
+            drawn = picture.draw(program)
+        except (Disagreement, Refused) as error:
+            raise Ended(Status.REFUSED, f"{picture.document}: {error}") from error
+        write_text([drawn.decode()], str(FOLDER / picture.file))
+        write_text([f"{picture.file}\n"])
+    return Status.DONE

@@ -13,6 +13,7 @@ class Mark(Enum):
     PREEMPTED = "preempted"
     WAITING = "waiting"
     END = "end"
+    LATE = "late"
     RELEASE = "release"
     DUE = "due"
     DEADLINE = "deadline"
@@ -68,7 +69,7 @@ def sample_of(mark):
         return lambda canvas, x, y: draw_read(canvas, x + 4, y, is_first=mark is Mark.FIRST), 8
     if mark is Mark.STEP:
         return lambda canvas, x, y: canvas.text(x, y + 4, "[3]", "label"), 20
-    if mark is Mark.END:
+    if mark in (Mark.END, Mark.LATE):
         return lambda canvas, x, y: canvas.line(Layer.MARKS, x + 2, y - 9, x + 2, y + 9, mark.value), 4
     return bar_sample(mark, 8 if mark in (Mark.PREEMPTED, Mark.WAITING) else 14), 26
 
@@ -78,6 +79,7 @@ WORDS = {
     Mark.PREEMPTED: "preempted",
     Mark.WAITING: "released, not served yet",
     Mark.END: "end",
+    Mark.LATE: "end after the deadline",
     Mark.RELEASE: "release",
     Mark.DUE: "next release",
     Mark.DEADLINE: "deadline",

@@ -53,6 +53,12 @@ class End:
     instance: Instance
 
 
+def is_late(document, instance, end):
+    """Whether an end is after the deadline of its instance; under `fp` too, if its task has a number for it."""
+    length = document.tasks[instance.task].deadline
+    return length is not None and end > instance.release + length
+
+
 @dataclass(frozen=True)
 class Span:
     """Ticks in a row in which one instance is served, the last one not among them."""

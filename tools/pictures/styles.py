@@ -33,6 +33,8 @@ STYLES = [
     ".overrun{stroke:#a01010;stroke-width:2;stroke-dasharray:7 3;fill:none}",
 ]
 
+LATE_STYLES = [".late{stroke:#d01010;stroke-width:4;fill:none}"]  # of pictures with a late end
+
 BOX_STYLES = [
     ".box{fill:#ffffff;stroke:#2f6299;stroke-width:1.5}",
     ".head{fill:#dce8f4;stroke:#2f6299;stroke-width:1.5}",

@@ -3,8 +3,8 @@
 from pictures.courses import claims_of, courses_of
 from pictures.legend import draw_legend, legend_height
 from pictures.marks import Mark, draw_flag, draw_read, entries_of
-from pictures.service import rank_order
-from pictures.styles import DEFINITIONS, STYLES
+from pictures.service import is_late, rank_order
+from pictures.styles import DEFINITIONS, LATE_STYLES, STYLES
 from pictures.svg import Canvas, Layer, path, text_width, tip
 from pictures.window import Scale, choose_window, plot_width, tick_step
 from pictures.words import about_policy, about_task
@@ -114,9 +114,17 @@ class Timeline:
                 middle = (self.scale.x(start) + self.scale.x(stop)) / 2
                 self.canvas.text(middle, y + 14.5, str(course.instance.number), "number")
         if course.end is not None and self.window.shows(course.end, course.end):
-            self.used.add(Mark.END)
-            x = self.scale.x(course.end)
-            self.canvas.line(Layer.MARKS, x, y - 3, x, y + BAR + 3, "end", f"{title} ends at {course.end}")
+            self.draw_end(course, y, f"{title} ends at {course.end}")
+
+    def draw_end(self, course, y, about):
+        """Draws the end of an instance, in red if that is after its deadline."""
+        it, mark = course.instance, Mark.END
+        if is_late(self.document, it, course.end):
+            mark = Mark.LATE
+            about += f", after its deadline {it.release + self.document.tasks[it.task].deadline}"
+        self.used.add(mark)
+        x = self.scale.x(course.end)
+        self.canvas.line(Layer.MARKS, x, y - 3, x, y + BAR + 3, mark.value, about)
 
     def stretch(self, start, stop, y, height, mark, about):
         """Draws a bar over the shown part of some ticks, and returns its width."""
@@ -226,7 +234,8 @@ class Timeline:
         entries = entries_of(self.used)
         draw_legend(self.canvas, entries, MARGIN, self.bottom + 10, width - 2 * MARGIN)
         height = self.bottom + 10 + legend_height(entries, width - 2 * MARGIN) + MARGIN
-        return self.canvas.picture(width, height, f"{title}, {about}", STYLES, DEFINITIONS)
+        styles = [*STYLES, *(LATE_STYLES if Mark.LATE in self.used else [])]
+        return self.canvas.picture(width, height, f"{title}, {about}", styles, DEFINITIONS)
 
 
 def draw_timeline(simulated, name, window_asked, task_name=None):

@@ -1,16 +1,16 @@
 """The command `waves`."""
 
 import argparse
+import os
 import re
-import sys
-from contextlib import contextmanager
-from enum import IntEnum
-from pathlib import Path
+from functools import partial
 
 from canonical import read_document
-from program import CannotRun, add_program_option, run_program
+from command_line import Parser, read_bytes, write_text
+from ending import Ended, Status, reason_of, say, status_of
+from program import add_program_option, read_as_answer, run_program
 from waveforms.signals import occurrences_of, waves_of
-from waveforms.tables import rows_of_task, wide_rows, write_rows
+from waveforms.tables import rows_of_task, table_text, wide_rows
 from waveforms.vcd import vcd_lines
 
 DESCRIPTION = """Writes the lines of mean, sim or run as signals: a VCD file for waveform viewers, or tables (CSV).
@@ -18,23 +18,12 @@ The signals are TASK.OUT, TASK.done (the number of the task's last instance) and
 If the program writes no lines, its line stands on standard error, and the status is the program's."""
 
 
-class Status(IntEnum):
-    """The statuses that the program gives for the same."""
+class NoLines(Exception):
+    """The program writes no lines for a document: what it gave."""
 
-    WRITTEN = 0
-    WRONG_WORDS = 2
-    READ_FAILED = 4
-    WRITE_FAILED = 5
-    CANNOT_RUN = 70
-    INTERRUPTED = 130
-
-
-class Ended(Exception):
-    """The command can't go on: the status that it ends with, and what it says."""
-
-    def __init__(self, status, text):
-        super().__init__(text)
-        self.status = status
+    def __init__(self, ran):
+        super().__init__((ran.stdout or ran.stderr).decode(errors="replace").rstrip("\n"))
+        self.status = ran.status
 
 
 def tick_length(text):
@@ -47,7 +36,7 @@ def tick_length(text):
 
 def options_of(words):
     """Returns the options that the words give."""
-    parser = argparse.ArgumentParser(prog="waves", description=DESCRIPTION)
+    parser = Parser(prog="waves", description=DESCRIPTION)
     parser.add_argument("file", metavar="FILE", help="a document; - is standard input")
     parser.add_argument("--command", choices=("mean", "sim", "run"), default="mean", help="what runs it (mean)")
     parser.add_argument("--format", choices=("vcd", "csv"), default="vcd", help="what is written (vcd)")
@@ -66,83 +55,57 @@ def options_of(words):
     return options
 
 
-def read_file(name):
-    """Returns the bytes of a file, or of standard input."""
-    try:
-        return sys.stdin.buffer.read() if name == "-" else Path(name).read_bytes()
-    except OSError as error:
-        raise Ended(Status.READ_FAILED, f"waves: {name}: {error.strerror}") from error
-
-
-@contextmanager
-def sink_to(name):
-    """Lends a text sink to a file, or to standard output."""
-    place = sys.stdout.fileno() if name is None else name
-    try:
-        with open(place, "w", encoding="ascii", newline="", closefd=name is not None) as sink:
-            yield sink
-    except OSError as error:
-        raise Ended(Status.WRITE_FAILED, f"waves: {name or 'standard output'}: {error.strerror}") from error
-
-
 def text_of(program, command, document):
     """Returns what the program writes for a document, if it ends with 0."""
     ran = run_program(program, [command], document)
     if ran.status != 0:
-        raise Ended(ran.status, (ran.stdout or ran.stderr).decode(errors="replace").rstrip("\n"))
+        raise NoLines(ran)
     return ran.stdout
-
-
-def write_table(rows, out):
-    """Writes a table to a file, or to standard output."""
-    with sink_to(out) as sink:
-        write_rows(rows, sink)
 
 
 def write_task_tables(tasks, occurrences, folder):
     """Writes the table of each task into a folder, which is made if it isn't there."""
     try:
-        folder.mkdir(parents=True, exist_ok=True)
+        os.makedirs(folder, exist_ok=True)
     except OSError as error:
-        raise Ended(Status.WRITE_FAILED, f"waves: {folder}: {error.strerror}") from error
+        raise Ended(Status.WRITE_FAILED, f"{folder}: {reason_of(error)}") from error
     for task in tasks:
-        write_table(rows_of_task(task, occurrences), folder / f"{task.name}.csv")
+        write_text([table_text(rows_of_task(task, occurrences))], os.path.join(folder, f"{task.name}.csv"))
 
 
 def task_named(document, name):
     """Returns the task of this name, if the document has it."""
     if name not in [task.name for task in document.tasks]:
-        raise Ended(Status.WRONG_WORDS, f"waves: the document has no task {name}")
+        raise Ended(Status.WRONG_WORDS, f"the document has no task {name}")
     return document.task(name)
 
 
 def write_signals(options):
     """Runs the program on the document, and writes what it gives."""
-    source = read_file(options.file)
-    occurrences = occurrences_of(text_of(options.program, options.command, source))
-    document = read_document(text_of(options.program, "form", source))
+    source = read_bytes(options.file)
+    lines, form = (text_of(options.program, command, source) for command in (options.command, "form"))
+    with read_as_answer(options.program):
+        occurrences, document = occurrences_of(lines), read_document(form)
     if options.task is not None:
-        write_table(rows_of_task(task_named(document, options.task), occurrences), options.out)
+        write_text([table_text(rows_of_task(task_named(document, options.task), occurrences))], options.out)
     elif options.wide:
-        write_table(wide_rows(waves_of(document, occurrences)), options.out)
+        write_text([table_text(wide_rows(waves_of(document, occurrences)))], options.out)
     elif options.format == "csv":
-        write_task_tables(document.tasks, occurrences, Path(options.out))
+        write_task_tables(document.tasks, occurrences, options.out)
     else:
-        with sink_to(options.out) as sink:
-            sink.writelines(vcd_lines(waves_of(document, occurrences), options.command, options.tick))
+        write_text(vcd_lines(waves_of(document, occurrences), options.command, options.tick), options.out)
 
 
 def main(words=None):
     """Serves a call of the command with these words, and returns its status."""
-    options = options_of(words)
+    return status_of("waves", partial(run, words))
+
+
+def run(words):
+    """Writes what the words ask for; if the program gives no lines, what it says stands on standard error."""
     try:
-        write_signals(options)
-    except Ended as ended:
-        print(ended, file=sys.stderr)
-        return ended.status
-    except CannotRun as error:
-        print(f"waves: {error}", file=sys.stderr)
-        return Status.CANNOT_RUN
-    except KeyboardInterrupt:
-        return Status.INTERRUPTED
-    return Status.WRITTEN
+        write_signals(options_of(words))
+    except NoLines as refused:
+        say(refused)
+        return refused.status
+    return Status.DONE

@@ -1,6 +1,7 @@
 """Waves as tables of comma-separated values, each with a header."""
 
 import csv
+import io
 
 from waveforms.signals import Kind, by_tick, task_signals
 
@@ -33,3 +34,10 @@ def wide_rows(waves):
 def write_rows(rows, sink):
     """Writes rows, each ended by a line feed."""
     csv.writer(sink, lineterminator="\n").writerows(rows)
+
+
+def table_text(rows):
+    """Returns rows as a text."""
+    sink = io.StringIO()
+    write_rows(rows, sink)
+    return sink.getvalue()
