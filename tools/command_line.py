@@ -12,7 +12,7 @@ from itertools import count
 
 from ending import ERRORS, OUTPUT, Ended, Status, kept_in, reason_of, say, unfinished_files, write_all
 
-MOST_READ = 1_048_577  # bytes: one more than a document may have, so that the program refuses a longer one
+MOST_BYTES = 1_048_576  # that a document may have; one more is read, so that the program refuses a longer one
 STANDARD_INPUT = "-"
 DEVICES = ("/dev/", "/proc/")  # files that are written in place
 
@@ -37,8 +37,8 @@ def bytes_of(name):
     is_file = name != STANDARD_INPUT
     found = bytearray()
     with open(name if is_file else 0, "rb", buffering=0, closefd=is_file) as source:
-        while len(found) < MOST_READ:
-            part = source.read(MOST_READ - len(found))
+        while len(found) <= MOST_BYTES:
+            part = source.read(MOST_BYTES + 1 - len(found))
             if not part:
                 break
             found += part

@@ -4,6 +4,7 @@ A script of this folder calls `serve` with the module of its command. From then 
 status 130 at once: what is half written is removed, and the programs that run are ended.
 """
 
+import gc
 import os
 import signal
 import sys
@@ -108,8 +109,14 @@ def status_of(tool, command):
         return Status.OUT_OF_MEMORY
 
 
+def status_of_all(statuses):
+    """Returns the status of a call for several files: the first that is neither 0 nor 1, else the greatest."""
+    return next((it for it in statuses if it > Status.REFUSED), max(statuses))
+
+
 def serve(module, name="main"):
     """Ends the process with the status of a command, which is the function of this name of a module."""
+    gc.disable()  # nothing that grows is held by a cycle, and looking for cycles takes a third of a long run
     catch_stops()
     fill_closed_streams()
     tool = os.path.basename(sys.argv[0])

@@ -60,6 +60,8 @@ LATE = {
     "examples/sim/mended.dbp": (0, b"ends at"),
 }
 
+MOST_ROWS = 50_000
+
 RULES = "".join([*styles.STYLES, *styles.BOX_STYLES])
 SIZES = {name: int(size) for name, size in re.findall(r"\.([a-z-]+)\{font-size:(\d+)px", RULES)}
 ANCHORS = dict(re.findall(r"\.([a-z-]+)\{[^}]*text-anchor:(\w+)", RULES))
@@ -197,6 +199,26 @@ def documents():
     return sorted([*(TOP / "examples").rglob("*.dbp"), *(TOP / "cases" / "sim").rglob("*.dbp")])
 
 
+def long_text(first):
+    """Returns a document with 50,000 rows, of which two are only one tick apart from the one before: the task overruns."""
+    times = [2 * row - (row == first or row == MOST_ROWS - 1) for row in range(MOST_ROWS)]
+    rows = "".join(f"{time},1\n" for time in times)
+    head = f"dbp 1\npolicy fp\nuntil {2 * MOST_ROWS}\nevent go\ntask a on go prio 1 cost 2\n  out y = 0 then 1\n"
+    return f"{head}trace\ntime,go\n{rows}done\n".encode()
+
+
+def long_fault(program, first):
+    """Returns how the timeline of a long document that overruns differs. With work that is no multiple of its length it
+    takes minutes."""
+    overrun = f"overrun: a {first + 1} at {2 * first - 1}".encode()
+    words = [sys.executable, "tools/timeline", "--program", str(program), "-"]
+    try:
+        ran = subprocess.run(words, cwd=TOP, input=long_text(first), capture_output=True, timeout=30, check=False)
+    except subprocess.TimeoutExpired:
+        return "it hadn't ended after 30 seconds"
+    return None if ran.returncode == 0 and overrun in ran.stdout else f"the status is {ran.returncode}: {ran.stderr[-200:]!r}"
+
+
 def trials(program):
     """Yields the trials: a name, and a call that returns what differs, or nothing."""
     for file, words in EXACT.items():
@@ -208,6 +230,8 @@ def trials(program):
     for name, wanted in TAMPERED.items():
         yield f"a record with {name}", lambda it=wanted: tampered_fault(program, *it)
     yield "status of a record that differs", lambda: refused_record_fault(program)
+    for first in (1, MOST_ROWS - 1):
+        yield f"50,000 rows that overrun at row {first}", lambda it=first: long_fault(program, it)
     for picture in gallery.PICTURES:
         yield f"docs/pictures/{picture.file}", lambda it=picture: picture_fault(program, it)
     for file in documents():

@@ -22,7 +22,8 @@ from canonical import read_document  # noqa: E402
 from program import run_program  # noqa: E402
 from waveforms.signals import occurrences_of, waves_of  # noqa: E402
 from waveforms.tables import rows_of_task, wide_rows, write_rows  # noqa: E402
-from waveforms.vcd import vcd_lines  # noqa: E402
+from waveforms.vcd import ONE_NANOSECOND, vcd_lines  # noqa: E402
+from waveforms.viewer import save_lines  # noqa: E402
 
 # The documents whose lines are read again, if `mean` accepts them.
 FOLDERS = ("examples", "cases/mean/documents", "cases/sim/documents", "cases/run/documents", ".ci/tried/waves")
@@ -31,11 +32,14 @@ FOLDERS = ("examples", "cases/mean/documents", "cases/sim/documents", "cases/run
 WRITTEN = (
     ([], "examples/speed_control.dbp", "speed_control.vcd"),
     (["--command", "sim", "--tick", "10 us"], "examples/preempted.dbp", "preempted.vcd"),
+    (["--tick", "250us"], "examples/preempted.dbp", "preempted.250us.vcd"),
+    (["--format", "csv"], "examples/preempted.dbp", "preempted.lines.csv"),
     (["--command", "run", "--format", "csv", "--task", "filter"], "examples/speed_control.dbp", "filter.csv"),
     (["--format", "csv", "--wide"], "examples/speed_control.dbp", "speed_control.csv"),
     ([], ".ci/tried/waves/edges.dbp", "edges.vcd"),
     (["--format", "csv", "--wide"], ".ci/tried/waves/edges.dbp", "edges.csv"),
     ([], ".ci/tried/waves/nothing.dbp", "nothing.vcd"),
+    (["--format", "csv", "--task", "a"], ".ci/tried/waves/named.dbp", "named.csv"),
     (["--format", "csv", "--wide"], ".ci/tried/waves/nothing.dbp", "nothing.csv"),
 )
 
@@ -47,9 +51,12 @@ ENDED = (
     (["-o", "examples/none/a.vcd", "examples/two_rates.dbp"], 5, "waves: examples/none/a.vcd: No such file"),
     (["--format", "csv", "-o", "README.md", "examples/two_rates.dbp"], 5, "waves: README.md: File exists\n"),
     (["--format", "csv", "--task", "c", "examples/two_rates.dbp"], 2, "waves: the document has no task c\n"),
-    (["--format", "csv", "examples/two_rates.dbp"], 2, "usage: waves "),
     (["--wide", "examples/two_rates.dbp"], 2, "usage: waves "),
-    (["--tick", "2ns", "examples/two_rates.dbp"], 2, "usage: waves "),
+    (["--tick", "2", "examples/two_rates.dbp"], 2, "usage: waves "),
+    (["--tick", "0ms", "examples/two_rates.dbp"], 2, "usage: waves "),
+    (["--tick", "0.1fs", "examples/two_rates.dbp"], 2, "usage: waves "),
+    (["--tick", "-5ms", "examples/two_rates.dbp"], 2, "usage: waves "),
+    (["--tick", "100000000001s", "examples/two_rates.dbp"], 2, "usage: waves "),
     ([], 2, "usage: waves "),
 )
 
@@ -113,6 +120,13 @@ def number_of(digits, kind, bits):
     return value - (1 << bits) if kind == "integer" and value >> (bits - 1) else value
 
 
+def instance_row(names, scope, task):
+    """Returns the name of the row of a task's instances, among the names of a scope: with `_` after it if an out is
+    named so."""
+    own = f"{scope}{task}_instance"
+    return f"{own}_" if f"{own}_" in names else own
+
+
 def lines_of_dump(dump):
     """Returns the lines of the tasks that a VCD file has: one for each change of a number of instances."""
     values, lines = dict(dump.first), []
@@ -121,14 +135,14 @@ def lines_of_dump(dump):
         now = {name: value for at, name, value in dump.changes if at == tick}
         values.update(now)
         for task in order:
-            if f"{task}.done" in now:
+            if instance_row(dump.first, f"{task}.", task) in now:
                 lines.append(line_of(tick, task, values))
     return lines
 
 
 def line_of(tick, task, values):
     """Returns the line of a task that `mean` prints, of the values of all signals."""
-    own = [value for name, value in values.items() if name.startswith(f"{task}.")]
+    own = [value for name, value in values.items() if re.match(rf"{task}(\.|_instance_?$)", name)]
     return ",".join(map(str, (tick, task, *own)))
 
 
@@ -180,7 +194,7 @@ def ticks_at_one(dump, name):
 
 def fault_of_dump(waves, lines, outside, until):
     """Returns what a VCD file says differently than the program and the document."""
-    dump = read_dump("".join(vcd_lines(waves, "mean", "1 ns")))
+    dump = read_dump("".join(vcd_lines(waves, "mean")))
     if len(dump.names) != len(dump.kinds) or not re.fullmatch("[!-~]+", "".join(dump.names) or "!"):
         return f"the codes of the VCD file are {list(dump.names)}"
     if lines_of_dump(dump) != lines:
@@ -198,6 +212,16 @@ def fault_of_dump(waves, lines, outside, until):
     return None
 
 
+def fault_of_save(waves):
+    """Returns the rows of a save file, if one isn't in its VCD file, or it has neither all nor 48 of them at most."""
+    dump = read_dump("".join(vcd_lines(waves, "mean")))
+    bits = {name: f"{name}[63:0]" if kind == "integer" else name for name, (kind, _) in dump.kinds.items()}
+    rows = [line.strip() for line in save_lines(waves, "a.vcd", ONE_NANOSECOND) if line[0] not in "@*-["]
+    is_all = sorted(rows) == sorted(bits.values())
+    is_part = len(bits) > 48 >= len(rows) > 0 and set(rows) <= set(bits.values())
+    return None if is_all or is_part else f"the save file has {rows}"
+
+
 def read_table(rows):
     """Returns the rows of a table that is written and read again, each a dictionary by column."""
     sink = io.StringIO()
@@ -212,7 +236,8 @@ def fault_of_task_tables(document, occurrences, lines):
         for row in read_table(rows_of_task(task, occurrences)):
             tick, *values = row.values()
             found.append((int(tick), place, ",".join((tick, task.name, *values))))
-            if list(row) != ["tick", f"{task.name}.done", *(f"{task.name}.{out.name}" for out in task.outs)]:
+            own = instance_row(row, "", task.name)
+            if list(row) != ["tick", own, *(f"{task.name}.{out.name}" for out in task.outs)]:
                 return f"the columns are {list(row)}"
     again = [line for _, _, line in sorted(found)]
     return None if again == lines else f"the lines of the tables are {again[:9]}"
@@ -222,10 +247,11 @@ def fault_of_wide_table(waves, lines, outside):
     """Returns what the wide table says differently than the program and the document."""
     last, found = {signal.full_name: str(signal.first) for signal in waves.signals}, []
     tasks = dict.fromkeys(signal.scope for signal in waves.signals if signal.scope != "trace")
+    rows = {task: instance_row(last, "", task) for task in tasks}
     samples = {name: outside.first[name] for name in outside.samples}
     for row in read_table(wide_rows(waves)):
         tick = int(row.pop("tick"))
-        found += [line_of(tick, task, row) for task in tasks if row[f"{task}.done"] != last[f"{task}.done"]]
+        found += [line_of(tick, task, row) for task in tasks if row[rows[task]] != last[rows[task]]]
         samples.update({name: rows[tick] for name, rows in outside.samples.items() if tick in rows})
         wanted = {**samples, **{name: int(tick in times) for name, times in outside.times.items()}}
         if {name: row[name] for name in wanted} != {name: str(value) for name, value in wanted.items()}:
@@ -242,6 +268,7 @@ def fault_of_document(program, text):
     waves = waves_of(diagram, occurrences)
     return (
         fault_of_dump(waves, lines, outside, diagram.until)
+        or fault_of_save(waves)
         or fault_of_task_tables(diagram, occurrences, lines)
         or fault_of_wide_table(waves, lines, outside)
     )
@@ -280,6 +307,23 @@ def fault_of_folder(program):
         return None if is_wanted else "filter.csv differs from that of --task filter"
 
 
+def fault_of_saved(program):
+    """Returns what differs in the save file beside a VCD file, or nothing: a user's own one stays."""
+    with tempfile.TemporaryDirectory() as place:
+        out, saved = Path(place) / "a name.vcd", Path(place) / "a name.gtkw"
+        command = ["--tick", "20us", "-o", str(out), "examples/speed_control.dbp"]
+        for before, is_kept in ((None, False), ("[*] GTKWave Analyzer\n", True), ("[*] written by tools/waves\n", False)):
+            if before is not None:
+                saved.write_text(before)
+            ran = call(program, command)
+            if ran.returncode or ran.stdout or ran.stderr:
+                return f"the status is {ran.returncode}; it said {ran.stderr.decode()[:300]!r}"
+            found = saved.read_text()
+            if found != (before if is_kept else (WANTED / "speed_control.gtkw").read_text()):
+                return f"the save file is {found[:600]!r} after {before!r}"
+    return None
+
+
 def most_signals():
     """Returns a document with as many signals as there can be."""
     heads = [f"input i{number} = {number}\nevent e{number}\n" for number in range(16)]
@@ -310,3 +354,4 @@ def trials(program):
     missing = ["--program", "examples/none", "examples/two_rates.dbp"]
     yield "70: no program", partial(fault_of_ended, program, missing, 70, "waves: examples/none: No such file")
     yield "a table of each task", partial(fault_of_folder, program)
+    yield "a save file", partial(fault_of_saved, program)

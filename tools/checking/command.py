@@ -8,7 +8,7 @@ from checking.printed import as_json, objects, plain
 from checking.text import lines_of
 from checking.verdicts import Command, Judged
 from command_line import Parser, bytes_of, write_errors, write_text
-from ending import Ended, Status, reason_of
+from ending import Ended, Status, reason_of, status_of_all
 from program import CannotRun, add_program_option, run_program
 
 ABOUT = """Checks documents of dbp: says of each error where it is and what stands there, and warns of what is
@@ -47,12 +47,6 @@ def judged(program, file, command):
     return verdict.status, lines_of(text) if verdict.status in (0, 1) else [], verdict.messages
 
 
-def status_of(statuses):
-    """Returns the exit status of several files: that of another end than a verdict first, then 1, then 0."""
-    others = [it for it in statuses if it not in (0, 1)]
-    return others[0] if others else max(statuses)
-
-
 def main(words=None):
     """Checks the files that the words name, and returns the exit status."""
     given = parser().parse_args(words)
@@ -67,4 +61,4 @@ def main(words=None):
             write_errors(plain(file, lines, kept))
     if given.json:
         write_text([as_json(found)])
-    return status_of(statuses)
+    return status_of_all(statuses)

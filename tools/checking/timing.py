@@ -30,8 +30,9 @@ def late_warnings(run, text, document):
         return
     form = run(["form"], text)
     with read_as_answer("the program"):
-        late = first_late(read_document(form.stdout))
-    if late and is_recorded(run, form.stdout, late):
+        canonical = read_document(form.stdout)
+        late = first_late(canonical)
+    if late and is_recorded(run, cut_text(form.stdout, canonical, late.time)):
         head = document.tasks[late.instance.task].head
         deadline, release = head.number("deadline"), late.instance.release
         what = f"instance {late.instance.number} of the task `{head.name.text}`, released at tick {release},"
@@ -46,9 +47,8 @@ def first_late(document):
     return next(late, None)
 
 
-def is_recorded(run, form, late):
-    """Whether the program's record up to an end is what the computed order gives."""
-    cut = cut_text(form, late.time)
+def is_recorded(run, cut):
+    """Whether the program's record of a text that is cut at an end is what the computed order gives."""
     document = read_document(cut)
     try:
         agreed_steps(document, serve(document), run(["sim", "--record"], cut).stdout.decode().splitlines())

@@ -1,13 +1,13 @@
 """What the pictures ask the program for: a checked document, and the record of its simulation."""
 
 from dataclasses import dataclass
-from typing import List, Optional, Tuple
+from typing import Dict, List, Optional, Tuple
 
 from canonical import Document, read_document
 from ending import Status
 from pictures.record import Disagreement, Step, agreed_steps
 from pictures.service import Overrun, Service, serve
-from program import read_as_answer, run_program
+from program import read_as_answer, run_program, table_lines
 
 
 class Refused(Exception):
@@ -23,7 +23,8 @@ class Refused(Exception):
 class Simulated:
     """A document with its simulation: the service, the steps to be drawn, and the overrun if there is one.
 
-    If it overruns, service and steps are those of the releases before the overrun. `slots` has how many each task has.
+    If it overruns, service and steps are those of the releases before the overrun. `slots` has how many each task has,
+    `table` the outs of each instance, by its task and its number as `dbp mean` prints them.
     """
 
     document: Document
@@ -31,6 +32,15 @@ class Simulated:
     service: Service
     steps: List[Step]
     overrun: Optional[Overrun]
+    table: Dict[Tuple[str, str], str]
+
+    def value(self, task, number, port):
+        """Returns the value of an out of a task's instance; of number 0 it is the first value."""
+        outs = self.document.tasks[task].outs
+        at = next(at for at, out in enumerate(outs) if out.name == port)
+        if number == 0:
+            return outs[at].first
+        return int(self.table[self.document.tasks[task].name, str(number)].split(",")[at])
 
 
 def answer(program, words, text):
@@ -54,6 +64,13 @@ def checked_document(program, text):
         return read_document(form)
 
 
+def table_of(program, text):
+    """Returns the outs of each instance by its task and its number, as texts."""
+    cut = (line.split(",", 3) for line in table_lines(run_program(program, ["mean"], text)))
+    with read_as_answer(program):
+        return {(task, number): outs for _, task, number, outs in cut}
+
+
 def overrun_of(line):
     """Returns the overrun that a line of `dbp sim` tells."""
     _, task, number, _, time = line.split()
@@ -71,9 +88,8 @@ def record_of(program, text):
     return ran.stdout.decode(errors="replace").splitlines(), None
 
 
-def cut_text(form, tick):
-    """Returns a canonical text without the releases from a tick on."""
-    document = read_document(form)
+def cut_text(form, document, tick):
+    """Returns the canonical text of a document without the releases from a tick on."""
     lines = form.decode().split("\n")
     lines[2] = f"until {tick}"
     if document.trace:
@@ -103,8 +119,6 @@ def simulated(program, text):
     service = serve(document)
     must_agree(service.overrun, overrun)
     if overrun:
-        form = cut_text(form, overrun.time)
-        document = read_document(form)
-        service = serve(document)
-        lines, _ = record_of(program, form)
-    return Simulated(document, slots, service, agreed_steps(document, service, lines), overrun)
+        lines, _ = record_of(program, cut_text(form, document, overrun.time))
+    steps = agreed_steps(document, service, lines)
+    return Simulated(document, slots, service, steps, overrun, table_of(program, text))

@@ -1,6 +1,7 @@
 """The command lines of tools/timeline and tools/diagram."""
 
 import argparse
+from dataclasses import replace
 from functools import partial
 from pathlib import Path
 
@@ -10,6 +11,7 @@ from pictures.asking import Refused, checked_document, simulated
 from pictures.diagram import draw_diagram
 from pictures.dot import dot_text
 from pictures.record import Disagreement
+from pictures.service import rank_order
 from pictures.slot_rows import draw_slots
 from pictures.timeline import draw_timeline
 from program import add_program_option
@@ -23,7 +25,13 @@ def add_file_options(parser):
     """Adds the document and the picture to the words of a command."""
     parser.add_argument("file", metavar="FILE", help="the document, or - for standard input")
     parser.add_argument("-o", dest="out", metavar="OUT", help="the file of the picture (standard output)")
+    parser.add_argument("--tasks", type=names, metavar="TASK,..", help="draw these tasks alone")
     add_program_option(parser)
+
+
+def names(word):
+    """Returns the names that a word of a command lists."""
+    return word.split(",")
 
 
 def tick(word):
@@ -33,11 +41,19 @@ def tick(word):
     return int(word)
 
 
-def must_name_tasks(document, names):
+def must_name_tasks(document, asked):
     """Refuses a name that isn't one of the document's tasks."""
-    for name in names:
+    for name in asked:
         if name is not None and name not in {task.name for task in document.tasks}:
             raise NoTask(f"it has no task {name}")
+
+
+def places_of(document, asked):
+    """Returns the places of the tasks that are asked for in the order of ranks, or nothing if all are."""
+    if asked is None:
+        return None
+    must_name_tasks(document, asked)
+    return [at for at in rank_order(document) if document.tasks[at].name in asked]
 
 
 def shown_name(name):
@@ -79,6 +95,8 @@ def run_timeline(words):
     asked = (options.start, options.stop)
     if options.stop is not None and (options.start or 0) >= options.stop:
         parser.error("--to must be after --from")
+    if options.slots and options.tasks:
+        parser.error("--slots shows a task and its readers, and --tasks others")
 
     def draw(text, name):
         found = simulated(options.program, text)
@@ -86,7 +104,8 @@ def run_timeline(words):
         if options.slots:
             picture, window = draw_slots(found, name, asked, options.slots)
         else:
-            picture, window = draw_timeline(found, name, asked, options.claims)
+            places = places_of(found.document, options.tasks)
+            picture, window = draw_timeline(found, name, asked, options.claims, places)
         if window.is_cut:
             say(f"timeline: {name}: drawn are ticks {window.start} to {window.stop}; --from and --to choose others")
         return picture
@@ -108,6 +127,9 @@ def run_diagram(words):
 
     def draw(text, name):
         document = checked_document(options.program, text)
+        places = places_of(document, options.tasks)
+        if places is not None:
+            document = replace(document, tasks=tuple(document.tasks[at] for at in sorted(places)))
         return dot_text(document, name) if options.dot else draw_diagram(document, name)
 
     return run(options, draw)

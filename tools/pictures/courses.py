@@ -1,7 +1,7 @@
 """The course of each instance of a simulation: when it was released, served, read, and ended."""
 
 from dataclasses import dataclass, field
-from typing import List, Optional, Tuple
+from typing import Dict, List, Optional, Tuple
 
 from pictures.record import StepKind, link_of
 from pictures.service import Begin, End, Instance, Reading, Release
@@ -40,13 +40,13 @@ class Course:
 
 @dataclass(frozen=True)
 class Claim:
-    """A claim with the reads over its link: the writer's row, 0 for its first values, and when each read is made."""
+    """A claim: the writer's row, 0 for its first values, and by the time the places of the reads that are made over it."""
 
     writer: int
     row: int
     delay: int
     reader: Course
-    times: Tuple[int, ...]
+    reads: Dict[int, Tuple[int, ...]]
 
 
 def started_courses(releases, overrun, document):
@@ -90,13 +90,16 @@ def courses_of(simulated):
 
 
 def claims_of(simulated, courses):
-    """Returns the claims of the record, each with the times of the reads that were made over it."""
+    """Returns the claims of the record, each with the reads that were made over it."""
     document = simulated.document
-    reads = [[link_of(document, at, read) for read in task.reads] for at, task in enumerate(document.tasks)]
+    links = [[link_of(document, at, read) for read in task.reads] for at, task in enumerate(document.tasks)]
     found = []
     for step in simulated.steps:
         if step.kind is StepKind.CLAIM:
             reader = courses[step.task, step.instance]
-            times = dict.fromkeys(time for time, read in reader.reads if reads[step.task][read] == step.link)
-            found.append(Claim(step.link.writer, step.order.row, step.link.delay, reader, tuple(times)))
+            made = {}
+            for time, read in reader.reads:
+                if links[step.task][read] == step.link:
+                    made[time] = (*made.get(time, ()), read)
+            found.append(Claim(step.link.writer, step.order.row, step.link.delay, reader, made))
     return found

@@ -17,10 +17,17 @@ SIZE = 11
 PAD = 12
 
 
-def read_words(read):
-    """Returns how a read is named in its box: with its delay, and with its tick of service if that isn't the first."""
+def read_words(document, read):
+    """Returns how a read is named in its box: with its delay, with its tick of service if that isn't the first, and with
+    what it reads if that task isn't drawn."""
     delay = ["pre"] * (read.delay > 0) + [str(read.delay)] * (read.delay > 1)
-    return " ".join([read.name, *([f"({' '.join(delay)})"] if delay else []), *([f"at {read.at}"] if read.at else [])])
+    source = [] if has_task(document, read.writer) else [f"= {read.writer}.{read.port}"]
+    return " ".join([read.name, *source, *([f"({' '.join(delay)})"] if delay else []), *([f"at {read.at}"] if read.at else [])])
+
+
+def has_task(document, name):
+    """Whether a document that may be drawn in part has a task."""
+    return any(task.name == name for task in document.tasks)
 
 
 def sense_words(sense):
@@ -34,7 +41,7 @@ class Box:
     def __init__(self, document, at):
         self.task = document.tasks[at]
         self.lines = about_task(document, self.task)
-        self.left = [read_words(read) for read in self.task.reads] + [sense_words(it) for it in self.task.senses]
+        self.left = [read_words(document, read) for read in self.task.reads] + [sense_words(it) for it in self.task.senses]
         self.right = [out.name for out in self.task.outs]
         self.height = HEAD + PORT * max(len(self.left), len(self.right)) + 8
         head = [text_width(self.task.name, 13) * 1.15, *(text_width(line, SIZE) for line in self.lines)]
@@ -53,11 +60,11 @@ def head_sample(canvas, x, y):
 
 
 def edges_of(document):
-    """Returns an edge for each read."""
+    """Returns an edge for each read of a task that is drawn."""
     names = [task.name for task in document.tasks]
     edges = []
     for target, task in enumerate(document.tasks):
-        for number, read in enumerate(task.reads):
+        for number, read in ((number, read) for number, read in enumerate(task.reads) if read.writer in names):
             source = names.index(read.writer)
             port = [out.name for out in document.tasks[source].outs].index(read.port)
             stem = (source, port, read.delay > 0)
@@ -166,7 +173,8 @@ class Diagram:
 
     def entries(self):
         """Returns the entries of the legend for what the diagram has."""
-        delays = {read.delay > 0 for task in self.document.tasks for read in task.reads}
+        reads = [read for task in self.document.tasks for read in task.reads]
+        delays = {read.delay > 0 for read in reads if has_task(self.document, read.writer)}
         has_senses = any(task.senses for task in self.document.tasks)
         has_events = any(isinstance(task.clock, On) for task in self.document.tasks)
         found = [

@@ -1,6 +1,6 @@
 """The diagram of a document as text for Graphviz's dot."""
 
-from pictures.diagram import read_words, sense_words
+from pictures.diagram import has_task, read_words, sense_words
 from pictures.words import about_task
 
 
@@ -18,7 +18,7 @@ def field(words, port=""):
 
 def node_line(document, task):
     """Returns the line of a task: its reads and senses, what it is, its outs."""
-    reads = [field(read_words(read), f"r{number}") for number, read in enumerate(task.reads)]
+    reads = [field(read_words(document, read), f"r{number}") for number, read in enumerate(task.reads)]
     senses = [field(sense_words(sense)) for sense in task.senses]
     outs = [field(out.name, f"o{number}") for number, out in enumerate(task.outs)]
     about = "\\n".join(field(line) for line in (task.name, *about_task(document, task)))
@@ -36,6 +36,12 @@ def edge_line(document, task, number):
     return f"  {quoted(writer.name)}:o{port} -> {quoted(task.name)}:r{number}{style};"
 
 
+def shown_reads(document):
+    """Yields each task with the place of each of its reads from a task that is drawn."""
+    for task in document.tasks:
+        yield from ((task, number) for number, read in enumerate(task.reads) if has_task(document, read.writer))
+
+
 def dot_text(document, name):
     """Returns the whole text."""
     lines = [
@@ -44,7 +50,7 @@ def dot_text(document, name):
         '  node [shape=record, fontname="Verdana", fontsize=11];',
         '  edge [fontname="Verdana", fontsize=10, color="#b8500a"];',
         *(node_line(document, task) for task in document.tasks),
-        *(edge_line(document, task, number) for task in document.tasks for number in range(len(task.reads))),
+        *(edge_line(document, *it) for it in shown_reads(document)),
         "}",
     ]
     return "\n".join(lines) + "\n"

@@ -21,6 +21,7 @@ class Mark(Enum):
     DIRECT = "direct"
     DELAYED = "delayed"
     FIRST = "first"
+    AGAIN = "again"
     AIMED = "aimed"
     HELD = "held"
     KEPT = "kept"
@@ -36,11 +37,13 @@ def draw_flag(canvas, mark, x, base, about=""):
     canvas.add(Layer.MARKS, "path", tip(about), d=data, cls=mark.value)
 
 
-def draw_read(canvas, x, y, about="", is_first=False):
-    """Draws the mark of a read, or of one that gets first values."""
+def draw_read(canvas, x, y, about="", inside=None):
+    """Draws the mark of a read; inside is a dot if it gets first values, a bar if it gets the same as an arrow before."""
     canvas.add(Layer.MARKS, "circle", tip(about), cx=x, cy=y, r=3.4, cls=Mark.READ.value)
-    if is_first:
+    if inside is Mark.FIRST:
         canvas.add(Layer.MARKS, "circle", tip(about), cx=x, cy=y, r=1.7, cls=Mark.FIRST.value)
+    elif inside is Mark.AGAIN:
+        canvas.line(Layer.MARKS, x - 6, y, x + 6, y, Mark.AGAIN.value, about)
 
 
 def bar_sample(mark, height):
@@ -65,8 +68,8 @@ def sample_of(mark):
     if mark in (Mark.RELEASE, Mark.DUE, Mark.DEADLINE):
         left = 0 if mark is Mark.RELEASE else 8
         return lambda canvas, x, y: draw_flag(canvas, mark, x + left, y - 12), 8
-    if mark in (Mark.READ, Mark.FIRST):
-        return lambda canvas, x, y: draw_read(canvas, x + 4, y, is_first=mark is Mark.FIRST), 8
+    if mark in (Mark.READ, Mark.FIRST, Mark.AGAIN):
+        return lambda canvas, x, y: draw_read(canvas, x + 4, y, inside=mark), 8
     if mark is Mark.STEP:
         return lambda canvas, x, y: canvas.text(x, y + 4, "[3]", "label"), 20
     if mark in (Mark.END, Mark.LATE):
@@ -85,6 +88,7 @@ WORDS = {
     Mark.DEADLINE: "deadline",
     Mark.READ: "read, with its name",
     Mark.FIRST: "read of first values",
+    Mark.AGAIN: "read of the instance of the arrow before",
     Mark.DIRECT: "claim, from the instance whose outs are read",
     Mark.DELAYED: "claim with pre",
     Mark.AIMED: "aimed, to hold a row",

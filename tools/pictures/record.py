@@ -26,6 +26,9 @@ class StepKind(Enum):
     DONE = "done"
     END = "end"
 
+    def __init__(self, word):
+        self.word = word  # read for each step: quicker than `value`
+
 
 @dataclass(frozen=True)
 class Link:
@@ -60,7 +63,7 @@ class Step(NamedTuple):
     link: Optional[Link] = None
 
 
-DRAWN = {StepKind.SEEN, StepKind.AIM, StepKind.CLAIM, StepKind.DONE, StepKind.END}  # the steps that pictures show
+DRAWN = (StepKind.AIM, StepKind.DONE, StepKind.END, StepKind.SEEN, StepKind.CLAIM)  # the steps that pictures show
 
 
 class Disagreement(Exception):
@@ -134,7 +137,9 @@ class Recorder:
     def step(self, time, kind, instance, *operands, order=None, link=None):
         """Returns the next step."""
         self.count += 1
-        line = " ".join([kind.value, self.names[instance.task], *operands])
+        line = f"{kind.word} {self.names[instance.task]}"
+        if operands:
+            line = " ".join([line, *operands])
         return Step(self.count, time, kind, instance.task, instance.number, line, order, link)
 
     def steps(self, events):

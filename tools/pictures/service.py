@@ -83,7 +83,7 @@ class Overrun:
 
 @dataclass(frozen=True)
 class Service:
-    """What happens, in order, and who is served when: all of it, or up to the overrun."""
+    """What happens, in order, and who is served when: all of it, or what the releases before the overrun give."""
 
     events: Tuple[object, ...]
     spans: Tuple[Span, ...]
@@ -199,6 +199,5 @@ def serve(document):
             overrun = Overrun(document.tasks[late.task].name, late.number, time)
             break
         processor.release(time, batch)
-    else:
-        processor.serve_until(None)
+    processor.serve_until(None)
     return Service(tuple(processor.events), tuple(processor.spans), overrun)

@@ -27,6 +27,7 @@ STYLES = [
     ".due,.deadline{fill:#ffffff;stroke:#1a1a1a}",
     ".read-mark{fill:#ffffff;stroke:#1a1a1a;stroke-width:1.4}",
     ".first{fill:#1a1a1a}",
+    ".again{stroke:#1a1a1a;stroke-width:1.6;fill:none}",
     ".direct{stroke:#b8500a;stroke-width:1.5;fill:none}",
     ".delayed{stroke:#5c2d86;stroke-width:1.5;stroke-dasharray:5 3;fill:none}",
     ".halo{stroke:#ffffff;stroke-width:4;fill:none}",

@@ -1,11 +1,12 @@
 """The drawing of a timeline: a row for each task, in the order of ranks."""
 
-from pictures.courses import claims_of, courses_of
+from pictures.courses import courses_of
 from pictures.legend import draw_legend, legend_height
-from pictures.marks import Mark, draw_flag, draw_read, entries_of
+from pictures.marks import Mark, draw_flag, entries_of
+from pictures.reads import Reads
 from pictures.service import is_late, rank_order
 from pictures.styles import DEFINITIONS, LATE_STYLES, STYLES
-from pictures.svg import Canvas, Layer, path, text_width, tip
+from pictures.svg import Canvas, Layer, text_width
 from pictures.window import Scale, choose_window, plot_width, tick_step
 from pictures.words import about_policy, about_task
 
@@ -33,12 +34,9 @@ class Timeline:
         self.tasks = rank_order(self.document) if tasks is None else tasks
         courses = courses_of(simulated)
         self.all_courses = courses
-        self.window = choose_window(courses.values(), simulated, *window_asked)
-        self.courses = [
-            course
-            for course in courses.values()
-            if course.instance.task in self.tasks and self.window.shows(course.instance.release, course.last_mark)
-        ]
+        shown = [course for course in courses.values() if course.instance.task in self.tasks]
+        self.window = choose_window(shown, simulated, *window_asked)
+        self.courses = [it for it in shown if self.window.shows(it.instance.release, it.last_mark)]
         self.canvas = Canvas()
         self.used = set()
         self.rows = {task: TOP + ROW * number for number, task in enumerate(self.tasks)}
@@ -46,6 +44,15 @@ class Timeline:
         left = MARGIN + self.label_width() + 18
         width = plot_width(self.courses, self.window, self.read_labels(), per_tick)
         self.scale = Scale(self.window, left, width)
+
+    def row_of(self, task):
+        """Returns the top of a task's row; one that isn't shown counts as above all others."""
+        return self.rows.get(task, 0)
+
+    def bar_of(self, task):
+        """Returns the top and the bottom of the bars of a task."""
+        top = self.rows[task] + BAR_AT
+        return top, top + BAR
 
     def label_width(self):
         """Returns the width of the column with the names of the tasks."""
@@ -71,8 +78,7 @@ class Timeline:
             self.draw_course(course)
             self.draw_flags(course)
         self.draw_reads()
-        for claim in claims_of(self.simulated, self.all_courses):
-            self.draw_claim(claim)
+        Reads(self, self.claims_of).draw()
         if self.simulated.overrun:
             self.draw_overrun()
 
@@ -164,44 +170,6 @@ class Timeline:
             if self.scale.x(time) + 7 + text_width(names, 11) < end:
                 self.canvas.text(self.scale.x(time) + 6, y + BAR_AT - 6, names, "read")
 
-    def draw_claim(self, claim):
-        """Draws an arrow for each time at which something is read over a claim."""
-        reader = claim.reader.instance.task
-        names = [self.document.tasks[at].name for at in (reader, claim.writer)]
-        if reader not in self.rows or claim.writer not in self.rows or self.claims_of not in (None, *names):
-            return
-        for time in claim.times:
-            if self.window.shows(time, time):
-                is_below = self.rows[reader] > self.rows[claim.writer]
-                x, y = self.scale.x(time), self.rows[reader] + BAR_AT + (0 if is_below else BAR)
-                about = self.about_claim(claim, time)
-                self.used.add(Mark.READ if claim.row else Mark.FIRST)
-                if claim.row:
-                    self.arrow(claim, x, y, about)
-                draw_read(self.canvas, x, y, about, is_first=not claim.row)
-
-    def about_claim(self, claim, time):
-        """Returns in words what is read over a claim."""
-        writer = self.document.tasks[claim.writer].name
-        row = f"the outs of {writer} {claim.row}" if claim.row else f"the first values of {writer}"
-        delay = f" (pre {claim.delay})" if claim.delay else ""
-        return f"{self.title_of(claim.reader)} reads {row} at {time}{delay}"
-
-    def arrow(self, claim, to_x, to_y, about):
-        """Draws the arrow from the end of the instance whose outs are read: down to a read, or up and from the left."""
-        x, y = self.scale.x(self.all_courses[claim.writer, claim.row].end), self.rows[claim.writer] + BAR_AT
-        if y < to_y:
-            y, to_y = y + BAR + 3, to_y - 4
-            bend = (to_y - y) / 2
-            data = path("M", x, y, "C", x, y + bend, to_x, to_y - bend, to_x, to_y)
-        else:
-            y, reach = y - 3, min(60, (to_x - x) / 2)
-            data = path("M", x, y, "C", x, (y + to_y) / 2, to_x - reach, to_y + 4, to_x - min(4, reach), to_y + 2)
-        mark = Mark.DELAYED if claim.delay else Mark.DIRECT
-        self.used.add(mark)
-        self.canvas.add(Layer.ARROWS, "path", d=data, cls="halo")
-        self.canvas.add(Layer.ARROWS, "path", tip(about), d=data, cls=mark.value, marker_end=f"url(#{mark.value}-head)")
-
     def draw_overrun(self):
         """Marks the tick and the task of the overrun."""
         overrun = self.simulated.overrun
@@ -238,8 +206,9 @@ class Timeline:
         return self.canvas.picture(width, height, f"{title}, {about}", styles, DEFINITIONS)
 
 
-def draw_timeline(simulated, name, window_asked, task_name=None):
-    """Returns the timeline of a simulation as SVG, with all claims or those of one task, and its window."""
-    timeline = Timeline(simulated, window_asked, claims_of=task_name)
+def draw_timeline(simulated, name, window_asked, task_name=None, tasks=None):
+    """Returns the timeline of a simulation as SVG, of all tasks or of those with these places, with all claims or those
+    of one task, and its window."""
+    timeline = Timeline(simulated, window_asked, tasks, claims_of=task_name)
     timeline.draw()
     return timeline.finish(name, "timeline"), timeline.window

@@ -61,14 +61,15 @@ def choose_window(courses, simulated, start, stop):
 
 
 def plot_width(courses, window, labels, per_tick):
-    """Returns a width of the plot in which most labels fit, with so much room for a tick unless there are many.
+    """Returns a width of the plot in which most labels fit, with so much room for a tick unless there are many. Numbers
+    that find no room are told when one points at their bars.
 
     `labels` has pairs of a time and a width, row by row: each label should end before the next one begins.
     """
     ticks = window.stop - window.start
     busiest = max(Counter(course.instance.task for course in courses).values(), default=1)
     asked = [ticks * room / (later - time) for row in labels for (time, room), (later, _) in zip(row, row[1:])]
-    return max(560, min(1600, max([per_tick * ticks, *asked])), 32 * busiest)
+    return max(560, min(1600, max([per_tick * ticks, 32 * busiest, *asked])))
 
 
 def tick_step(window, width, room):

@@ -3,19 +3,24 @@
 import argparse
 import os
 import re
+from fractions import Fraction
 from functools import partial
 
 from canonical import read_document
-from command_line import Parser, read_bytes, write_text
+from command_line import Parser, is_replaced, read_bytes, write_text
 from ending import Ended, Status, reason_of, say, status_of
 from program import add_program_option, read_as_answer, run_program
 from waveforms.signals import occurrences_of, waves_of
-from waveforms.tables import rows_of_task, table_text, wide_rows
-from waveforms.vcd import vcd_lines
+from waveforms.tables import headed_lines, rows_of_task, table_text, wide_rows
+from waveforms.vcd import ONE_NANOSECOND, Tick, vcd_lines
+from waveforms.viewer import is_own, save_lines, save_name
 
 DESCRIPTION = """Writes the lines of mean, sim or run as signals: a VCD file for waveform viewers, or tables (CSV).
-The signals are TASK.OUT, TASK.done (the number of the task's last instance) and trace.NAME (an input or an event).
+The signals are TASK.OUT, TASK_instance (the number of the task's last instance) and trace.NAME (an input or an event).
 If the program writes no lines, its line stands on standard error, and the status is the program's."""
+
+UNITS = {"fs": 1, "ps": 10**3, "ns": 10**6, "us": 10**9, "ms": 10**12, "s": 10**15}  # femtoseconds
+MOST_TIMES = 10**9  # so that the last time of a file has 64 bits
 
 
 class NoLines(Exception):
@@ -27,11 +32,16 @@ class NoLines(Exception):
 
 
 def tick_length(text):
-    """Returns a length as a VCD file has it, as in 1 ms, of the text that an option gives."""
-    found = re.fullmatch(r"(1|10|100) ?(s|ms|us|ns|ps|fs)", text)
+    """Returns a length, as 5ms or 2.5 us, in the greatest unit of a VCD file of which it is a multiple."""
+    found = re.fullmatch(r"([0-9]{1,12}(?:\.[0-9]{1,15})?) ?(s|ms|us|ns|ps|fs)", text)
     if not found:
-        raise argparse.ArgumentTypeError("it is 1, 10 or 100 and then s, ms, us, ns, ps or fs, as in 1ms")
-    return f"{found[1]} {found[2]}"
+        raise argparse.ArgumentTypeError("it is a number and then s, ms, us, ns, ps or fs, as in 5ms")
+    length = Fraction(found[1]) * UNITS[found[2]]
+    for unit, power in ((unit, power) for unit in reversed(UNITS) for power in (100, 10, 1)):
+        times = length / (power * UNITS[unit])
+        if times.denominator == 1 and 0 < times <= MOST_TIMES:
+            return Tick(int(times), f"{power} {unit}")
+    raise argparse.ArgumentTypeError(f"it is at least 1fs, a multiple of it, and at most {MOST_TIMES:,} times 100s")
 
 
 def options_of(words):
@@ -40,18 +50,17 @@ def options_of(words):
     parser.add_argument("file", metavar="FILE", help="a document; - is standard input")
     parser.add_argument("--command", choices=("mean", "sim", "run"), default="mean", help="what runs it (mean)")
     parser.add_argument("--format", choices=("vcd", "csv"), default="vcd", help="what is written (vcd)")
-    parser.add_argument("--tick", type=tick_length, default="1 ns", metavar="LENGTH", help="for vcd: the length of a tick (1ns)")
+    about_tick = "for vcd: the length of a tick, as 5ms or 250us (1ns)"
+    parser.add_argument("--tick", type=tick_length, default=ONE_NANOSECOND, metavar="LENGTH", help=about_tick)
     tables = parser.add_mutually_exclusive_group()
     tables.add_argument("--wide", action="store_true", help="for csv: one table of all signals, by tick")
     tables.add_argument("--task", metavar="NAME", help="for csv: the table of this task alone")
-    parser.add_argument("-o", dest="out", metavar="OUT", help="the file; for csv without --wide and --task a folder")
+    parser.add_argument("-o", dest="out", metavar="OUT", help="the file; for csv without --wide and --task a folder for a table of each task")
     add_program_option(parser)
     options = parser.parse_args(words)
     is_one_table = options.wide or options.task is not None
     if is_one_table and options.format != "csv":
         parser.error("--wide and --task are for --format csv")
-    if options.format == "csv" and not is_one_table and options.out is None:
-        parser.error("-o names the folder for a table of each task; --wide and --task write one table")
     return options
 
 
@@ -86,14 +95,23 @@ def write_signals(options):
     lines, form = (text_of(options.program, command, source) for command in (options.command, "form"))
     with read_as_answer(options.program):
         occurrences, document = occurrences_of(lines), read_document(form)
-    if options.task is not None:
+    if options.format == "vcd":
+        write_dump(waves_of(document, occurrences), options)
+    elif options.task is not None:
         write_text([table_text(rows_of_task(task_named(document, options.task), occurrences))], options.out)
     elif options.wide:
         write_text([table_text(wide_rows(waves_of(document, occurrences)))], options.out)
-    elif options.format == "csv":
-        write_task_tables(document.tasks, occurrences, options.out)
+    elif options.out is None:
+        write_text([headed_lines(lines, document.tasks)])
     else:
-        write_text(vcd_lines(waves_of(document, occurrences), options.command, options.tick), options.out)
+        write_task_tables(document.tasks, occurrences, options.out)
+
+
+def write_dump(waves, options):
+    """Writes waves as a VCD file, and beside a named one what GTKWave shows first, unless a user has changed that."""
+    write_text(vcd_lines(waves, options.command, options.tick), options.out)
+    if options.out is not None and is_replaced(options.out) and is_own(save_name(options.out)):
+        write_text(save_lines(waves, options.out, options.tick), save_name(options.out))
 
 
 def main(words=None):

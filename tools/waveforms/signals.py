@@ -8,15 +8,15 @@ from enum import Enum
 from itertools import groupby
 from typing import Iterable, NamedTuple, Tuple
 
-# Two reserved words: no task is named `trace`, and no out is named `done`.
-TRACE_SCOPE = "trace"
-INSTANCE_NAME = "done"
+TRACE_SCOPE = "trace"  # a reserved word: no task has this name
 
 
 class Kind(Enum):
-    """What a signal is: a number that stays until the next one, or 1 at the ticks of an event and 0 at all others."""
+    """What a signal is: a number that stays until the next one, the number of a task's last instance, or 1 at the ticks
+    of an event and 0 at all others."""
 
     NUMBER = "number"
+    INSTANCE = "instance"
     EVENT = "event"
 
 
@@ -32,7 +32,7 @@ class Signal:
     @property
     def full_name(self):
         """Returns the name that the signal has among all signals of the document."""
-        return f"{self.scope}.{self.name}"
+        return self.name if self.kind is Kind.INSTANCE else f"{self.scope}.{self.name}"
 
 
 class Change(NamedTuple):
@@ -78,9 +78,17 @@ def occurrence_of(line):
     return Occurrence(int(tick), task, instance, tuple(outs))
 
 
+def instance_name(task):
+    """Returns the name of the row of a task's instances: TASK_instance, with `_` after it if an out is named so."""
+    name, taken = f"{task.name}_instance", {out.name for out in task.outs}
+    while name in taken:
+        name += "_"
+    return name
+
+
 def task_signals(task):
     """Returns the signals of a task: how many instances it has had, and its outs with their first values."""
-    instances = Signal(task.name, INSTANCE_NAME, Kind.NUMBER, 0)
+    instances = Signal(task.name, instance_name(task), Kind.INSTANCE, 0)
     return [instances, *(Signal(task.name, out.name, Kind.NUMBER, out.first) for out in task.outs)]
 
 

@@ -1,4 +1,4 @@
-"""Waves as tables of comma-separated values, each with a header."""
+"""Waves, and the lines of the program, as tables of comma-separated values, each with a header."""
 
 import csv
 import io
@@ -6,6 +6,13 @@ import io
 from waveforms.signals import Kind, by_tick, task_signals
 
 TICK_COLUMN = "tick"
+
+
+def headed_lines(lines, tasks):
+    """Returns the lines that the program prints, below a header with a column for each out of the task with the most."""
+    most = max((len(task.outs) for task in tasks), default=0)
+    columns = [TICK_COLUMN, "task", "instance", *(f"out{number}" for number in range(1, most + 1))]
+    return ",".join(columns) + "\n" + lines.decode("ascii")
 
 
 def rows_of_task(task, occurrences):

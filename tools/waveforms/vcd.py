@@ -1,5 +1,6 @@
 """Waves as a value change dump (VCD, IEEE 1364), which waveform viewers read."""
 
+from dataclasses import dataclass
 from itertools import groupby
 
 from waveforms.signals import Change, Kind, by_tick
@@ -8,7 +9,18 @@ from waveforms.signals import Change, Kind, by_tick
 FIRST_CODE, CODES = ord("!"), 94
 
 # The type and the bits of a variable; viewers show an integer with its sign.
-VARIABLES = {Kind.NUMBER: ("integer", 64), Kind.EVENT: ("wire", 1)}
+VARIABLES = {Kind.NUMBER: ("integer", 64), Kind.INSTANCE: ("integer", 64), Kind.EVENT: ("wire", 1)}
+
+
+@dataclass(frozen=True)
+class Tick:
+    """How long a tick is: so many times a unit that a file may have, as 5 times `1 ms`."""
+
+    times: int
+    unit: str
+
+
+ONE_NANOSECOND = Tick(1, "1 ns")
 
 
 def code_of(index):
@@ -39,10 +51,10 @@ def falls_of(waves):
     return [Change(tick + 1, signal, 0) for tick, signal in rises if (tick + 1, signal) not in rises]
 
 
-def vcd_lines(waves, command, tick_length):
+def vcd_lines(waves, command, length=ONE_NANOSECOND):
     """Yields the lines of the file: declarations, the values at the start, the changes by tick, and the end."""
     codes = [code_of(index) for index in range(len(waves.signals))]
-    yield f"$version dbp {command} $end\n$timescale {tick_length} $end\n"
+    yield f"$version dbp {command} $end\n$timescale {length.unit} $end\n"
     yield from declarations(waves.signals, codes)
     yield "$enddefinitions $end\n#0\n$dumpvars\n"
     for signal, code in zip(waves.signals, codes):
@@ -51,9 +63,9 @@ def vcd_lines(waves, command, tick_length):
     last = 0
     for tick, changes in by_tick(sorted([*waves.changes, *falls_of(waves)])):
         if tick > last:
-            yield f"#{tick}\n"
+            yield f"#{tick * length.times}\n"
         for change in changes:
             yield change_text(waves.signals[change.signal], codes[change.signal], change.value)
         last = tick
     if waves.until > last:
-        yield f"#{waves.until}\n"
+        yield f"#{waves.until * length.times}\n"
