@@ -63,6 +63,7 @@ PICTURES = (
     Picture("examples/sim/late.dbp", Kind.TIMELINE),
     Picture("examples/sim/mended.dbp", Kind.TIMELINE),
     Picture("examples/feedback.dbp", Kind.DIAGRAM),
+    Picture("examples/feedback.dbp", Kind.TIMELINE),
     Picture("examples/feedback.dbp", Kind.SLOTS, (0, 10), "sensor"),
     Picture("examples/tutorial/first_task.dbp", Kind.TIMELINE),
     Picture("examples/tutorial/second_rate.dbp", Kind.TIMELINE),
