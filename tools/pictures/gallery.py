@@ -83,7 +83,7 @@ def main(words=None):
 
 def draw_all(words):
     """Draws all pictures with the program that the words name."""
-    parser = Parser("draw_pictures", description="Draws the pictures of README.md and docs/ into docs/pictures, each anew.")
+    parser = Parser("draw_pictures", description="Draws the pictures of README.md and docs/ anew, into docs/pictures.")
     add_program_option(parser)
     program = parser.parse_args(words).program
     for picture in PICTURES:
