@@ -54,12 +54,12 @@ static SAYS: &str = "Fp 90
 input 5 i
 input -6 j
 events d e
-task Every { period: 6, offset: 0 } prio Some(1) deadline None cost 1 c
+task Every { period: 6, offset: 0 } when None prio Some(1) deadline None cost 1 cpu 0 c
 sense 0 o
 read 0 1 at 0 r
 order
 out 0 y Var(0) Var(1) Num(5) Pick(0, 1, 2)
-task Every { period: 4, offset: 1 } prio Some(3) deadline Some(8) cost 3 a
+task Every { period: 4, offset: 1 } when None prio Some(3) deadline Some(8) cost 3 cpu 0 a
 state 7 s
 sense 1 u
 read 1 1 at 2 x
@@ -70,7 +70,7 @@ order 1 0 2
 next 0 Var(3)
 out 1 y Var(3)
 out 2 w Var(4)
-task On { event: 1 } prio Some(3) deadline None cost 2 b
+task On { event: 1 } when None prio Some(3) deadline None cost 2 cpu 0 b
 state 8 t
 state 9 n
 read 2 1 at 0 k

@@ -74,9 +74,9 @@ fn push_work(text: &mut String, task: &Task) -> Result<(), Fail> {
 }
 
 fn push_task(text: &mut String, task: &Task) -> Result<(), Fail> {
-    write!(text, "\ntask {:?}", task.clock)?;
+    write!(text, "\ntask {:?} when {:?}", task.clock, task.when)?;
     write!(text, " prio {:?} deadline {:?}", task.prio, task.deadline)?;
-    write!(text, " cost {}", task.cost)?;
+    write!(text, " cost {} cpu {}", task.cost, task.cpu)?;
     push_name(text, &task.name)?;
     push_given(text, task)?;
     push_work(text, task)

@@ -70,7 +70,8 @@ impl Core {
         })
     }
 
-    /// One step. If it isn't allowed nothing changes, and the result says which condition is the first broken one.
+    /// Makes one step by the rules, and returns what is heard. If the step isn't allowed nothing changes, and the result
+    /// says which condition is the first broken one.
     /// The task or the link that the step names is one of the diagram's; a slot, a read or a port may be any number.
     /// It takes no memory.
     pub fn step(&mut self, step: Step) -> Result<Heard, Illegal>

@@ -1,11 +1,13 @@
 -- A generated document is accepted.
-use Rattle.std.proofs.Common.{◌≡◌, ℕ, ◌+◌, ◌-◌, ◌*◌, ◌≤◌, All, [], ◌∷◌, ◌++◌, map, take, drop, Some, None, refl, sym, ap, ◌∙◌, subst, arith}
+use Rattle.std.proofs.Common.{◌≡◌, ℕ, ◌+◌, ◌-◌, ◌*◌, ◌<◌, ◌≤◌, All, List, [], ◌∷◌, ◌++◌, length, map, take, drop, Some, None, refl, sym, ap, ◌∙◌, subst, arith}
 use Rattle.std.specs.Prelude.{codes, sum_by, slice_get}
 use Rattle.std.proofs.lemmas.Bool.{ltb-true}
 use Rattle.dbp_plan.specs.declared.diagram.Diagram.{Diagram}
 use Rattle.dbp_plan.specs.declared.diagram.Task.{Task}
 use Rattle.dbp_plan.specs.declared.limits.TheConstants.{MAX_OCCURRENCES}
 use Rattle.dbp_plan.specs.declared.plan.Plan.{Plan}
+use Rattle.dbp_plan.specs.declared.schedule.Batch.{Batch}
+use Rattle.dbp_plan.specs.declared.schedule.Sample.{Sample}
 use Rattle.dbp_plan.specs.FirstFault.{first_fault}
 use Rattle.dbp_plan.specs.Ranked.{IsRanked}
 use Rattle.dbp_plan.proofs.FirstFaults.{first-append}
@@ -33,10 +35,14 @@ use Rattle.trace_rows.specs.Values.{event_times, samples_of}
 use Rattle.trace_rows.specs.Headers.{kind_of_column}
 use Rattle.trace_rows.proofs.WrittenRows.{each-row, header-is, rows-faultless}
 use Rattle.trace_rows.proofs.WrittenText.{section-records}
-use Rattle.trace_io.specs.Batches.{IsClockOf, count_of, total_of}
+use Rattle.trace_io.specs.Batches.{AreBatches, times_in, total_of}
+use Rattle.trace_io.specs.Counts.{HasNumbersInRange, IsClockOf, count_of}
 use Rattle.trace_io.specs.Texts.{Accepts}
-use Rattle.trace_io.specs.Traces.{clocks_of, events_of, columns_of, rows_of, IsTraceOf}
-use Rattle.trace_io.proofs.Plans.{clocks_fit, plan_from}
+use Rattle.trace_io.specs.Traces.{events_of, given_samples, columns_of, rows_of, IsTraceOf}
+use Rattle.trace_io.proofs.Counting.{base-count}
+use Rattle.trace_io.proofs.MergeClocks.{merged-tasks, plain-clocks, plain-times, same-total}
+use Rattle.trace_io.proofs.Merges.{in-range}
+use Rattle.trace_io.proofs.Plans.{clock_fits_at, clocks_fit, plan_from}
 use Rattle.trace_io.proofs.Timetables.{events-count, named-samples, rising-samples, timetable}
 use Rattle.trace_io.proofs.TraceFaults.{columns-are, no-fault, rows-are, whole-section}
 use Rattle.dbp_load.specs.Bodies.{early_count, few_early, generated_body, has_late, trace_row, trace_text, words_before}
@@ -49,7 +55,7 @@ use Rattle.dbp_load.proofs.GeneratedNames.{new-name, parts-fine, ports, task_at}
 use Rattle.dbp_load.proofs.GeneratedShapes.{lets-none}
 use Rattle.dbp_load.proofs.GeneratedClocks.{few-times}
 use Rattle.dbp_load.proofs.GeneratedTraces.{can-write, the_columns, the_inputs}
-use Rattle.dbp_load.proofs.ListedItems.{listed-item, map-listed, sum-listed, take-listed}
+use Rattle.dbp_load.proofs.ListedItems.{all-listed, listed-at, listed-item, sum-listed, take-listed}
 use Rattle.dbp_load.proofs.Schedules.{some-batches}
 
 module _ (seed size : ℕ) (some : 1 ≤ size) (few : size ≤ 32) where
@@ -119,7 +125,7 @@ module _ (seed size : ℕ) (some : 1 ≤ size) (few : size ≤ 32) where
     abbrev can : CanWrite (500 * size) the_inputs [] the_columns (first_items (trace_row size) 10)
     can = can-write size 10 some few (omega arith)
 
-    trace : IsTraceOf doc diagram (events_of doc diagram) (samples_of (columns_of doc) (rows_of doc) diagram.inputs)
+    trace : IsTraceOf doc diagram (events_of doc diagram) (given_samples doc diagram)
     trace =
         let rows = first_items (trace_row size) 10 in
         let records = section-records (map (kind_of_column the_inputs) the_columns) the_columns rows can.names (each-row (500 * size) the_inputs [] the_columns rows can) in
@@ -127,33 +133,53 @@ module _ (seed size : ℕ) (some : 1 ≤ size) (few : size ≤ 32) where
         let columns = columns-are doc diagram (trace_text size) (codes "time" ∷ the_columns) (map written_cells rows) refl records in
         let said = rows-are doc diagram (trace_text size) (codes "time" ∷ the_columns) (map written_cells rows) refl records in
         whole-section doc diagram (trace_text size) (codes "time" ∷ the_columns) (map written_cells rows) refl records good
-        (rows-faultless (500 * size) the_inputs [] the_columns rows can (drop 1 lines.trace)) (events_of doc diagram) (samples_of (columns_of doc) (rows_of doc) diagram.inputs)
+        (rows-faultless (500 * size) the_inputs [] the_columns rows can (drop 1 lines.trace)) (events_of doc diagram) (given_samples doc diagram)
         (λ j. event_times (columns j) (said j) diagram.events) (λ j. samples_of (columns j) (said j) diagram.inputs)
 
     -- ---- the clocks
 
-    few-occurrences : total_of diagram.until (events_of doc diagram) (clocks_of diagram) ≤ MAX_OCCURRENCES
+    abbrev samples : List Sample
+    samples = given_samples doc diagram
+
+    abbrev events : List (List ℕ)
+    events = events_of doc diagram
+
+    abbrev one : ℕ → Task
+    one i = task_of body i (task i) []
+
+    one-range : (i : ℕ) → i < size → HasNumbersInRange (one i).clock
+    one-range i inside = in-range (length diagram.events) (one i).clock (clock_fits_at diagram ranked.closed i (one i) (listed-at one size i inside))
+
+    few-occurrences : total_of diagram samples events ≤ MAX_OCCURRENCES
     few-occurrences =
-        let one : ℕ → Task = λ i. task_of body i (task i) [] in
-        let clocks : clocks_of diagram ≡ first_items (λ i. (one i).clock) size = map-listed (λ (t : Task). t.clock) one size in
-        let each = sum-listed (λ i. (one i).clock) (count_of diagram.until (events_of doc diagram)) 500 size (λ i inside. few-times size (size + drawn size (draws i)) (events_of doc diagram) some (omega arith)) in
-        let same : total_of diagram.until (events_of doc diagram) (clocks_of diagram) ≡ sum_by (count_of diagram.until (events_of doc diagram)) (first_items (λ i. (one i).clock) size) =
-        ap (λ cs. sum_by (count_of diagram.until (events_of doc diagram)) cs) clocks in
-        omega (arith, same, each)
+        let each = sum-listed one (λ t. length (times_in diagram samples events t)) 500 size (λ i inside.
+        let count : length (times_in diagram samples events (one i)) ≡ count_of diagram.until events (one i).clock =
+        ap (λ (ts : List ℕ). length ts) (plain-times diagram samples events (one i) refl) ∙ base-count diagram.until events (one i).clock (one-range i inside) in
+        omega (arith, count, few-times size (size + drawn size (draws i)) events some (omega arith))) in
+        omega (arith, each)
+
+    -- no task has a `when`
+    plain-tasks : All (λ t. t.when ≡ None) diagram.tasks
+    plain-tasks = all-listed one (λ t. t.when ≡ None) size (λ i inside. refl)
+
+    batches : (batches : List Batch) × AreBatches diagram samples events batches
+    batches =
+        let clocks = map (λ (t : Task). t.clock) diagram.tasks in
+        let count = events-count doc diagram events samples trace in
+        let fit = subst (λ n. All (IsClockOf n) clocks) (sym count) (clocks_fit diagram ranked.closed) in
+        let same = plain-clocks diagram samples events diagram.tasks plain-tasks in
+        let total = same-total diagram samples events events clocks fit same in
+        let (made, merged) = some-batches diagram.until events clocks (timetable doc diagram events samples trace (printable seed size some few) items ranked) fit (omega (arith, total, few-occurrences)) in
+        (made, merged-tasks diagram samples events events clocks made fit same merged)
 
     pub accepted : (plan : Plan) × Accepts (canonical_text body) plan
     accepted =
-        let events = events_of doc diagram in
-        let samples = samples_of (columns_of doc) (rows_of doc) diagram.inputs in
         let prints = printable seed size some few in
-        let count = events-count doc diagram events samples trace in
-        let fit = subst (λ n. All (IsClockOf n) (clocks_of diagram)) (sym count) (clocks_fit diagram ranked.closed) in
-        let (batches, made) = some-batches diagram.until events (clocks_of diagram) (timetable doc diagram events samples trace prints items ranked) fit few-occurrences in
         let plan : Plan = record {
           diagram = diagram;
           samples = samples;
-          batches = batches;
-          rules = plan_from diagram events samples batches ranked made (rising-samples doc diagram events samples trace prints items) (named-samples doc diagram events samples trace);
+          batches = batches.0;
+          rules = plan_from diagram events samples batches.0 ranked batches.1 (rising-samples doc diagram events samples trace prints items) (named-samples doc diagram events samples trace);
         } in (
           plan,
           record {
@@ -161,6 +187,6 @@ module _ (seed size : ℕ) (some : 1 ≤ size) (few : size ≤ 32) where
             diagram = diagram;
             spelled = spelled;
             checked = checked;
-            planned = record { faultless = no-fault doc diagram trace.faultless few-occurrences; diagram = refl; samples = refl; batches = made };
+            planned = record { faultless = no-fault doc diagram trace.faultless few-occurrences; diagram = refl; samples = refl; batches = batches.1 };
           },
         )

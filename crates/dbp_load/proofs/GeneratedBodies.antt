@@ -27,9 +27,11 @@ task-printable size draws i few inside =
       line = record {
         named = task-prints i (omega arith);
         clock = (omega arith, omega (arith, period), omega arith);
+        when = refl;
         prio = omega arith;
         deadline = tt;
         cost = (omega arith, omega arith);
+        cpu = refl;
       };
       parts = parts-print size (after_draw draws) i few inside (early_count i) (has_late size i) (few_early i) (omega arith) (λ more. ltb-true (i + 1) size more);
       body = omega (arith, lines.lines);

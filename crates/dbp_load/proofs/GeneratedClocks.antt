@@ -4,7 +4,7 @@ use Rattle.std.specs.Prelude.{nat_le}
 use Rattle.std.proofs.lemmas.Bool.{cases_lt, lt-leb}
 use Rattle.std.proofs.Math.Nat.{le-div_iff_mul-le}
 use Rattle.dbp_plan.specs.declared.diagram.Clock.TheVariants.{Every}
-use Rattle.trace_io.specs.Batches.{count_of}
+use Rattle.trace_io.specs.Counts.{count_of}
 
 -- a task occurs at most 500 times
 pub few-times : (size period : ℕ) (events : List (List ℕ)) → 1 ≤ size → size ≤ period → count_of (500 * size) events (Every period 0) ≤ 500

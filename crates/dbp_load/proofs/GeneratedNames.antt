@@ -27,9 +27,11 @@ abbrev pub task_with : ℕ → ℕ → ℕ → RawClock → Option ℕ → (earl
 task_with size draws i clock prio early late few = record {
   name = task_name i;
   clock = clock;
+  when = None;
   prio = prio;
   deadline = None;
   cost = 1;
+  cpu = 0;
   parts = parts_of size draws i early late few;
 }
 

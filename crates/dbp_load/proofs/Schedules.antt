@@ -10,8 +10,8 @@ use Rattle.dbp_plan.specs.declared.diagram.Clock.{Clock}
 use Rattle.dbp_plan.specs.declared.diagram.Clock.TheVariants.{Every, On}
 use Rattle.dbp_plan.specs.declared.limits.TheConstants.{MAX_OCCURRENCES}
 use Rattle.dbp_plan.specs.declared.schedule.Batch.{Batch}
-use Rattle.trace_io.specs.Batches.{AreBatches, IsClockOf, IsTimetable, count_of}
-use Rattle.trace_io.specs.Merging.{IsLeastNext, TakesDue, is_at, next_of}
+use Rattle.trace_io.specs.Counts.{IsClockOf, IsTimetable, count_of}
+use Rattle.trace_io.specs.Merging.{AreMerged, IsLeastNext, TakesDue, is_at, next_of}
 use Rattle.trace_io.proofs.Due.{take-one, pass-one}
 use Rattle.trace_io.proofs.Merges.{Merged, after, after-push, merge-end, merge-step, merged-none}
 
@@ -155,7 +155,7 @@ module _ (until : ℕ) (events : List (List ℕ)) (clocks : List Clock) (table :
   -- ---- batch by batch
 
   abbrev Batches : Type 0
-  Batches = (batches : List Batch) × AreBatches until events clocks batches
+  Batches = (batches : List Batch) × AreMerged until events clocks batches
 
   abbrev Goes : ℕ → Type 0
   Goes steps = (taken : List ℕ) (made : List Batch) → Merged until events clocks taken made → until ≤ after made + steps → Batches

@@ -91,9 +91,11 @@ abbrev pub generated_task : ℕ → ℕ → ℕ → RawTask
 generated_task size draws i = record {
   name = task_name i;
   clock = Every (size + drawn size draws) 0;
+  when = None;
   prio = Some (size - i);
   deadline = None;
   cost = 1;
+  cpu = 0;
   parts = body_of_task size (after_draw draws) i;
 }
 

@@ -67,9 +67,11 @@ fn generated_task(
             period: u64::from(period),
             offset: 0,
         },
+        when: None,
         prio: Some(size - number),
         deadline: None,
         cost: 1,
+        cpu: 0,
         parts,
     })
 }

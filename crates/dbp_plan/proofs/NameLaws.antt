@@ -1,14 +1,27 @@
--- Names among others, and their indexes.
-use Rattle.std.proofs.Common.{◌≡◌, ℕ, ◌<◌, Bool, true, List, [], ◌∷◌, ◌++◌, length, map, get_or, refl, sym, ap, ◌∙◌}
-use Rattle.std.specs.Prelude.{◌||◌}
+-- Names as texts, among others, and their indexes.
+use Rattle.std.proofs.Common.{◌≡◌, ℕ, ◌<◌, Bool, true, List, [], ◌∷◌, ◌++◌, length, map, get_or, refl, sym, ap, arith, ◌∙◌}
+use Rattle.std.specs.Prelude.{◌||◌, IsTrue, IsUtf8}
 use Rattle.std.specs.List.{flat_map, list_any}
 use Rattle.std.specs.Str.{bytes_eq}
 use Rattle.std.proofs.lemmas.List.Folds.{list_any-append}
 use Rattle.std.proofs.lemmas.List.Sums.{passes_at_first}
+use Rattle.std.proofs.lemmas.Bool.Decides.{nat_tests}
 use Rattle.std.proofs.lemmas.Slice.Eq.{bytes_eq-Decides}
+use Rattle.std.proofs.lemmas.Str.{IsUtf8-from_ascii}
+use Rattle.std.proofs.lemmas.Str.Ascii.{IsAscii-from_all}
+use Rattle.dbp_plan.specs.Name.{IsName, is_name_byte}
 use Rattle.dbp_plan.specs.NameLists.{is_among, index_of}
 use Rattle.dbp_plan.proofs.FirstIndexes.{first-below}
 
+-- a letter, a digit or `_` is ASCII
+ascii-byte : (b : ℕ) → IsTrue (is_name_byte b) → b < 128
+ascii-byte b is = grind (arith, nat_tests)
+
+-- so a name is text
+pub name_text : (name : List ℕ) → IsName name → IsUtf8 name
+name_text name is = IsUtf8-from_ascii name (IsAscii-from_all name (λ k d below. ascii-byte (get_or name k d) (is.each k d below)))
+
+-- each name has the bytes of itself
 pub same-bytes : (n : List ℕ) → bytes_eq n n ≡ true
 same-bytes n = (bytes_eq-Decides n n).1 refl
 

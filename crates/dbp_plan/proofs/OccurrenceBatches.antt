@@ -1,6 +1,7 @@
 -- The batch of each occurrence of a task.
 use Rattle.std.proofs.Common.{◌≡◌, ℕ, zero, suc, ◌+◌, ◌-◌, ◌<◌, true, false, inl, inr, List, [], ◌∷◌, length, take, get_or, slice_get, Some, refl, ap, ◌∙◌, arith}
 use Rattle.std.proofs.lemmas.Bool.{cases_Bool}
+use Rattle.std.proofs.lemmas.List.{get_or_default}
 use Rattle.std.proofs.lemmas.Option.{get_or_from_slice_get}
 use Rattle.dbp_plan.specs.declared.schedule.Batch.{Batch}
 use Rattle.dbp_plan.specs.Occurrences.{names, time_of, times_of}
@@ -52,8 +53,16 @@ occurrence_of bs i k below named = record {
   time = λ d. time_here bs k i d below (named d);
 }
 
+-- its time is that of the batch
+pub batch-time : {bs : List Batch} {i n k : ℕ} → IsOfBatch bs i n k → (d : Batch) → get_or (times_of bs i) n 0 ≡ (get_or bs k d).time
+batch-time {bs} {i} {n} {k} at d = get_or_from_slice_get (times_of bs i) n (get_or bs k d).time 0 (at.time d)
+
+-- so a batch that names the task has the time that comes after those of the batches before it
+pub named-time : (bs : List Batch) (i k : ℕ) (d : Batch) → k < length bs → names i (get_or bs k d) ≡ true → get_or (times_of bs i) (length (times_of (take k bs) i)) 0 ≡ (get_or bs k d).time
+named-time bs i k d below named = batch-time (occurrence_of bs i k below (λ e. ap (names i) (get_or_default bs k e d below) ∙ named)) d
+
 -- the time of the instance, which is counted from 1
 pub time_of-batch : (bs : List Batch) (i n k : ℕ) (d : Batch) → IsOfBatch bs i n k → time_of bs i (n + 1) ≡ (get_or bs k d).time
 time_of-batch bs i n k d at =
     let place : n + 1 - 1 ≡ n = omega arith in
-    ap (λ m. get_or (times_of bs i) m 0) place ∙ get_or_from_slice_get (times_of bs i) n (get_or bs k d).time 0 (at.time d)
+    ap (λ m. get_or (times_of bs i) m 0) place ∙ batch-time at d

@@ -2,7 +2,7 @@
 use Rattle.std.specs.Prelude.{◌≡◌, ◌≢◌, ℕ, ◌+◌, ◌<◌, ◌≤◌, ◌==◌, IsTrue, All, AllPairs, length, slice_get, sum_by, Some}
 use Rattle.std.specs.Option.{ForSome}
 use Rattle.std.specs.List.{list_any}
-use Rattle.dbp_plan.specs.declared.limits.TheConstants.{MAX_TASKS, MAX_INPUTS, MAX_EVENTS, MAX_READS, MAX_READ_LINES, MAX_OUTS, MAX_BODY, MAX_TIME, MAX_PRIO}
+use Rattle.dbp_plan.specs.declared.limits.TheConstants.{MAX_TASKS, MAX_INPUTS, MAX_EVENTS, MAX_READS, MAX_READ_LINES, MAX_OUTS, MAX_BODY, MAX_TIME, MAX_PRIO, MAX_CPU}
 use Rattle.dbp_plan.specs.declared.diagram.Clock.TheVariants.{Every, On}
 use Rattle.dbp_plan.specs.declared.diagram.Read.{Read}
 use Rattle.dbp_plan.specs.declared.diagram.Task.{Task}
@@ -27,9 +27,11 @@ body_count t = place_count t + length t.nexts + length t.outs
 pub record IsClosedTask (inputs events links : ℕ) (t : Task) : Type 0 where
   pub periodic : (period offset : ℕ) → t.clock ≡ Every period offset → (1 ≤ period) × (period ≤ MAX_TIME) × (offset ≤ MAX_TIME)
   pub on_event : (event : ℕ) → t.clock ≡ On event → event < events
+  pub when : ForSome t.when (λ input. input < inputs)
   pub prio : ForSome t.prio (λ p. p ≤ MAX_PRIO)
   pub deadline : ForSome t.deadline (λ d. (1 ≤ d) × (d ≤ MAX_TIME))
   pub cost : (1 ≤ t.cost) × (t.cost ≤ MAX_TIME)
+  pub cpu : t.cpu ≤ MAX_CPU
   pub reads : length t.reads ≤ MAX_READS
   pub outs : (1 ≤ length t.outs) × (length t.outs ≤ MAX_OUTS)
   pub body : body_count t ≤ MAX_BODY

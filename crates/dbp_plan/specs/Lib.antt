@@ -1,7 +1,9 @@
 -- Definitions that public clauses cite.
+pub mod BareDiagrams
 pub mod Calls
 pub mod Clocks
 pub mod Closed
+pub mod Cycles
 pub mod Expr
 pub mod Faults
 pub mod FirstFault
@@ -27,6 +29,7 @@ pub mod Tree
 pub mod WriteSink
 -- What private functions, the inside of types and proofs cite.
 pub mod ListItems
+pub mod Listed
 pub mod NameInside
 pub mod Operands
 pub mod Ranges

@@ -8,7 +8,7 @@ use Rattle.dbp_plan.specs.declared.diagram.Task.{Task}
 use Rattle.dbp_plan.specs.declared.plan.Plan.{Plan}
 
 abbrev pub no_declared_task : Task
-no_declared_task = record { name = []; clock = On 0; prio = None; deadline = None; cost = 0; states = []; senses = []; reads = []; lets = []; order = []; nexts = []; outs = [] }
+no_declared_task = record { name = []; clock = On 0; when = None; prio = None; deadline = None; cost = 0; cpu = 0; states = []; senses = []; reads = []; lets = []; order = []; nexts = []; outs = [] }
 
 -- the task of the diagram
 abbrev pub task_at : Diagram → ℕ → Task

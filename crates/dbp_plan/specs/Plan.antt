@@ -1,5 +1,5 @@
 -- What a plan keeps.
-use Rattle.std.specs.Prelude.{◌≡◌, ◌≢◌, ℕ, ◌<◌, ◌≤◌, All, AllPairs, IsTrue, List, [], length, map, slice_get, Some}
+use Rattle.std.specs.Prelude.{◌≡◌, ◌≢◌, ℕ, ◌<◌, ◌≤◌, All, AllPairs, IsTrue, List, [], filter, length, map, slice_get, Some}
 use Rattle.std.specs.List.Sorted.{IsStrictlyIncreasing}
 use Rattle.dbp_plan.specs.declared.limits.TheConstants.{MAX_OCCURRENCES}
 use Rattle.dbp_plan.specs.declared.diagram.Clock.TheVariants.{Every}
@@ -7,7 +7,7 @@ use Rattle.dbp_plan.specs.declared.diagram.Diagram.{Diagram}
 use Rattle.dbp_plan.specs.declared.diagram.Task.{Task}
 use Rattle.dbp_plan.specs.declared.schedule.Batch.{Batch}
 use Rattle.dbp_plan.specs.declared.schedule.Sample.{Sample}
-use Rattle.dbp_plan.specs.Clocks.{periodic_time}
+use Rattle.dbp_plan.specs.Clocks.{is_on, periodic_times}
 use Rattle.dbp_plan.specs.Occurrences.{times_of, occurrence_count}
 use Rattle.dbp_plan.specs.Ranked.{IsRanked}
 use Rattle.dbp_plan.specs.Samples.{is_before}
@@ -22,7 +22,7 @@ pub record IsPlan (d : Diagram) (samples : List Sample) (batches : List Batch) :
   pub named : All (λ b. All (λ i. i < length d.tasks) b.tasks) batches
   pub ends : All (λ b. b.time < d.until) batches
   pub few : occurrence_count batches ≤ MAX_OCCURRENCES
-  -- a periodic task occurs at exactly the times of its clock
-  pub periodic : (i period offset k : ℕ) (t : Task) → slice_get d.tasks i ≡ Some t → t.clock ≡ Every period offset → slice_get (times_of batches i) k ≡ periodic_time d.until period offset k
+  -- a periodic task occurs at exactly those times of its clock at which the input of its `when` isn't 0
+  pub periodic : (i period offset : ℕ) (t : Task) → slice_get d.tasks i ≡ Some t → t.clock ≡ Every period offset → times_of batches i ≡ filter (is_on d.inputs samples t.when) (periodic_times d.until period offset)
   pub sample_order : AllPairs (λ a b. IsTrue (is_before a b)) samples
   pub sampled : All (λ s. s.input < length d.inputs) samples

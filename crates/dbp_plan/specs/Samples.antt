@@ -12,6 +12,10 @@ is_given input time s = (s.input == input) && nat_le s.time time
 abbrev pub last_value : ℤ → List ℤ → ℤ
 last_value first values = fold (λ _ v. v) first values
 
+-- the samples of one input, in their order
+abbrev pub own_samples : ℕ → List Sample → List Sample
+own_samples input samples = filter (λ s. s.input == input) samples
+
 -- the value before the first sample
 abbrev pub first_value : List Input → ℕ → ℤ
 first_value inputs input = option_map_or (λ i. i.first) (slice_get inputs input) (pos 0)
@@ -19,6 +23,10 @@ first_value inputs input = option_map_or (λ i. i.first) (slice_get inputs input
 -- the last value given for the input at or before the time, else its first value
 abbrev pub input_value : List Input → List Sample → ℕ → ℕ → ℤ
 input_value inputs samples input time = last_value (first_value inputs input) (map (λ s. s.value) (filter (is_given input time) samples))
+
+-- the value that an input's own samples give it: the last one at or before the time, else its first value
+abbrev pub value_until : ℤ → List Sample → ℕ → ℤ
+value_until first samples time = last_value first (map (λ s. s.value) (filter (λ s. nat_le s.time time) samples))
 
 -- whether the sample stands before the other: by time, then by input
 abbrev pub is_before : Sample → Sample → Bool

@@ -51,9 +51,11 @@ impl TryCopy for Task {
         Ok(Task {
             name: self.name,
             clock: self.clock,
+            when: self.when,
             prio: self.prio,
             deadline: self.deadline,
             cost: self.cost,
+            cpu: self.cpu,
             states: self.states.copied()?,
             senses: self.senses.copied()?,
             reads: self.reads.copied()?,

@@ -77,12 +77,16 @@ pub struct Out {
 pub struct Task {
     pub name: Name,
     pub clock: Clock,
+    /// The number of an input: the task occurs only at those times of its clock at which the input isn't 0.
+    pub when: Option<u32>,
     /// Under fixed priorities the greater is higher.
     pub prio: Option<u32>,
     /// Ticks from a release to its deadline.
     pub deadline: Option<u64>,
     /// Ticks of service that an instance takes.
     pub cost: u64,
+    /// The number of the processor that serves the task, from 0 to `MAX_CPU`.
+    pub cpu: u32,
     pub states: List<State>,
     pub senses: List<Sense>,
     pub reads: List<Read>,

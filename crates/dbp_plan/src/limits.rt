@@ -24,6 +24,8 @@ pub const MAX_NODES: u32 = 64;
 pub const MAX_TIME: u64 = 1_000_000_000;
 /// The greatest priority.
 pub const MAX_PRIO: u32 = 1_000_000;
+/// The greatest number of a processor; they are numbered from 0.
+pub const MAX_CPU: u32 = 7;
 /// Occurrences of all tasks together, at most.
 pub const MAX_OCCURRENCES: u32 = 100_000;
 /// The longest delay of a link, in occurrences of its writer.
@@ -53,6 +55,8 @@ const _: () = prove!(MAX_NODES == 64);
 const _: () = prove!(MAX_TIME == 1_000_000_000);
 
 const _: () = prove!(MAX_PRIO == 1_000_000);
+
+const _: () = prove!(MAX_CPU == 7);
 
 const _: () = prove!(MAX_OCCURRENCES == 100_000);
 

@@ -4,6 +4,7 @@ ghost use Rattle.std.specs.Prelude.{◌≡◌, ◌↔◌, IfSome, IsSome, IsTrue
 ghost use Rattle.dbp_plan.specs.Name.{IsName};
 
 use crate::MAX_NAME;
+use std::fmt;
 use std::marker::Model;
 
 /// The name of a task, an input or the like: 1 to 24 ASCII letters, digits and `_`, of which the first is no
@@ -95,6 +96,20 @@ impl Eq for Name {
     ghost use Rattle.std.specs.Cmp.Lexicographic.{nat_list_eq_equiv};
 
     ghost laws = { nat_list_eq_equiv };
+}
+
+/// The name's text, as it stands in a document.
+impl fmt::Debug for Name {
+    ghost use Rattle.std.specs.Prelude.{Some};
+
+    ghost debug_output = { λ name. Some name };
+
+    fn fmt<W: fmt::Write>(&self, f: &mut fmt::Formatter<W>) -> fmt::Result {
+        match std::str::from_utf8(self.bytes()) {
+            Ok(text) => f.write_str(text),
+            Err(_) => unreachable!(),
+        }
+    }
 }
 
 fn is_name(bytes: &[u8]) -> bool

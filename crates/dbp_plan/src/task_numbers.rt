@@ -7,8 +7,8 @@ use crate::{List, NoMemory};
 use std::alloc::Global;
 use std::marker::Model;
 
-/// A list of numbers of tasks, of at most 4294967295 items, which takes no memory for the first two: at most times few
-/// tasks occur together. A contract sees the list of its items.
+/// A list of numbers of tasks, of at most 4294967295 items, which takes no memory for the first three: at most times
+/// few tasks occur together. A contract sees the list of its items.
 #[derive(Drop)]
 pub struct TaskNumbers {
     alloc: Global,

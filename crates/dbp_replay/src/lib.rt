@@ -1,4 +1,12 @@
 //! Scripts: lists of steps of the protocol as text. They are read from a document, printed, and replayed on a plan.
+//!
+//! The forms of a script's lines are one table (`form_of`): the word that begins a line, and what stands after the
+//! task. The reader looks words up in it, and the printer writes them from it. A line's tokens have a form or none, and
+//! a form names a step of a diagram or has a name that isn't there (`named_step`). A replay is a walk by the rules of
+//! `dbp_rules`, so their laws speak of each text that `replay` returns: the word after a `take` is the meaning's. The
+//! printer keeps the lines that it has made, and copies a line whose step comes again. A printed script is read back in
+//! a diagram whose names are names of the language and differ, and whose delays can be written; the diagram of each
+//! checked document is such a one.
 #![tactic(auto)]
 
 mod fail;

@@ -1,5 +1,5 @@
 pub mod Computing
-pub mod InputValues
+pub mod SensePlaces
 pub mod Allowed
 pub mod LeadsLaws
 pub mod Aims

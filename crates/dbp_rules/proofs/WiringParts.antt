@@ -3,6 +3,7 @@ use Rattle.std.proofs.Common.{◌≡◌, ℕ, zero, suc, ◌+◌, ◌*◌, ◌<�
 use Rattle.std.specs.Prelude.{◌==◌}
 use Rattle.std.specs.List.{fold}
 use Rattle.std.proofs.lemmas.Bool.{cases_Bool, eq-eqb}
+use Rattle.std.proofs.lemmas.List.FromFn.{length-map-range_with_len}
 use Rattle.std.proofs.Math.Nat.{mul-le-mul_left}
 use Rattle.std.proofs.lemmas.Option.{same_Some, slice_get_within, slice_get-get_or}
 use Rattle.dbp_plan.specs.declared.diagram.Link.{Link}
@@ -11,6 +12,8 @@ use Rattle.dbp_plan.specs.declared.schedule.Sample.{Sample}
 use Rattle.dbp_plan.specs.Occurrences.{occurrence_count}
 use Rattle.dbp_plan.specs.ListItems.{at_place}
 use Rattle.dbp_plan.specs.Lookups.{link_at, no_link, declared_task, no_declared_task}
+use Rattle.dbp_plan.specs.Samples.{own_samples}
+use Rattle.dbp_plan.proofs.OwnSamples.{range-place}
 use Rattle.dbp_slots.specs.Slots.{longest_delay}
 use Rattle.release_list.specs.Releases.{releases_of}
 use Rattle.release_list.proofs.Room.{released_few}
@@ -53,15 +56,14 @@ delay_kept links k below = most_of 0 (link_at links k).writer k links (link_at l
 
 pub samples_wired : (p : Plan) (count : Count) → HasSamples p (wiring_of p count).samples
 samples_wired p count = record {
-  size = length-made of_input p.diagram.inputs;
+  size = length-map-range_with_len of_input 0 (length p.diagram.inputs);
   each = λ x own at.
-      let inside : x < length p.diagram.inputs = omega (arith, slice_get_within (wiring_of p count).samples x own at, length-made of_input p.diagram.inputs) in
-      let input : (e : _) × (slice_get p.diagram.inputs x ≡ Some e) = at_place p.diagram.inputs x inside in
-      same_Some own (filter (λ s. s.input == x) p.samples) (sym at ∙ made_place of_input p.diagram.inputs x input.0 input.1);
+      let inside : x < length p.diagram.inputs = omega (arith, slice_get_within (wiring_of p count).samples x own at, length-map-range_with_len of_input 0 (length p.diagram.inputs)) in
+      same_Some own (own_samples x p.samples) (sym at ∙ range-place of_input (length p.diagram.inputs) x inside);
 }
   where
-    of_input : {X : Type 0} → ℕ × X → List Sample
-    of_input x = filter (λ s. s.input == x.0) p.samples
+    of_input : ℕ → List Sample
+    of_input input = own_samples input p.samples
 
 pub releases_few : (p : Plan) → length (releases_of p.diagram.links p.batches) + 1 < 2 ^ 32
 releases_few p =

@@ -17,5 +17,3 @@ pub mod TenParts
 pub mod Wired
 pub mod WordRanges
 pub mod Work
--- What private functions, the inside of types and proofs cite.
-pub mod InputValues

@@ -1,5 +1,5 @@
 -- What the code needs of a wiring and of a state: what is named is there, and numbers fit.
-use Rattle.std.specs.Prelude.{◌≡◌, ℕ, zero, suc, ◌+◌, ◌<◌, ◌≤◌, ◌^◌, ◌==◌, List, filter, length, slice_get, slice_index_or, Some}
+use Rattle.std.specs.Prelude.{◌≡◌, ℕ, zero, suc, ◌+◌, ◌<◌, ◌≤◌, ◌^◌, List, length, slice_get, slice_index_or, Some}
 use Rattle.dbp_plan.specs.declared.diagram.Task.{Task}
 use Rattle.dbp_plan.specs.declared.limits.TheConstants.{MAX_OCCURRENCES, MAX_READS}
 use Rattle.dbp_plan.specs.declared.plan.Plan.{Plan}
@@ -7,6 +7,7 @@ use Rattle.dbp_plan.specs.declared.schedule.Sample.{Sample}
 use Rattle.dbp_plan.specs.Closed.{IsClosedTask, place_count}
 use Rattle.dbp_plan.specs.Occurrences.{times_of}
 use Rattle.dbp_plan.specs.Lookups.{declared_task}
+use Rattle.dbp_plan.specs.Samples.{own_samples}
 use Rattle.release_list.specs.Schedule.{IsSchedule, aims}
 use Rattle.dbp_rules.specs.Moves.{heard_order}
 use Rattle.dbp_rules.specs.Lookups.{link, link_entry, order, read_at, slot_at, task, task_entry, wired_task}
@@ -29,7 +30,7 @@ use Rattle.dbp_rules.specs.declared.wiring.Wiring.{Wiring}
 -- the samples of each input, in order
 pub record HasSamples (p : Plan) (samples : List (List Sample)) : Type 0 where
   pub size : length samples ≡ length p.diagram.inputs
-  pub each : (x : ℕ) (own : List Sample) → slice_get samples x ≡ Some own → own ≡ filter (λ s. s.input == x) p.samples
+  pub each : (x : ℕ) (own : List Sample) → slice_get samples x ≡ Some own → own ≡ own_samples x p.samples
 
 -- the link at a place of those into the task
 abbrev pub link_in : TaskWiring → ℕ → ℕ

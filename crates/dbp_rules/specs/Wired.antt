@@ -8,6 +8,7 @@ use Rattle.dbp_plan.specs.declared.plan.Plan.{Plan}
 use Rattle.dbp_plan.specs.declared.schedule.Batch.{Batch}
 use Rattle.dbp_plan.specs.Occurrences.{times_of}
 use Rattle.dbp_plan.specs.Lookups.{link_at, no_read}
+use Rattle.dbp_plan.specs.Samples.{own_samples}
 use Rattle.dbp_slots.specs.Slots.{counts_of}
 use Rattle.release_list.specs.Releases.{links_into, releases_of}
 use Rattle.dbp_rules.specs.declared.step.Count.{Count}
@@ -73,5 +74,5 @@ wiring_of p count = record {
   tasks = map (task_wiring p count) (enumerate_from 0 p.diagram.tasks);
   links = p.diagram.links;
   releases = releases_of p.diagram.links p.batches;
-  samples = map (λ x. filter (λ s. s.input == x.0) p.samples) (enumerate_from 0 p.diagram.inputs);
+  samples = map (λ input. own_samples input p.samples) (range_with_len 0 (length p.diagram.inputs));
 }

@@ -35,7 +35,7 @@ pub enum StepKind {
 }
 
 impl StepKind {
-    /// Its number, from 1 to 12.
+    /// The number of the kind, from 1 to 12.
     pub fn number(self) -> u32
         ensures { result ≡ kind_number self }
     {
@@ -57,7 +57,7 @@ impl StepKind {
 }
 
 impl Step {
-    /// Its kind.
+    /// The kind of the step.
     pub fn kind(self) -> StepKind
         ensures { result ≡ kind_of self }
     {

@@ -1,5 +1,15 @@
 //! The rules of the protocol: its state of shared words and of the parts of the releaser and the tasks, what each step
 //! hears and makes of it, and what holds of every state that steps lead to.
+//!
+//! What the steps look up in a plan is made once, a `Wiring`. A `State` has the releaser's part, and for each task its
+//! shared words, its part and what it computes with. The rules are written party by party: `PartyRules` says, from one
+//! party's part alone, why the party may not make a step and what its part becomes. `Rules` makes of this the rules on
+//! whole states: the condition of a step (`refusal`), what it hears (`hears`), the next state (`next`), and all three
+//! together (`IsStep`). The calls in `releaser_steps` and `task_steps` return exactly this. Every step keeps the state
+//! sound: `Sound` speaks of the releaser's numbers, of each task, and of each link with its ends, and `HoldsInTenParts`
+//! is the same in the words of docs/PROTOCOL.md. Both compare rows with those of a table that meets `IsMeaning`. The
+//! laws say what holds after every list of allowed steps (`laws`), in every sound state (`soundness`), of one party's
+//! part alone (`party_laws`), and of the words of a run's table (`word_laws`).
 #![tactic(auto)]
 
 mod aiming;

@@ -35,7 +35,8 @@ pub fn a_step_moves_its_party()
     ensures task { (p : Plan) (w : Wiring) (s : State) (e : Step) (i : ℕ) → i < length s.tasks → made_by e ≡ Some i → (task (next p w s e) i).part ≡ task_after (wired_task w i) (task s i).part e (loaded_value w s e) }
 {}
 
-/// A part that allows its step, and finds in the word that this loads what it may find there, keeps what it keeps by itself.
+/// The places, numbers and slots of a part stay in range (`ReleaserShape`, `TaskPartShape`) after each step that it
+/// allows, if what the step loads is in range.
 pub fn a_party_keeps_its_part()
     ensures releaser { (p : Plan) (count : Count) (r : ReleaserPart) (e : Step) (l : Loaded) → ReleaserShape p (wiring_of p count) r → IsNamed p.diagram e
         → releaser_refusal (wiring_of p count) r e ≡ None → ReleaserLoads r e l → ReleaserShape p (wiring_of p count) (releaser_after (wiring_of p count) r e l) }
@@ -43,13 +44,13 @@ pub fn a_party_keeps_its_part()
         → task_refusal (wired_task (wiring_of p count) i) t e ≡ None → TaskLoads (wiring_of p count) i t e l → TaskPartShape (wiring_of p count) i (task_after (wired_task (wiring_of p count) i) t e l) }
 {}
 
-/// Before the first step each part keeps this.
+/// Before the first step the places, numbers and slots of each part are in range.
 pub fn the_first_parts_are_in_shape()
     ensures releaser { (p : Plan) (count : Count) → ReleaserShape p (wiring_of p count) (start_of p (wiring_of p count)).releaser }
     ensures task { (p : Plan) (count : Count) (i : ℕ) → i < length p.diagram.tasks → TaskPartShape (wiring_of p count) i (task (start_of p (wiring_of p count)) i).part }
 {}
 
-/// In a sound state each part keeps this, and an allowed step loads what its party may find.
+/// In a sound state the places, numbers and slots of each part are in range, and so is what an allowed step loads.
 pub fn sound_parts_are_in_shape()
     ensures releaser { (p : Plan) (count : Count) (rows : ℕ → ℕ → Items ℤ) (s : State) → Sound p (wiring_of p count) rows s → ReleaserShape p (wiring_of p count) s.releaser }
     ensures task { (p : Plan) (count : Count) (rows : ℕ → ℕ → Items ℤ) (s : State) (i : ℕ) → Sound p (wiring_of p count) rows s → i < length p.diagram.tasks → TaskPartShape (wiring_of p count) i (task s i).part }

@@ -2,8 +2,7 @@
 
 ghost use Rattle.std.specs.Prelude.{◌≡◌, ◌+◌, ◌<◌, ◌≤◌, All, length, map};
 ghost use Rattle.std.specs.List.Sorted.{IsNonDecreasingBy};
-ghost use Rattle.dbp_plan.specs.Samples.{input_value};
-ghost use Rattle.dbp_rules.specs.InputValues.{value_until};
+ghost use Rattle.dbp_plan.specs.Samples.{input_value, value_until};
 ghost use Rattle.dbp_rules.specs.Moves as move;
 ghost use Rattle.dbp_rules.specs.Shapes.{HasSamples};
 

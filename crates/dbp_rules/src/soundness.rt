@@ -54,8 +54,8 @@ pub fn an_aim_spares_claimed_slots()
     ensures { (p : Plan) (s : State) (i slot : ℕ) → refusal (wiring_of p All) s (Aim i slot) ≡ None → IsUnclaimed (wiring_of p All) s i slot }
 {}
 
-/// No allowed step changes a slot that a claim of an instance which hasn't ended names, except the steps by which the
-/// claimed instance itself fills it; under both counts.
+/// In a sound state no allowed step changes a slot that a claim of an instance which hasn't ended names, except the steps
+/// by which the claimed instance itself fills it; under both counts.
 pub fn a_step_spares_claimed_rows()
     ensures { (p : Plan) (count : Count) (rows : ℕ → ℕ → Items ℤ) (s : State) (e : Step) → Sound p (wiring_of p count) rows s → IsNamed p.diagram e → refusal (wiring_of p count) s e ≡ None
         → SparesClaims p (wiring_of p count) s e }
@@ -71,13 +71,13 @@ pub fn a_slot_is_free_for_each_aim()
         → IsLeastFree (claimed_of (wiring_of p count) s i) (kept_after_aim (task_entry s i)) (wired_task (wiring_of p count) i).slots slot → IsLeastAim (wiring_of p count) s i slot }
 {}
 
-/// An allowed take hears the word that the meaning gives the read in the running instance.
+/// In a sound state an allowed take hears the word that the meaning gives the read in the running instance.
 pub fn a_sound_take_hears_the_meaning()
     ensures { (p : Plan) (count : Count) (table : Table) (s : State) (i r : ℕ) → IsMeaning p.diagram p.samples p.batches table → Sound p (wiring_of p count) (table_row table) s
         → i < length p.diagram.tasks → refusal (wiring_of p count) s (Take i r) ≡ None → TakesTheMeaning p (wiring_of p count) table s i r }
 {}
 
-/// An allowed look finds its row if the writer has filled it, and only then.
+/// In a sound state an allowed look finds its row if the writer has filled it, and only then.
 pub fn a_sound_look_for_a_filled_row_is_ready()
     ensures ready { (p : Plan) (count : Count) (rows : ℕ → ℕ → Items ℤ) (s : State) (i r : ℕ) → Sound p (wiring_of p count) rows s → i < length p.diagram.tasks → refusal (wiring_of p count) s (Look i r) ≡ None
         → IsClaimFilled (wiring_of p count) s (slice_index_or (declared_task p i).reads r no_read).link → hears (wiring_of p count) s (Look i r) ≡ Ready }
@@ -85,13 +85,13 @@ pub fn a_sound_look_for_a_filled_row_is_ready()
         → hears (wiring_of p count) s (Look i r) ≡ Ready → IsClaimFilled (wiring_of p count) s (slice_index_or (declared_task p i).reads r no_read).link }
 {}
 
-/// An allowed look over a delayed link finds its row.
+/// In a sound state an allowed look over a delayed link finds its row.
 pub fn a_sound_delayed_look_is_ready()
     ensures { (p : Plan) (count : Count) (rows : ℕ → ℕ → Items ℤ) (s : State) (i r : ℕ) → Sound p (wiring_of p count) rows s → i < length p.diagram.tasks → refusal (wiring_of p count) s (Look i r) ≡ None
         → 0 < (link (wiring_of p count) (slice_index_or (declared_task p i).reads r no_read).link).delay → hears (wiring_of p count) s (Look i r) ≡ Ready }
 {}
 
-/// Under `Ranked` each allowed look finds its row.
+/// Under `Ranked` each allowed look finds its row, in each sound state.
 pub fn a_sound_ranked_look_is_ready()
     ensures { (p : Plan) (rows : ℕ → ℕ → Items ℤ) (s : State) (i r : ℕ) → Sound p (wiring_of p Ranked) rows s → i < length p.diagram.tasks → refusal (wiring_of p Ranked) s (Look i r) ≡ None
         → hears (wiring_of p Ranked) s (Look i r) ≡ Ready }

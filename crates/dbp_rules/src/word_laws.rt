@@ -43,7 +43,7 @@ pub fn the_table_has_the_sizes_of_the_wiring()
     ensures { (p : Plan) → sizes_of_wiring (wiring_of p All) ≡ sizes_of p.diagram }
 {}
 
-/// An allowed step loads a word of the table, if it loads one. What it loads is read off the number there, and what it hears
+/// An allowed step loads a word of the table, if it loads one; what it loads is read off the number there. What it hears
 /// is said by what it loads and the part of the task that makes it.
 pub fn a_step_hears_one_word()
     ensures word { (p : Plan) (rows : ℕ → ℕ → Items ℤ) (s : State) (e : Step) (q : TableWord) → Sound p (wiring_of p All) rows s → IsNamed p.diagram e → refusal (wiring_of p All) s e ≡ None

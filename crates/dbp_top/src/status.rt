@@ -34,7 +34,7 @@ const _: () = prove!(
 
 const _: () = prove!(Status::NoMemory as u8 == 6 && Status::TooLarge as u8 == 7);
 
-/// A line for the standard error.
+/// The line that standard error gets for a status.
 pub fn note(status: Status) -> &'static str
     ensures { result.now ≡ note_text status }
 {

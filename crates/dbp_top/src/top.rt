@@ -31,7 +31,7 @@ const _: () = prove!(MAX_DOCUMENT == 1_048_576);
 /// The whole program: compares the words with the commands, reads the source to its end, makes the command's text and
 /// writes it. `run` runs the tasks by `crew`, and `run --turns N` by `turns`, which draws from N. Clause `ends` says for each
 /// status when it comes, and what was read and written then; clause `answered` says the same of a call in which nothing
-/// failed; clause `crews` says for each status which runs the crews then have made (docs/LAYERS.md has them as tables). It
+/// failed; clause `crews` says for each status which runs the crews then have made (docs/PROVED.md has them as tables). It
 /// may wait if it runs tasks, and its clauses hold if it returns.
 pub fn dbp_main<R: Threads + Wait + Sync, S: Source, K: Sink, C: Crew>(
     rt: &R,

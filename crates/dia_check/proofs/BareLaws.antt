@@ -1,13 +1,14 @@
 -- The shape of a document depends on its bare body.
-use Rattle.std.proofs.Common.{◌≡◌, ℕ, zero, suc, ◌+◌, List, [], ◌∷◌, ◌++◌, length, map, drop, slice_get, option_map, Option, Some, refl, sym, ap, ◌∙◌, subst, inl, inr}
-use Rattle.std.specs.List.{flat_map}
+use Rattle.std.proofs.Common.{◌≡◌, ℕ, ◌+◌, List, [], ◌∷◌, ◌++◌, length, map, drop, get_or, slice_get, option_map, Option, Some, refl, sym, ap, ◌∙◌, subst, inl, inr}
 use Rattle.std.specs.Str.{bytes_eq}
 use Rattle.std.proofs.lemmas.Bool.{cases_Bool}
 use Rattle.std.proofs.lemmas.List.{length-map, map-append}
-use Rattle.std.proofs.lemmas.Option.{same_Some, slice_get-map}
+use Rattle.std.proofs.lemmas.Option.{slice_get-map}
 use Rattle.dbp_plan.specs.declared.diagram.Diagram.{Diagram}
 use Rattle.dbp_plan.specs.declared.diagram.Task.{Task}
+use Rattle.dbp_plan.specs.BareDiagrams.{bare_task, bare_diagram}
 use Rattle.dbp_plan.specs.FirstFault.{faults_after, first_fault}
+use Rattle.dbp_plan.proofs.ListMaps.{from-map, same-flat_map}
 use Rattle.dia_lines.specs.declared.item.Part.{Part}
 use Rattle.dia_lines.specs.declared.item.Part.TheVariants as part
 use Rattle.dia_read.specs.declared.document.Body.{Body}
@@ -15,7 +16,7 @@ use Rattle.dia_read.specs.declared.document.Doc.{Doc}
 use Rattle.dia_read.specs.declared.document.RawTask.{RawTask}
 use Rattle.dia_check.specs.declared.fail.LineFault.{LineFault}
 use Rattle.dia_check.specs.declared.shaped.Shaped.{Shaped}
-use Rattle.dia_check.specs.BareBodies.{bare_raw_task, bare_body, bare_task, bare_diagram, HaveSameBareBody, StandOnSameLines}
+use Rattle.dia_check.specs.BareBodies.{bare_raw_task, bare_body, HaveSameBareBody, StandOnSameLines}
 use Rattle.dia_check.specs.Diagrams.{link_of, links_used, firsts, links_of, read_of, task_of, IsTaskOf, IsDiagramOf}
 use Rattle.dia_check.specs.Faults.{decl_fault, task_fault, part_fault, task_faults, line_faults, IsWhole, HasNoShapeFault}
 use Rattle.dia_check.specs.Names.{task_names, port_names}
@@ -39,14 +40,10 @@ same-link : (ts : List RawTask) (reader : ℕ) (p : Part) → link_of (map bare_
 same-link ts reader (part.Read n d w q a) = rw (same-names ts) refl
 same-link ts reader _ = refl
 
-same-lists : {A B : Type 0} (f g : A → List B) → ((x : A) → f x ≡ g x) → (xs : List A) → flat_map f xs ≡ flat_map g xs
-same-lists f g same [] = refl
-same-lists f g same (x ∷ xs) = rw (same x, same-lists f g same xs) refl
-
 same-used : (all : List RawTask) (number : ℕ) (ts : List RawTask) → links_used (map bare_raw_task all) number (map bare_raw_task ts) ≡ links_used all number ts
 same-used all number [] = refl
 same-used all number (t ∷ ts) =
-    rw (same-lists (link_of (map bare_raw_task all) number) (link_of all number) (same-link all number) t.parts, same-used all (number + 1) ts) refl
+    rw (same-flat_map (link_of (map bare_raw_task all) number) (link_of all number) t.parts (λ k d below. same-link all number (get_or t.parts k d)), same-used all (number + 1) ts) refl
 
 same-links : (ts : List RawTask) → links_of (map bare_raw_task ts) ≡ links_of ts
 same-links ts = ap firsts (same-used ts 0 ts)
@@ -59,15 +56,10 @@ same-read ts reader _ = refl
 
 same-task : (body : Body) (number : ℕ) (raw : RawTask) (order : List ℕ) → bare_task (task_of body number raw order) ≡ task_of (bare_body body) number (bare_raw_task raw) order
 same-task body number raw order =
-    rw (same-lists (read_of (map bare_raw_task body.tasks) number) (read_of body.tasks number) (same-read body.tasks number) raw.parts) refl
+    rw (same-flat_map (read_of (map bare_raw_task body.tasks) number) (read_of body.tasks number) raw.parts (λ k d below. same-read body.tasks number (get_or raw.parts k d))) refl
 
 task-is : (body : Body) (number : ℕ) (raw : RawTask) (t : Task) → IsTaskOf body number raw t → IsTaskOf (bare_body body) number (bare_raw_task raw) (bare_task t)
 task-is body number raw t is = record { is = ap bare_task is.is ∙ same-task body number raw t.order; order = is.order }
-
-from-map : {A B : Type 0} (f : A → B) (xs : List A) (i : ℕ) (y : B) → slice_get (map f xs) i ≡ Some y → (x : A) × (slice_get xs i ≡ Some x) × (f x ≡ y)
-from-map f [] i y at = absurd cc
-from-map f (x ∷ xs) zero y at = (x, refl, same_Some (f x) y at)
-from-map f (x ∷ xs) (suc i) y at = from-map f xs i y at
 
 diagram-is : (body : Body) (d : Diagram) → IsDiagramOf body d → IsDiagramOf (bare_body body) (bare_diagram d)
 diagram-is body d is = record {
@@ -88,7 +80,7 @@ pub same-bare-diagrams : HaveOneOrder → (a b : Doc) (s t : Shaped) → HaveSam
 same-bare-diagrams law a b s t same one other =
     let moved : IsDiagramOf (bare_body a.body) (bare_diagram t.diagram) =
     subst (λ (body : Body). IsDiagramOf body (bare_diagram t.diagram)) (sym same) (diagram-is b.body t.diagram other.diagram) in
-    same-diagram law (bare_body a.body) (bare_diagram s.diagram) (bare_diagram t.diagram) (diagram-is a.body s.diagram one.diagram) moved (one.unranked ∙ sym other.unranked)
+    same-diagram law (bare_body a.body) (bare_diagram s.diagram) (bare_diagram t.diagram) (diagram-is a.body s.diagram one.diagram) moved refl
 
 -- ---- faults
 

@@ -311,6 +311,8 @@ module _ (body : Body) (d : Diagram) (printable : IsPrintable body) (faultless :
       prio = for-some t.prio _ fits.line.prio;
       deadline = for-some t.deadline _ fits.line.deadline;
       cost = fits.line.cost;
+      when = λ input there. absurd cc;
+      cpu = omega arith;
       reads = omega (arith, read-count, fits.reads, made-count read_name is_read_part one-read t.parts);
       outs = (omega (arith, out-count, some-out (flat_map out_name t.parts) (whole i t at).outs), omega (arith, out-count, fits.outs, made-count out_name is_out_part one-out t.parts));
       body = omega (arith, parts-count, fits.body);

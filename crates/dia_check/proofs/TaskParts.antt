@@ -96,9 +96,9 @@ base-of-task body number t order =
 
 pub assembled : (body : Body) (number : ℕ) (t : RawTask) (w : Work) (g : Given) (reads : List Read) (clock : Clock) → IsWorkOf t w → IsGivenTo body t.parts g → reads ≡ flat_map (read_of body.tasks number) t.parts
     → clock ≡ clock_of (flat_map event_name body.decls) t.clock
-    → IsTaskOf body number t (record { name = t.name; clock = clock; prio = t.prio; deadline = t.deadline; cost = t.cost; states = g.states; senses = g.senses; reads = reads; lets = w.lets; order = w.order; nexts = w.nexts; outs = w.outs })
+    → IsTaskOf body number t (record { name = t.name; clock = clock; when = None; prio = t.prio; deadline = t.deadline; cost = t.cost; cpu = 0; states = g.states; senses = g.senses; reads = reads; lets = w.lets; order = w.order; nexts = w.nexts; outs = w.outs })
 assembled body number t w g reads clock work given read is =
-    let made : Task = record { name = t.name; clock = clock; prio = t.prio; deadline = t.deadline; cost = t.cost; states = g.states; senses = g.senses; reads = reads; lets = w.lets; order = w.order; nexts = w.nexts; outs = w.outs } in
+    let made : Task = record { name = t.name; clock = clock; when = None; prio = t.prio; deadline = t.deadline; cost = t.cost; cpu = 0; states = g.states; senses = g.senses; reads = reads; lets = w.lets; order = w.order; nexts = w.nexts; outs = w.outs } in
     let same : made ≡ task_of body number t w.order = rw (is, given.states, given.senses, read, work.lets, work.nexts, work.outs) refl in
     record {
       is = same;

@@ -1,8 +1,6 @@
 -- What of a document its shape depends on.
 use Rattle.std.specs.Prelude.{◌≡◌, map, None}
-use Rattle.dbp_plan.specs.declared.diagram.Diagram.{Diagram}
 use Rattle.dbp_plan.specs.declared.diagram.Policy.TheVariants.{Fp}
-use Rattle.dbp_plan.specs.declared.diagram.Task.{Task}
 use Rattle.dia_read.specs.declared.document.Body.{Body}
 use Rattle.dia_read.specs.declared.document.Doc.{Doc}
 use Rattle.dia_read.specs.declared.document.RawTask.{RawTask}
@@ -20,14 +18,6 @@ bare_body body = record body {
   trace = None;
   script = None;
 }
-
--- the task without prio and deadline
-abbrev pub bare_task : Task → Task
-bare_task t = record t { prio = None; deadline = None }
-
--- the diagram without policy, end, prios and deadlines
-abbrev pub bare_diagram : Diagram → Diagram
-bare_diagram d = record d { policy = Fp; until = 0; tasks = map bare_task d.tasks }
 
 -- the documents have the same declarations, and tasks of the same names, clocks, costs and parts
 abbrev pub HaveSameBareBody : Doc → Doc → Type 0

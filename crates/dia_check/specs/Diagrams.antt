@@ -1,5 +1,5 @@
 -- The diagram that a document says.
-use Rattle.std.specs.Prelude.{◌≡◌, ℕ, ◌+◌, Bool, not, ◌==◌, ◌&&◌, List, [], ◌∷◌, ◌++◌, length, filter, slice_get, Some}
+use Rattle.std.specs.Prelude.{◌≡◌, ℕ, ◌+◌, Bool, not, ◌==◌, ◌&&◌, List, [], ◌∷◌, ◌++◌, length, filter, slice_get, Some, None}
 use Rattle.std.specs.List.{flat_map, position_or_len}
 use Rattle.dbp_plan.specs.declared.diagram.Clock.{Clock}
 use Rattle.dbp_plan.specs.declared.diagram.Clock.TheVariants as clock
@@ -99,9 +99,11 @@ abbrev pub task_of : Body → ℕ → RawTask → List ℕ → Task
 task_of body number t order = record {
   name = t.name;
   clock = clock_of (flat_map event_name body.decls) t.clock;
+  when = None;
   prio = t.prio;
   deadline = t.deadline;
   cost = t.cost;
+  cpu = 0;
   states = flat_map state_of t.parts;
   senses = flat_map (sense_of (flat_map input_name body.decls)) t.parts;
   reads = flat_map (read_of body.tasks number) t.parts;

@@ -6,8 +6,9 @@ ghost use Rattle.dia_read.specs.Documents.{with_script};
 ghost use Rattle.dia_read.specs.Printable.{HasItemLines};
 ghost use Rattle.dia_check.specs.declared.fail.CheckCode.{CheckCode};
 ghost use Rattle.dia_check.specs.declared.shaped.Shaped.{Shaped};
+ghost use Rattle.dbp_plan.specs.BareDiagrams.{bare_diagram};
 ghost use Rattle.dbp_plan.specs.declared.diagram.Diagram.{Diagram};
-ghost use Rattle.dia_check.specs.BareBodies.{bare_diagram, HaveSameBareBody, StandOnSameLines};
+ghost use Rattle.dia_check.specs.BareBodies.{HaveSameBareBody, StandOnSameLines};
 ghost use Rattle.dia_check.specs.Checks.{IsCheckedOf, IsCheckFault};
 ghost use Rattle.dia_check.specs.Faults.{IsShapeFault, IsSameCode, HasNoShapeFault, line_faults};
 ghost use Rattle.dia_check.specs.Shapes.{IsShapeOf};
@@ -32,9 +33,9 @@ pub fn one_shape_fault()
 {}
 
 /// A shape depends on the declarations and on the names, clocks, costs and parts of tasks alone. So documents that differ
-/// in policy, end, prios, deadlines, trace, script and lines have the same diagram except for the first four of these. If
-/// their items stand on the same lines, their lines have the same faults, and one has a fault of names and shape exactly if
-/// the other has one.
+/// in policy, end, prios, deadlines, trace, script and lines have the same diagram except for the first four of these; a
+/// shape has no ranks yet. If their items stand on the same lines, their lines have the same faults, and one has a fault of
+/// names and shape exactly if the other has one.
 pub fn bare_bodies_decide_shapes()
     ensures diagram { (a b : Doc) (s t : Shaped) → HaveSameBareBody a b
         → IsShapeOf a s → IsShapeOf b t → bare_diagram s.diagram ≡ bare_diagram t.diagram }

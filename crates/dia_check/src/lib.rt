@@ -1,4 +1,12 @@
 //! The checking of a document: the diagram that it says, with ranks, or its first fault.
+//!
+//! `IsDiagramOf` says the diagram field by field: a name is its first index in its list, an expression the same tree
+//! over indexes, the links are those of the `read` lines, each once, and lets are ordered from the front. So a document
+//! determines its diagram. The faults of its lines are a list, each line tried after those before it (`line_faults`),
+//! of which the first counts; faults of whole tasks (`HasTaskFault`) and of ranks (`rank_faults`) come after all of
+//! them. The lists mean what they should if each item has a line (`HasItemLines`), which `read_doc` ensures. That the
+//! diagram of a document without fault is closed follows from this and from the limits that reading tried. A fault that
+//! is found before memory is taken is returned whatever memory there is.
 #![tactic(auto)]
 
 mod fail;

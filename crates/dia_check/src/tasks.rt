@@ -132,9 +132,11 @@ fn task_of(
     Ok(Task {
         name: raw.name,
         clock: clock_of(scope, &raw.clock),
+        when: None,
         prio: raw.prio,
         deadline: raw.deadline,
         cost: raw.cost,
+        cpu: 0,
         states: given.states,
         senses: given.senses,
         reads,

@@ -1,4 +1,9 @@
 //! Expressions on the tokens of a line.
+//!
+//! The grammar is a relation, `Spells`, between tokens and trees, with a rule for each form and no order of trial;
+//! tokens have one tree at most. The code descends level by level and adds nodes in post-order, so the list of nodes is
+//! the tree. `expression` asks for at most 64 node tokens and 64 open parentheses, which `dia_lines` tries before it
+//! calls: the first is the room of the list, the second bounds the stack.
 #![tactic(auto)]
 
 mod counts;

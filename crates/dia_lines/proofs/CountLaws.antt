@@ -169,7 +169,7 @@ counted-task before h t c a (full fits below) =
 
 pub counted-line : (before : List Statement) (s : Statement) (l : Line) (c : Counts) → AreCounts before c → IsKept s l → Counted before s (with_line c l)
 counted-line before nothing line.Nothing c a k = (refl, same-counts before (nothing ∷ before) c refl refl refl refl refl refl refl a)
-counted-line before header line.Header c a k = (refl, same-counts before (header ∷ before) c refl refl refl refl refl refl refl a)
+counted-line before (header v) (line.Header w) c a k = (refl, same-counts before (header v ∷ before) c refl refl refl refl refl refl refl a)
 counted-line before (policy p) (line.Policy q) c a k = (refl, same-counts before (policy p ∷ before) c refl refl refl refl refl refl refl a)
 counted-line before (until p) (line.Until q) c a k = (refl, same-counts before (until p ∷ before) c refl refl refl refl refl refl refl a)
 counted-line before trace line.Trace c a k = (refl, same-counts before (trace ∷ before) c refl refl refl refl refl refl refl a)

@@ -3,6 +3,7 @@ use Rattle.std.proofs.Common.{◌≡◌, ℕ, ℤ, pos, Bool, true, false, cond,
 use Rattle.std.specs.Option.{option_map}
 use Rattle.std.specs.Ordering.{int_eq}
 use Rattle.std.proofs.lemmas.Bool.Decides.{Decides-int_eq}
+use Rattle.std.proofs.lemmas.Option.{same_Some}
 use Rattle.dbp_plan.specs.Tree.{Tree, number}
 use Rattle.dia_tokens.specs.declared.token.Token.{Token}
 use Rattle.dia_tokens.specs.declared.token.Token.TheVariants.{Name, Number, Symbol, Word}
@@ -13,17 +14,81 @@ use Rattle.dia_exprs.proofs.AllTokens.{one-spelled}
 use Rattle.dia_exprs.specs.Counts.{node_count, depth_of}
 use Rattle.dia_lines.specs.declared.place.Place.{Place}
 use Rattle.dia_lines.specs.declared.place.Place.TheVariants.{Header, Policy, Until, Declarations, Body, Trace, Script, Ended}
-use Rattle.dia_lines.specs.Statements.{Statement, Clock, IsStatement, SpellsClock, SpellsOption, SpellsAt}
+use Rattle.dia_lines.specs.Statements.{Statement, TaskHeader, Clock, IsStatement, SpellsClock, SpellsWhen, SpellsOption, SpellsAt}
 use Rattle.dia_lines.specs.Statements as st
 use Rattle.dia_lines.specs.Delays.{SpellsDelay, direct, delayed, delayed_by, delay_at}
-use Rattle.dia_lines.specs.Places.{leads}
+use Rattle.dia_lines.specs.Places.{leads, is_of_version}
 use Rattle.dia_lines.specs.Lines.{expression_of}
-use Rattle.dia_lines.specs.Forms.{Shape, plain, of_let, of_next, of_out, Completes, tokens_of, example_of, offset_at, prio_at, deadline_at, cost_alone, tick_alone, word_alone, ending_at, header_at, policy_at, until_at, input_at, event_at, options_at, task_at, state_at, sense_at, port_read_at, read_at, let_at, next_at, out_at, declared_at, line_at, shape_at}
+use Rattle.dia_lines.specs.Forms.{Shape, plain, of_let, of_next, of_out, Completes, tokens_of, example_of, offset_at, clock_at, when_at, prio_at, deadline_at, cost_end, tick_alone, word_alone, ending_at, header_at, policy_at, until_at, input_at, event_at, options_at, task_at, state_at, sense_at, port_read_at, read_at, let_at, next_at, out_at, declared_at, line_at, shape_at}
 
 -- the statement is of the form that was found
 abbrev pub Inverts : Statement → Option Shape → Type 0
 Inverts s None = ⊥
 Inverts s (Some f) = Completes s f
+
+-- ---- the parts of a task's line
+
+-- Which of the optional parts the tokens begin with. They stand in the order of these numbers.
+abbrev part_of : List Token → ℕ
+part_of (Word word.From ∷ ts) = 0
+part_of (Word word.When ∷ ts) = 1
+part_of (Word word.Prio ∷ ts) = 2
+part_of (Word word.Deadline ∷ ts) = 3
+part_of _ = 4
+
+-- before the tokens of a later part a part is left out
+no-offset : (ts : List Token) → 1 ≤ part_of ts → offset_at ts ≡ (pos 0, ts)
+no-offset (Word word.From ∷ Number offset ∷ ts) later = absurd (omega arith)
+no-offset ts later = refl
+
+no-when : (ts : List Token) → 2 ≤ part_of ts → when_at ts ≡ (None, ts)
+no-when (Word word.When ∷ Name name ∷ ts) later = absurd (omega arith)
+no-when ts later = refl
+
+no-prio : (ts : List Token) → 3 ≤ part_of ts → prio_at ts ≡ (None, ts)
+no-prio (Word word.Prio ∷ Number value ∷ ts) later = absurd (omega arith)
+no-prio ts later = refl
+
+no-deadline : (ts : List Token) → 4 ≤ part_of ts → deadline_at ts ≡ (None, ts)
+no-deadline (Word word.Deadline ∷ Number value ∷ ts) later = absurd (omega arith)
+no-deadline ts later = refl
+
+-- each part is found at the front of tokens of later parts, and stands before them
+clock-found : (cs ts : List Token) (clock : Clock) → SpellsClock cs clock → 1 ≤ part_of ts → clock_at (cs ++ ts) ≡ Some (clock, ts)
+clock-found cs ts clock (st.from_zero period) later = rw (no-offset ts later) refl
+clock-found cs ts clock (st.from_offset period offset) later = refl
+clock-found cs ts clock (st.with_event event) later = refl
+
+when-found : (ws ts : List Token) (when : Option (List ℕ)) → SpellsWhen ws when → 2 ≤ part_of ts → (when_at (ws ++ ts) ≡ (when, ts)) × (1 ≤ part_of (ws ++ ts))
+when-found ws ts when st.always later = (no-when ts later, omega arith)
+when-found ws ts when (st.guarded name) later = (refl, omega arith)
+
+prio-found : (ps ts : List Token) (prio : Option ℤ) → SpellsOption word.Prio ps prio → 3 ≤ part_of ts → (prio_at (ps ++ ts) ≡ (prio, ts)) × (2 ≤ part_of (ps ++ ts))
+prio-found ps ts prio st.left_out later = (no-prio ts later, omega arith)
+prio-found ps ts prio (st.given value) later = (refl, omega arith)
+
+deadline-found : (ds ts : List Token) (deadline : Option ℤ) → SpellsOption word.Deadline ds deadline → 4 ≤ part_of ts
+    → (deadline_at (ds ++ ts) ≡ (deadline, ts)) × (3 ≤ part_of (ds ++ ts))
+deadline-found ds ts deadline st.left_out later = (no-deadline ts later, omega arith)
+deadline-found ds ts deadline (st.given value) later = (refl, omega arith)
+
+cost-found : (cost : ℤ) (us : List Token) (cpu : Option ℤ) → SpellsOption word.Cpu us cpu → cost_end (Word word.Cost ∷ Number cost ∷ us) ≡ Some (cost, cpu)
+cost-found cost us cpu st.left_out = refl
+cost-found cost us cpu (st.given value) = refl
+
+in_five : (a b c d e : List Token) → a ++ (b ++ (c ++ (d ++ e))) ≡ a ++ b ++ c ++ d ++ e
+in_five a b c d e = simp append_assoc
+
+task-found : (h : TaskHeader) (cs ws ps ds us : List Token) → SpellsClock cs h.clock → SpellsWhen ws h.when → SpellsOption word.Prio ps h.prio → SpellsOption word.Deadline ds h.deadline
+    → SpellsOption word.Cpu us h.cpu → task_at (Name h.name ∷ (cs ++ ws ++ ps ++ ds ++ Word word.Cost ∷ Number h.cost ∷ us)) ≡ Some (plain (st.task h))
+unfolding task_at options_at
+task-found h cs ws ps ds us c w p d u =
+    let last = Word word.Cost ∷ Number h.cost ∷ us in
+    let deadline = deadline-found ds last h.deadline d (omega arith) in
+    let prio = prio-found ps (ds ++ last) h.prio p deadline.1 in
+    let when = when-found ws (ps ++ (ds ++ last)) h.when w prio.1 in
+    let clock = clock-found cs (ws ++ (ps ++ (ds ++ last))) h.clock c when.1 in
+    rw (← in_five cs ws ps ds last, clock, when.0, prio.0, deadline.0, cost-found h.cost us h.cpu u) refl
 
 -- each statement of the tokens has their form
 pub Inverts-shape : (ts : List Token) (s : Statement) → IsStatement ts s → Inverts s (shape_at ts)
@@ -35,22 +100,7 @@ Inverts-shape ts s st.earliest_deadline = refl
 Inverts-shape ts s (st.an_until end) = refl
 Inverts-shape ts s (st.an_input name first) = refl
 Inverts-shape ts s (st.an_event name) = refl
-Inverts-shape ts s (st.a_task name cs ps ds clock prio deadline cost c p d) = at_task c p d
-  where
-    at_task : {cs ps ds : List Token} {clock : Clock} {prio deadline : Option ℤ} → SpellsClock cs clock → SpellsOption word.Prio ps prio → SpellsOption word.Deadline ds deadline
-        → Inverts (st.task (record { name = name; clock = clock; prio = prio; deadline = deadline; cost = cost })) (task_at (Name name ∷ (cs ++ ps ++ ds ++ Word word.Cost ∷ Number cost ∷ [])))
-    at_task (st.from_zero period) st.left_out st.left_out = refl
-    at_task (st.from_zero period) st.left_out (st.given deadline) = refl
-    at_task (st.from_zero period) (st.given prio) st.left_out = refl
-    at_task (st.from_zero period) (st.given prio) (st.given deadline) = refl
-    at_task (st.from_offset period offset) st.left_out st.left_out = refl
-    at_task (st.from_offset period offset) st.left_out (st.given deadline) = refl
-    at_task (st.from_offset period offset) (st.given prio) st.left_out = refl
-    at_task (st.from_offset period offset) (st.given prio) (st.given deadline) = refl
-    at_task (st.with_event event) st.left_out st.left_out = refl
-    at_task (st.with_event event) st.left_out (st.given deadline) = refl
-    at_task (st.with_event event) (st.given prio) st.left_out = refl
-    at_task (st.with_event event) (st.given prio) (st.given deadline) = refl
+Inverts-shape ts s (st.a_task h cs ws ps ds us c w p d u) = rw (task-found h cs ws ps ds us c w p d u) refl
 Inverts-shape ts s (st.a_state name first) = refl
 Inverts-shape ts s (st.a_sense name from) = refl
 Inverts-shape ts s (st.a_read name writer port pre ats delay at d a) = at_read d a
@@ -84,8 +134,8 @@ Builds-header : (ts : List Token) → Builds (Word word.Dbp ∷ ts) (header_at t
 unfolding header_at
 Builds-header (Number value ∷ []) = by_value (int_eq value (pos 1)) refl
   where
-    by_value : (b : Bool) → int_eq value (pos 1) ≡ b → Builds (Word word.Dbp ∷ Number value ∷ []) (cond b (Some (plain st.header)) None)
-    by_value true e = subst (λ (v : ℤ). IsStatement (Word word.Dbp ∷ Number v ∷ []) st.header) (sym ((Decides-int_eq value (pos 1)).0 e)) st.a_header
+    by_value : (b : Bool) → int_eq value (pos 1) ≡ b → Builds (Word word.Dbp ∷ Number value ∷ []) (cond b (Some (plain (st.header 1))) None)
+    by_value true e = subst (λ (v : ℤ). IsStatement (Word word.Dbp ∷ Number v ∷ []) (st.header 1)) (sym ((Decides-int_eq value (pos 1)).0 e)) st.a_header
     by_value false e = tt
 Builds-header _ = tt
 
@@ -151,6 +201,10 @@ offset-split : (period : ℤ) (ts : List Token)
 offset-split period (Word word.From ∷ Number offset ∷ ts) = (Word word.Every ∷ Number period ∷ Word word.From ∷ Number offset ∷ [], refl, st.from_offset period offset)
 offset-split period ts = (Word word.Every ∷ Number period ∷ [], refl, st.from_zero period)
 
+when-split : (ts : List Token) → (ws : List Token) × (ts ≡ ws ++ (when_at ts).1) × SpellsWhen ws (when_at ts).0
+when-split (Word word.When ∷ Name name ∷ ts) = (Word word.When ∷ Name name ∷ [], refl, st.guarded name)
+when-split ts = ([], refl, st.always)
+
 prio-split : (ts : List Token) → (ps : List Token) × (ts ≡ ps ++ (prio_at ts).1) × SpellsOption word.Prio ps (prio_at ts).0
 prio-split (Word word.Prio ∷ Number value ∷ ts) = (Word word.Prio ∷ Number value ∷ [], refl, st.given value)
 prio-split ts = ([], refl, st.left_out)
@@ -159,29 +213,46 @@ deadline-split : (ts : List Token) → (ds : List Token) × (ts ≡ ds ++ (deadl
 deadline-split (Word word.Deadline ∷ Number value ∷ ts) = (Word word.Deadline ∷ Number value ∷ [], refl, st.given value)
 deadline-split ts = ([], refl, st.left_out)
 
-cost-is : (ts : List Token) (cost : ℤ) → cost_alone ts ≡ Some cost → ts ≡ Word word.Cost ∷ Number cost ∷ []
-cost-is (Word word.Cost ∷ Number value ∷ []) cost e = cc
-cost-is _ cost e = absurd cc
-
-in_four : (a b c d : List Token) → a ++ (b ++ (c ++ d)) ≡ a ++ b ++ c ++ d
-in_four a b c d = simp append_assoc
+end-split : (ts : List Token) (end : ℤ × Option ℤ) → cost_end ts ≡ Some end → (us : List Token) × (ts ≡ Word word.Cost ∷ Number end.0 ∷ us) × SpellsOption word.Cpu us end.1
+end-split (Word word.Cost ∷ Number cost ∷ []) end e =
+    let same : (cost, None) ≡ end = same_Some _ end e in
+    subst (λ (o : ℤ × Option ℤ). (us : List Token) × (Word word.Cost ∷ Number cost ∷ [] ≡ Word word.Cost ∷ Number o.0 ∷ us) × SpellsOption word.Cpu us o.1) same ([], refl, st.left_out)
+end-split (Word word.Cost ∷ Number cost ∷ Word word.Cpu ∷ Number cpu ∷ []) end e =
+    let same : (cost, Some cpu) ≡ end = same_Some _ end e in
+    subst (λ (o : ℤ × Option ℤ). (us : List Token) × (Word word.Cost ∷ Number cost ∷ Word word.Cpu ∷ Number cpu ∷ [] ≡ Word word.Cost ∷ Number o.0 ∷ us) × SpellsOption word.Cpu us o.1) same
+    (Word word.Cpu ∷ Number cpu ∷ [], refl, st.given cpu)
+end-split _ end e = absurd cc
 
 Builds-options : (name : List ℕ) (cs : List Token) (clock : Clock) → SpellsClock cs clock → (ts : List Token) → Builds (Word word.Task ∷ Name name ∷ (cs ++ ts)) (options_at name clock ts)
 unfolding options_at
-Builds-options name cs clock c ts = by_cost (cost_alone (deadline_at (prio_at ts).1).1) refl
+Builds-options name cs clock c ts = by_end (cost_end d.1) refl
   where
-    by_cost : (o : Option ℤ) → cost_alone (deadline_at (prio_at ts).1).1 ≡ o
-        → Builds (Word word.Task ∷ Name name ∷ (cs ++ ts)) (option_map (λ cost. plain (st.task (record { name = name; clock = clock; prio = (prio_at ts).0; deadline = (deadline_at (prio_at ts).1).0; cost = cost }))) o)
-    by_cost None e = tt
-    by_cost (Some cost) e =
-        let ps = prio-split ts in
-        let ds = deadline-split (prio_at ts).1 in
-        let last = Word word.Cost ∷ Number cost ∷ [] in
-        let all : ts ≡ ps.0 ++ (ds.0 ++ last) =
-        ps.1 ∙ ap (λ (us : List Token). ps.0 ++ us) (ds.1 ∙ ap (λ (us : List Token). ds.0 ++ us) (cost-is (deadline_at (prio_at ts).1).1 cost e)) in
-        let whole : cs ++ ps.0 ++ ds.0 ++ last ≡ cs ++ ts = sym (ap (λ (us : List Token). cs ++ us) all ∙ in_four cs ps.0 ds.0 last) in
-        subst (λ (us : List Token). IsStatement (Word word.Task ∷ Name name ∷ us) (st.task (record { name = name; clock = clock; prio = (prio_at ts).0; deadline = (deadline_at (prio_at ts).1).0; cost = cost }))) whole
-        (st.a_task name cs ps.0 ds.0 clock (prio_at ts).0 (deadline_at (prio_at ts).1).0 cost c ps.2 ds.2)
+    w : Option (List ℕ) × List Token
+    w = when_at ts
+
+    p : Option ℤ × List Token
+    p = prio_at w.1
+
+    d : Option ℤ × List Token
+    d = deadline_at p.1
+
+    -- the line with this end
+    line_of : ℤ × Option ℤ → TaskHeader
+    line_of end = record { name = name; clock = clock; when = w.0; prio = p.0; deadline = d.0; cost = end.0; cpu = end.1 }
+
+    by_end : (o : Option (ℤ × Option ℤ)) → cost_end d.1 ≡ o → Builds (Word word.Task ∷ Name name ∷ (cs ++ ts)) (option_map (λ end. plain (st.task (line_of end))) o)
+    by_end None e = tt
+    by_end (Some end) e =
+        let ws = when-split ts in
+        let ps = prio-split w.1 in
+        let ds = deadline-split p.1 in
+        let us = end-split d.1 end e in
+        let last = Word word.Cost ∷ Number end.0 ∷ us.0 in
+        let all : ts ≡ ws.0 ++ (ps.0 ++ (ds.0 ++ last)) =
+        ws.1 ∙ ap (λ (us : List Token). ws.0 ++ us) (ps.1 ∙ ap (λ (us : List Token). ps.0 ++ us) (ds.1 ∙ ap (λ (us : List Token). ds.0 ++ us) us.1)) in
+        let whole : cs ++ ws.0 ++ ps.0 ++ ds.0 ++ last ≡ cs ++ ts = sym (ap (λ (us : List Token). cs ++ us) all ∙ in_five cs ws.0 ps.0 ds.0 last) in
+        subst (λ (us : List Token). IsStatement (Word word.Task ∷ Name name ∷ us) (st.task (line_of end))) whole
+        (st.a_task (line_of end) cs ws.0 ps.0 ds.0 us.0 c ws.2 ps.2 ds.2 us.2)
 
 Builds-task : (ts : List Token) → Builds (Word word.Task ∷ ts) (task_at ts)
 unfolding task_at
@@ -332,3 +403,10 @@ leads-example place (plain u) s c = ap (leads place) c
 leads-example place (of_let name us) s c = ap (leads place) c.1 ∙ leads-let place name c.0 (number (pos 0))
 leads-example place (of_next name us) s c = ap (leads place) c.1 ∙ leads-next place name c.0 (number (pos 0))
 leads-example place (of_out name first us) s c = ap (leads place) c.1 ∙ leads-out place name first c.0 (number (pos 0))
+
+-- and is of the versions that each is of
+pub version-example : (version : ℕ) (f : Shape) (s : Statement) → Completes s f → is_of_version version s ≡ is_of_version version (example_of f)
+version-example version (plain u) s c = ap (is_of_version version) c
+version-example version (of_let name us) s c = ap (is_of_version version) c.1
+version-example version (of_next name us) s c = ap (is_of_version version) c.1
+version-example version (of_out name first us) s c = ap (is_of_version version) c.1

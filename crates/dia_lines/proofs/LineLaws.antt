@@ -12,7 +12,7 @@ use Rattle.dia_lines.specs.declared.fault.ReadCode.{ReadCode}
 use Rattle.dia_lines.specs.declared.place.Place.{Place}
 use Rattle.dia_lines.specs.declared.place.Place.TheVariants.{Trace, Script}
 use Rattle.dia_lines.specs.Statements.{Statement}
-use Rattle.dia_lines.specs.Lines.{Said, says, step, place_after, statements, keeps_lines, token_fault, code_of, limit_fault, MayStand, SaysStatement, SaysInScript, no_step, script_ends, a_step, Reads, of_the_diagram, of_the_trace, of_the_script, HasTextFault, HasDiagramFault, of_the_text, of_the_tokens, no_statement, past_a_limit, HasFault, in_the_diagram, in_the_trace, in_the_script}
+use Rattle.dia_lines.specs.Lines.{Said, says, step, place_after, statements, version_after, keeps_lines, token_fault, code_of, limit_fault, MayStand, SaysStatement, SaysInScript, no_step, script_ends, a_step, Reads, of_the_diagram, of_the_trace, of_the_script, HasTextFault, HasDiagramFault, of_the_text, of_the_tokens, no_statement, past_a_limit, HasFault, in_the_diagram, in_the_trace, in_the_script}
 use Rattle.dia_lines.proofs.FormLaws.{one-statement}
 use Rattle.dia_lines.proofs.TraceLaws.{one-in-trace, no-fault-in-trace}
 
@@ -47,13 +47,13 @@ no-fault-in-script line a code s f = let t = tokens-in-script line a s in no-tex
 
 -- ---- lines of the diagram
 
-one-standing : (place : Place) (ts : List Token) (s u : Statement) → MayStand place ts s → MayStand place ts u → s ≡ u
-one-standing place ts s u a b = one-statement ts s u a.form b.form
+one-standing : (version : ℕ) (place : Place) (ts : List Token) (s u : Statement) → MayStand version place ts s → MayStand version place ts u → s ≡ u
+one-standing version place ts s u a b = one-statement ts s u a.form b.form
 
 one-in-diagram : (before : List Said) (line : List ℕ) (s u : Statement) → SaysStatement before line s → SaysStatement before line u → s ≡ u
 one-in-diagram before line s u a b =
     let same : b.tokens ≡ a.tokens = one-list line b.tokens a.tokens b.spelled a.spelled in
-    one-standing (place_after before) a.tokens s u a.stands (subst (λ ts. MayStand (place_after before) ts u) same b.stands)
+    one-standing (version_after before) (place_after before) a.tokens s u a.stands (subst (λ ts. MayStand (version_after before) (place_after before) ts u) same b.stands)
 
 no-fault-in-diagram : (before : List Said) (line : List ℕ) (s : Statement) (code : ReadCode) → SaysStatement before line s → HasDiagramFault before line code → ⊥
 no-fault-in-diagram before line s code a (of_the_text c f) = no-text-fault line a.tokens c a.spelled f
@@ -63,10 +63,10 @@ no-fault-in-diagram before line s code a (of_the_tokens ts c t f) =
     let free = a.faultless in cc
 no-fault-in-diagram before line s code a (no_statement ts t f n) =
     let same : a.tokens ≡ ts = one-list line a.tokens ts a.spelled t in
-    n s (subst (λ us. MayStand (place_after before) us s) same a.stands)
+    n s (subst (λ us. MayStand (version_after before) (place_after before) us s) same a.stands)
 no-fault-in-diagram before line s code a (past_a_limit ts u c t f m l) =
     let same : a.tokens ≡ ts = one-list line a.tokens ts a.spelled t in
-    let is : s ≡ u = one-standing (place_after before) ts s u (subst (λ us. MayStand (place_after before) us s) same a.stands) m in
+    let is : s ≡ u = one-standing (version_after before) (place_after before) ts s u (subst (λ us. MayStand (version_after before) (place_after before) us s) same a.stands) m in
     let there : limit_fault (statements before) s ≡ Some c = ap (limit_fault (statements before)) is ∙ l in
     let free = a.within in cc
 
@@ -87,14 +87,14 @@ one-fault-in-diagram before line c d (no_statement ts t f n) (of_the_tokens us _
     let e : token_fault (place_after before) us ≡ None = ap (token_fault (place_after before)) (one-list line us ts u t) ∙ f in absurd cc
 one-fault-in-diagram before line c d (no_statement ts t f n) (no_statement us u g o) = refl
 one-fault-in-diagram before line c d (no_statement ts t f n) (past_a_limit us w _ u g m l) =
-    absurd (n w (subst (λ vs. MayStand (place_after before) vs w) (one-list line us ts u t) m))
+    absurd (n w (subst (λ vs. MayStand (version_after before) (place_after before) vs w) (one-list line us ts u t) m))
 one-fault-in-diagram before line c d (past_a_limit ts s _ t f m l) (of_the_text _ g) = absurd (no-text-fault line ts d t g)
 one-fault-in-diagram before line c d (past_a_limit ts s _ t f m l) (of_the_tokens us _ u g) =
     let e : token_fault (place_after before) us ≡ None = ap (token_fault (place_after before)) (one-list line us ts u t) ∙ f in absurd cc
 one-fault-in-diagram before line c d (past_a_limit ts s _ t f m l) (no_statement us u g n) =
-    absurd (n s (subst (λ vs. MayStand (place_after before) vs s) (one-list line ts us t u) m))
+    absurd (n s (subst (λ vs. MayStand (version_after before) (place_after before) vs s) (one-list line ts us t u) m))
 one-fault-in-diagram before line c d (past_a_limit ts s _ t f m l) (past_a_limit us w _ u g n k) =
-    let is : s ≡ w = one-standing (place_after before) us s w (subst (λ vs. MayStand (place_after before) vs s) (one-list line ts us t u) m) n in
+    let is : s ≡ w = one-standing (version_after before) (place_after before) us s w (subst (λ vs. MayStand (version_after before) (place_after before) vs s) (one-list line ts us t u) m) n in
     same_Some c d (sym l ∙ ap (limit_fault (statements before)) is ∙ k)
 
 -- ---- any line

@@ -16,9 +16,9 @@ use Rattle.dia_lines.specs.Moves.{place_after_line}
 abbrev LeadsTo : Statement → Place → Type 0
 LeadsTo s target = (p q : Place) → leads p s ≡ Some q → q ≡ target
 
-leads-header : LeadsTo header Policy
-leads-header Header q e = same_Some q Policy (sym e)
-leads-header p q e = absurd cc
+leads-header : (version : _) → LeadsTo (header version) Policy
+leads-header version Header q e = same_Some q Policy (sym e)
+leads-header version p q e = absurd cc
 
 leads-policy : (x : _) → LeadsTo (policy x) Until
 leads-policy x Policy q e = same_Some q Until (sym e)
@@ -85,7 +85,7 @@ leads-nothing Ended q e = same_Some q Ended (sym e)
 
 pub leads-line : (p q : Place) (s : Statement) (l : Line) → leads p s ≡ Some q → IsKept s l → q ≡ place_after_line p l
 leads-line p q nothing line.Nothing e k = leads-nothing p q e
-leads-line p q header line.Header e k = leads-header p q e
+leads-line p q (header version) (line.Header v) e k = leads-header version p q e
 leads-line p q (policy x) (line.Policy y) e k = leads-policy x p q e
 leads-line p q (until x) (line.Until y) e k = leads-until x p q e
 leads-line p q (input n v) (line.Decl d) e k = leads-declaration (input n v) refl p q e

@@ -28,14 +28,14 @@ use Rattle.dia_lines.specs.Answers.{error_of_text, error_of_expression, Refuses,
 use Rattle.dia_lines.specs.Counting.{Counted, with_line}
 use Rattle.dia_lines.specs.Limits.{numbers_fit}
 use Rattle.dia_lines.specs.Positions.{AreCounts, IsAfter}
-use Rattle.dia_lines.specs.Statements.{Statement, nothing, script, done}
-use Rattle.dia_lines.specs.Lines.{Said, says, step, place_after, statements, keeps_lines, token_fault, limit_fault, MayStand, SaysStatement, SaysInTrace, an_empty_row, trace_ends, script_begins, a_row, SaysInScript, no_step, script_ends, a_step, Reads, of_the_diagram, of_the_trace, of_the_script, HasDiagramFault, of_the_text, of_the_tokens, no_statement, past_a_limit, HasFault, in_the_diagram, in_the_trace, in_the_script}
+use Rattle.dia_lines.specs.Statements.{Statement, nothing, header, script, done}
+use Rattle.dia_lines.specs.Lines.{Said, says, step, place_after, version_after, statements, keeps_lines, token_fault, limit_fault, MayStand, SaysStatement, SaysInTrace, an_empty_row, trace_ends, script_begins, a_row, SaysInScript, no_step, script_ends, a_step, Reads, of_the_diagram, of_the_trace, of_the_script, HasDiagramFault, of_the_text, of_the_tokens, no_statement, past_a_limit, HasFault, in_the_diagram, in_the_trace, in_the_script}
 use Rattle.dia_lines.specs.Places.{leads}
 use Rattle.dia_lines.specs.Sections.{is_trace_byte}
 use Rattle.dia_lines.proofs.CountLaws.{counted-line}
 use Rattle.dia_lines.proofs.PlaceLaws.{leads-line}
 use Rattle.dia_lines.specs.Held.{IsHeld, IsKept}
-use Rattle.dia_lines.specs.Moves.{place_after_line}
+use Rattle.dia_lines.specs.Moves.{place_after_line, version_after_line}
 
 -- ---- refusals of other types
 
@@ -80,26 +80,33 @@ module _ (before : List Said) (position : Position) (after : IsAfter before posi
     faultless : token_fault (place_after before) ts ≡ None
     faultless = rw (← after.place) free
 
-    pub diagram-found : (l : Line) (counts : Counts) → (s : Statement) × MayStand position.place ts s × (numbers_fit s ≡ true) × IsKept s l → with_line position.counts l ≡ Ok counts
+    -- a statement that may stand at the position may stand after the lines, and none other
+    there : (s : Statement) → MayStand position.version position.place ts s → MayStand (version_after before) (place_after before) ts s
+    there s m = rw (← after.version, ← after.place) m
+
+    back : (s : Statement) → MayStand (version_after before) (place_after before) ts s → MayStand position.version position.place ts s
+    back s m = rw (after.version, after.place) m
+
+    pub diagram-found : (l : Line) (counts : Counts) → (s : Statement) × MayStand position.version position.place ts s × (numbers_fit s ≡ true) × IsKept s l → with_line position.counts l ≡ Ok counts
         → (s : Statement) × SaysStatement before text s × IsKept s l × AreCounts (s ∷ statements before) counts
     diagram-found l counts (s, stands, fits, kept) counted =
         let answer : Counted (statements before) s (Ok counts) = subst (Counted (statements before) s) counted (counted-line (statements before) s l position.counts after.counts kept) in
         let within : limit_fault (statements before) s ≡ None = rw (fits, answer.0) refl in
-        (s, record { tokens = ts; spelled = spelled; faultless = faultless; stands = subst (λ p. MayStand p ts s) after.place stands; within = within }, kept, answer.1)
+        (s, record { tokens = ts; spelled = spelled; faultless = faultless; stands = there s stands; within = within }, kept, answer.1)
 
-    pub diagram-passed : (l : Line) (limit : Limit) → (s : Statement) × MayStand position.place ts s × (numbers_fit s ≡ true) × IsKept s l → with_line position.counts l ≡ Err limit
+    pub diagram-passed : (l : Line) (limit : Limit) → (s : Statement) × MayStand position.version position.place ts s × (numbers_fit s ≡ true) × IsKept s l → with_line position.counts l ≡ Err limit
         → HasDiagramFault before text (LimitHit limit)
     diagram-passed l limit (s, stands, fits, kept) counted =
         let passed : Counted (statements before) s (Err limit) = subst (Counted (statements before) s) counted (counted-line (statements before) s l position.counts after.counts kept) in
         let past : limit_fault (statements before) s ≡ Some (LimitHit limit) = rw (fits, passed) refl in
-        past_a_limit ts s (LimitHit limit) spelled faultless (subst (λ p. MayStand p ts s) after.place stands) past
+        past_a_limit ts s (LimitHit limit) spelled faultless (there s stands) past
 
-    pub diagram-refused : (e : LineError) → RefusesStatement position.place ts e → RefusesInDiagram before text e
+    pub diagram-refused : (e : LineError) → RefusesStatement position.version position.place ts e → RefusesInDiagram before text e
     diagram-refused NoMemory r = tt
-    diagram-refused (Refused BadLine) r = no_statement ts spelled faultless (λ s stands. r s (subst (λ p. MayStand p ts s) (sym after.place) stands))
+    diagram-refused (Refused BadLine) r = no_statement ts spelled faultless (λ s stands. r s (back s stands))
     diagram-refused (Refused (LimitHit Number)) (s, stands, over) =
         let past : limit_fault (statements before) s ≡ Some (LimitHit Number) = rw over refl in
-        past_a_limit ts s (LimitHit Number) spelled faultless (subst (λ p. MayStand p ts s) after.place stands) past
+        past_a_limit ts s (LimitHit Number) spelled faultless (there s stands) past
     diagram-refused (Refused _) r = absurd r
 
   pub diagram-faulty : (code : ReadCode) → token_fault position.place ts ≡ Some code → HasDiagramFault before text code
@@ -110,6 +117,13 @@ text-refused before text NoMemory r = tt
 text-refused before text (Refused code) r = of_the_text code r
 
 -- ---- any line
+
+-- the header alone names a version
+version-kept : (before : List Said) (said : Said) (l : Line) → IsHeld said l → version_after_line (version_after before) l ≡ version_after (said ∷ before)
+version-kept before (says (header v)) (line.Header w) k = sym k
+version-kept before (says (header v)) l k = absurd k
+version-kept before said (line.Header w) k = absurd k
+version-kept before said l k = refl
 
 -- a statement that passes no count leaves the counts
 kept-counts : (before : List Said) (s : Statement) (l : Line) (counts : Counts) → AreCounts (statements before) counts → IsKept s l → with_line counts l ≡ Ok counts → AreCounts (s ∷ statements before) counts
@@ -162,11 +176,12 @@ module _ (before : List Said) (position : Position) (after : IsAfter before posi
   pub trace-refused : (code : ReadCode) → position.place ≡ Trace → (code ≡ BadByte) × (list_all is_trace_byte text ≡ false) → HasFault before text code
   trace-refused code here (is, bad) = rw is (in_the_trace (sym after.place ∙ here) bad)
 
-  -- the place after a line that was read
-  pub after-found : (l : Line) (counts : Counts) (place : Place) → place ≡ place_after_line position.place l
+  -- the version and the place after a line that was read
+  pub after-found : (l : Line) (counts : Counts) (version : ℕ) (place : Place) → version ≡ version_after_line position.version l → place ≡ place_after_line position.place l
       → (said : Said) × Reads before text said × IsHeld said l × AreCounts (statements (said ∷ before)) counts
-      → (said : Said) × Reads before text said × IsHeld said l × IsAfter (said ∷ before) (record { place = place; counts = counts })
-  after-found l counts place is (said, reads, held, right) = (said, reads, held, record { place = is ∙ led said l reads held; counts = right })
+      → (said : Said) × Reads before text said × IsHeld said l × IsAfter (said ∷ before) (record { version = version; place = place; counts = counts })
+  after-found l counts version place named is (said, reads, held, right) =
+      (said, reads, held, record { version = named ∙ ap (λ (v : ℕ). version_after_line v l) after.version ∙ version-kept before said l held; place = is ∙ led said l reads held; counts = right })
     where
       kept : (s : Statement) (l : Line) (q : Place) → leads (place_after before) s ≡ Some q → IsKept s l → place_after_line position.place l ≡ place_after (says s ∷ before)
       kept s l q e k = rw (e, after.place) (sym (leads-line (place_after before) q s l e k))

@@ -61,16 +61,16 @@ abbrev pub RefusesInDiagram : List Said → List ℕ → LineError → Type 0
 RefusesInDiagram before line (Refused code) = HasDiagramFault before line code
 RefusesInDiagram before line NoMemory = Unit {0}
 
--- the tokens are no statement that may stand at the place, or one with a number past its limit
-abbrev pub RefusesStatement : Place → List Token → LineError → Type 0
-RefusesStatement place ts (Refused BadLine) = (s : Statement) → MayStand place ts s → ⊥
-RefusesStatement place ts (Refused (LimitHit Number)) = (s : Statement) × MayStand place ts s × (numbers_fit s ≡ false)
-RefusesStatement place ts (Refused _) = ⊥
-RefusesStatement place ts NoMemory = Unit {0}
+-- the tokens are no statement that may stand there, or one with a number past its limit
+abbrev pub RefusesStatement : ℕ → Place → List Token → LineError → Type 0
+RefusesStatement version place ts (Refused BadLine) = (s : Statement) → MayStand version place ts s → ⊥
+RefusesStatement version place ts (Refused (LimitHit Number)) = (s : Statement) × MayStand version place ts s × (numbers_fit s ≡ false)
+RefusesStatement version place ts (Refused _) = ⊥
+RefusesStatement version place ts NoMemory = Unit {0}
 
--- the tokens are a statement that may stand at the place, with its numbers within their limits, and this is kept of it
-abbrev pub KeepsStatement : Place → List Token → Line → Type 0
-KeepsStatement place ts l = (s : Statement) × MayStand place ts s × (numbers_fit s ≡ true) × IsKept s l
+-- the tokens are a statement that may stand there, with its numbers within their limits, and this is kept of it
+abbrev pub KeepsStatement : ℕ → Place → List Token → Line → Type 0
+KeepsStatement version place ts l = (s : Statement) × MayStand version place ts s × (numbers_fit s ≡ true) × IsKept s l
 
 -- ---- of a form
 

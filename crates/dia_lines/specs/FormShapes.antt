@@ -13,14 +13,14 @@ clock_of (Every period offset) = every period offset
 clock_of (On name) = on name
 
 abbrev pub task_of : TaskForm → Statement
-task_of t = task (record { name = t.name; clock = clock_of t.clock; prio = t.prio; deadline = t.deadline; cost = t.cost })
+task_of t = task (record { name = t.name; clock = clock_of t.clock; when = t.when; prio = t.prio; deadline = t.deadline; cost = t.cost; cpu = t.cpu })
 
 abbrev pub read_of : ReadForm → Statement
 read_of r = read r.name r.delay r.task r.port r.at
 
 abbrev pub shape_of : Form → Shape
 shape_of form.Nothing = plain nothing
-shape_of form.Header = plain header
+shape_of (form.Header version) = plain (header version)
 shape_of (form.Policy p) = plain (policy p)
 shape_of (form.Until end) = plain (until end)
 shape_of (form.Input name first) = plain (input name first)

@@ -65,6 +65,11 @@ clock_at (Word word.Every ∷ Number period ∷ ts) = Some (every period (offset
 clock_at (Word word.On ∷ Name name ∷ ts) = Some (on name, ts)
 clock_at _ = None
 
+-- `when NAME`, or nothing
+abbrev pub when_at : List Token → Option (List ℕ) × List Token
+when_at (Word word.When ∷ Name name ∷ ts) = (Some name, ts)
+when_at ts = (None, ts)
+
 -- `prio N`, or nothing
 abbrev pub prio_at : List Token → Option ℤ × List Token
 prio_at (Word word.Prio ∷ Number value ∷ ts) = (Some value, ts)
@@ -90,10 +95,11 @@ abbrev pub number_alone : List Token → Option ℤ
 number_alone (Number value ∷ []) = Some value
 number_alone _ = None
 
--- `cost N`
-abbrev pub cost_alone : List Token → Option ℤ
-cost_alone (Word word.Cost ∷ Number cost ∷ []) = Some cost
-cost_alone _ = None
+-- `cost N`, and `cpu N` or nothing
+abbrev pub cost_end : List Token → Option (ℤ × Option ℤ)
+cost_end (Word word.Cost ∷ Number cost ∷ []) = Some (cost, None)
+cost_end (Word word.Cost ∷ Number cost ∷ Word word.Cpu ∷ Number cpu ∷ []) = Some (cost, Some cpu)
+cost_end _ = None
 
 -- `at N`, or nothing for 0
 abbrev pub tick_alone : List Token → Option ℤ
@@ -104,7 +110,7 @@ tick_alone _ = None
 -- ---- after the first word of a line
 
 unfoldable pub header_at : List Token → Option Shape
-header_at ts = option_and_then (λ value. if int_eq value (pos 1) then Some (plain header) else None) (number_alone ts)
+header_at ts = option_and_then (λ value. if int_eq value (pos 1) then Some (plain (header 1)) else None) (number_alone ts)
 
 abbrev pub policy_at : List Token → Option Shape
 policy_at (Word word.Fp ∷ []) = Some (plain (policy Fp))
@@ -123,7 +129,10 @@ event_at ts = option_map (λ name. plain (event name)) (name_alone ts)
 -- after a task's name and its clock
 unfoldable pub options_at : List ℕ → Clock → List Token → Option Shape
 options_at name clock ts =
-    option_map (λ cost. plain (task (record { name = name; clock = clock; prio = (prio_at ts).0; deadline = (deadline_at (prio_at ts).1).0; cost = cost }))) (cost_alone (deadline_at (prio_at ts).1).1)
+    let w = when_at ts in
+    let p = prio_at w.1 in
+    let d = deadline_at p.1 in
+    option_map (λ end. plain (task (record { name = name; clock = clock; when = w.0; prio = p.0; deadline = d.0; cost = end.0; cpu = end.1 }))) (cost_end d.1)
 
 unfoldable pub task_at : List Token → Option Shape
 task_at (Name name ∷ ts) = option_and_then (λ c. options_at name c.0 c.1) (clock_at ts)

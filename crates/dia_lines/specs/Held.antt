@@ -1,5 +1,5 @@
 -- What is kept of a line.
-use Rattle.std.specs.Prelude.{◌≡◌, pos}
+use Rattle.std.specs.Prelude.{◌≡◌, ℤ, pos, Option, Some, None}
 use Rattle.std.specs.Option.{option_map}
 use Rattle.dbp_plan.specs.Expr.{IsExprOf}
 use Rattle.dia_lines.specs.declared.item.Decl.{Decl}
@@ -27,10 +27,16 @@ IsClock (every period offset) (Every p o) = (period ≡ pos p) × (offset ≡ po
 IsClock (on name) (On event_name) = name ≡ event_name
 IsClock _ _ = ⊥
 
+-- the processor as a number: without `cpu` it is 0
+abbrev pub cpu_of : Option ℤ → ℤ
+cpu_of None = pos 0
+cpu_of (Some value) = value
+
 -- the task that a line begins
 abbrev pub IsTaskLine : Statement → TaskLine → Type 0
 IsTaskLine (task h) t =
-    (h.name ≡ t.name) × IsClock h.clock t.clock × (h.prio ≡ option_map pos t.prio) × (h.deadline ≡ option_map pos t.deadline) × (h.cost ≡ pos t.cost)
+    (h.name ≡ t.name) × IsClock h.clock t.clock × (h.when ≡ t.when) × (h.prio ≡ option_map pos t.prio) × (h.deadline ≡ option_map pos t.deadline)
+    × (h.cost ≡ pos t.cost) × (cpu_of h.cpu ≡ pos t.cpu)
 IsTaskLine _ t = ⊥
 
 -- the line of a body that a line is
@@ -46,7 +52,7 @@ IsPart _ _ = ⊥
 -- what is kept of a line of the diagram
 abbrev pub IsKept : Statement → Line → Type 0
 IsKept nothing line.Nothing = Unit {0}
-IsKept header line.Header = Unit {0}
+IsKept (header version) (line.Header v) = version ≡ v
 IsKept (policy p) (line.Policy q) = p ≡ q
 IsKept (until end) (line.Until e) = end ≡ pos e
 IsKept s (line.Decl d) = IsDecl s d

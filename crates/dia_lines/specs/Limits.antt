@@ -1,6 +1,6 @@
 -- The limits of a document's numbers and counts.
 use Rattle.std.specs.Prelude.{ℕ, ℤ, pos, Bool, true, false, nat_le, ◌&&◌, int_le, List, [], ◌∷◌, length, filter, Option, Some, None, if◌then◌else◌}
-use Rattle.dbp_plan.specs.declared.limits.TheConstants.{MAX_TASKS, MAX_INPUTS, MAX_EVENTS, MAX_READS, MAX_READ_LINES, MAX_OUTS, MAX_BODY, MAX_TIME, MAX_PRIO}
+use Rattle.dbp_plan.specs.declared.limits.TheConstants.{MAX_TASKS, MAX_INPUTS, MAX_EVENTS, MAX_READS, MAX_READ_LINES, MAX_OUTS, MAX_BODY, MAX_TIME, MAX_PRIO, MAX_CPU}
 use Rattle.dbp_plan.specs.Limits.{max_delay}
 use Rattle.dia_lines.specs.declared.fault.Limit.{Limit}
 use Rattle.dia_lines.specs.declared.fault.Limit.TheVariants.{Tasks, Reads, Links, Outs, Inputs, Events, Body}
@@ -27,6 +27,7 @@ abbrev pub numbers_fit : Statement → Bool
 numbers_fit (until end) = lies_within end 0 MAX_TIME
 numbers_fit (task t) =
     clock_fits t.clock && option_lies_within t.prio 0 MAX_PRIO && option_lies_within t.deadline 1 MAX_TIME && lies_within t.cost 1 MAX_TIME
+    && option_lies_within t.cpu 0 MAX_CPU
 numbers_fit (read name delay writer port at) = delay_fits delay && lies_within at 0 MAX_TIME
 numbers_fit _ = true
 

@@ -19,8 +19,8 @@ use Rattle.dia_lines.specs.declared.place.Place.TheVariants.{Header, Trace, Scri
 use Rattle.dia_lines.specs.declared.fault.ReadCode.{ReadCode}
 use Rattle.dia_lines.specs.declared.fault.ReadCode.TheVariants.{BadByte, BadToken, BadLine, NumberTooWide, NameTooLong, LimitHit, MissingHeader, DepthHit}
 use Rattle.dia_lines.specs.declared.fault.Limit.TheVariants.{Nodes, Number as NumberLimit}
-use Rattle.dia_lines.specs.Statements.{Statement, nothing, script, done, IsStatement}
-use Rattle.dia_lines.specs.Places.{leads}
+use Rattle.dia_lines.specs.Statements.{Statement, nothing, header, script, done, IsStatement}
+use Rattle.dia_lines.specs.Places.{leads, is_of_version}
 use Rattle.dia_lines.specs.Limits.{numbers_fit, passed_count}
 use Rattle.dia_lines.specs.Sections.{is_space, is_trace_byte, IsAlone, IsKeptRow}
 
@@ -40,6 +40,12 @@ abbrev pub place_after : List Said → Place
 place_after [] = Header
 place_after (says s ∷ before) = led_to (place_after before) (leads (place_after before) s)
 place_after (_ ∷ before) = place_after before
+
+-- the version that the lines name, of which the latest is the first: 1 before the header
+abbrev pub version_after : List Said → ℕ
+version_after [] = 1
+version_after (says (header version) ∷ before) = version
+version_after (_ ∷ before) = version_after before
 
 -- the statements of the lines, the latest first
 abbrev pub statements : List Said → List Statement
@@ -101,18 +107,19 @@ code_of line_fail.NoMemory = None
 abbrev pub limit_fault : List Statement → Statement → Option ReadCode
 limit_fault before s = if numbers_fit s then option_map LimitHit (passed_count before s) else Some (LimitHit NumberLimit)
 
--- the tokens are a statement that may stand at the place
-pub record MayStand (place : Place) (ts : List Token) (s : Statement) : Type 0 where
+-- the tokens are a statement that may stand at the place, in a document of the version
+pub record MayStand (version : ℕ) (place : Place) (ts : List Token) (s : Statement) : Type 0 where
   pub form : IsStatement ts s
   pub next : Place
   pub stands : leads place s ≡ Some next
+  pub known : is_of_version version s ≡ true
 
 -- after those before it, the line of the diagram is without fault and says the statement
 pub record SaysStatement (before : List Said) (line : List ℕ) (s : Statement) : Type 0 where
   pub tokens : List Token
   pub spelled : SpellsTokens line tokens
   pub faultless : token_fault (place_after before) tokens ≡ None
-  pub stands : MayStand (place_after before) tokens s
+  pub stands : MayStand (version_after before) (place_after before) tokens s
   pub within : limit_fault (statements before) s ≡ None
 
 -- the line of the trace section is without fault, and says this
@@ -144,9 +151,9 @@ pub data HasDiagramFault (before : List Said) (line : List ℕ) : ReadCode → T
   of_the_text : (code : ReadCode) → HasTextFault line code → HasDiagramFault before line code
   of_the_tokens : (ts : List Token) (code : ReadCode) → SpellsTokens line ts → token_fault (place_after before) ts ≡ Some code → HasDiagramFault before line code
   no_statement : (ts : List Token) → SpellsTokens line ts → token_fault (place_after before) ts ≡ None
-      → ((s : Statement) → MayStand (place_after before) ts s → ⊥) → HasDiagramFault before line BadLine
+      → ((s : Statement) → MayStand (version_after before) (place_after before) ts s → ⊥) → HasDiagramFault before line BadLine
   past_a_limit : (ts : List Token) (s : Statement) (code : ReadCode) → SpellsTokens line ts → token_fault (place_after before) ts ≡ None
-      → MayStand (place_after before) ts s → limit_fault (statements before) s ≡ Some code → HasDiagramFault before line code
+      → MayStand (version_after before) (place_after before) ts s → limit_fault (statements before) s ≡ Some code → HasDiagramFault before line code
 
 -- the first fault of a line after those before it
 pub data HasFault (before : List Said) (line : List ℕ) : ReadCode → Type 0 where

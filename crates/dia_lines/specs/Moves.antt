@@ -1,4 +1,5 @@
--- The place after a line.
+-- The place and the version after a line.
+use Rattle.std.specs.Prelude.{ℕ}
 use Rattle.dia_lines.specs.declared.item.Line.{Line}
 use Rattle.dia_lines.specs.declared.item.Line.TheVariants as line
 use Rattle.dia_lines.specs.declared.place.Place.{Place}
@@ -6,7 +7,7 @@ use Rattle.dia_lines.specs.declared.place.Place.TheVariants.{Policy, Until, Decl
 
 -- the place after a line that may stand at the place
 abbrev pub place_after_line : Place → Line → Place
-place_after_line place line.Header = Policy
+place_after_line place (line.Header version) = Policy
 place_after_line place (line.Policy p) = Until
 place_after_line place (line.Until end) = Declarations
 place_after_line place (line.Decl d) = Declarations
@@ -16,3 +17,8 @@ place_after_line place line.Trace = Trace
 place_after_line place line.Script = Script
 place_after_line place line.Done = Ended
 place_after_line place _ = place
+
+-- the version after a line: the header names it
+abbrev pub version_after_line : ℕ → Line → ℕ
+version_after_line before (line.Header version) = version
+version_after_line before _ = before

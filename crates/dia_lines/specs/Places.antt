@@ -1,5 +1,6 @@
--- How far the lines before a line have come, and what it may say there.
-use Rattle.std.specs.Prelude.{Bool, true, false, Option, Some, None, if◌then◌else◌}
+-- How far the lines before a line have come, and what it may say there, in documents of a version.
+use Rattle.std.specs.Prelude.{ℕ, ◌==◌, ◌&&◌, ◌||◌, Bool, true, false, Option, Some, None, if◌then◌else◌}
+use Rattle.std.specs.Option.{is_none}
 use Rattle.dia_lines.specs.declared.place.Place.{Place}
 use Rattle.dia_lines.specs.declared.place.Place.TheVariants.{Header, Policy, Until, Declarations, Body, Trace, Script, Ended}
 use Rattle.dia_lines.specs.Statements.{Statement, nothing, header, policy, until, input, event, task, state, sense, read, a_let, a_next, out, trace, script, done}
@@ -31,7 +32,7 @@ after_declarations _ = None
 -- where a line leads from a place, if it may stand there
 abbrev pub leads : Place → Statement → Option Place
 leads place nothing = Some place
-leads Header header = Some Policy
+leads Header (header version) = Some Policy
 leads Policy (policy p) = Some Until
 leads Until (until n) = Some Declarations
 leads Declarations s = if is_declaration s then Some Declarations else after_declarations s
@@ -40,3 +41,8 @@ leads Trace script = Some Script
 leads Trace done = Some Ended
 leads Script done = Some Ended
 leads _ _ = None
+
+-- whether documents of the version have such a line: those of version 1 have no `when` and no `cpu`
+abbrev pub is_of_version : ℕ → Statement → Bool
+is_of_version version (task t) = version == 2 || is_none t.when && is_none t.cpu
+is_of_version version s = true

@@ -7,7 +7,7 @@ use Rattle.dia_tokens.specs.declared.token.Token.{Token}
 use Rattle.dia_tokens.specs.declared.token.Token.TheVariants.{Name, Number, Symbol, Word}
 use Rattle.dia_tokens.specs.declared.token.Symbol.TheVariants.{Assign, Point}
 use Rattle.dia_tokens.specs.declared.token.Word as words
-use Rattle.dia_tokens.specs.declared.token.Word.TheVariants.{Dbp, Policy as PolicyWord, Fp as FpWord, Edf as EdfWord, Until, Input, Event, Task, Every, From, On, Prio, Deadline, Cost, State, Sense, Let, Next, Read, At, Out, Then, Trace, Script, Done}
+use Rattle.dia_tokens.specs.declared.token.Word.TheVariants.{Dbp, Policy as PolicyWord, Fp as FpWord, Edf as EdfWord, Until, Input, Event, Task, Every, From, On, When, Prio, Deadline, Cost, Cpu, State, Sense, Let, Next, Read, At, Out, Then, Trace, Script, Done}
 use Rattle.dia_exprs.specs.declared.level.Level.TheVariants.{Whole}
 use Rattle.dia_exprs.specs.Grammar.{Spells}
 use Rattle.dia_lines.specs.Delays.{SpellsDelay}
@@ -21,14 +21,19 @@ pub data Clock : Type 0 where
 pub record TaskHeader : Type 0 where
   pub name : List ℕ
   pub clock : Clock
+  -- the input that must not be 0
+  pub when : Option (List ℕ)
   pub prio : Option ℤ
   pub deadline : Option ℤ
   pub cost : ℤ
+  -- the processor
+  pub cpu : Option ℤ
 
 -- what a line says
 pub data Statement : Type 0 where
   nothing : Statement
-  header : Statement
+  -- the version of the language
+  header : ℕ → Statement
   policy : Policy → Statement
   until : ℤ → Statement
   input : List ℕ → ℤ → Statement
@@ -51,6 +56,11 @@ pub data SpellsClock : List Token → Clock → Type 0 where
   from_offset : (period offset : ℤ) → SpellsClock (Word Every ∷ Number period ∷ Word From ∷ Number offset ∷ []) (every period offset)
   with_event : (name : List ℕ) → SpellsClock (Word On ∷ Name name ∷ []) (on name)
 
+-- `when NAME`, or nothing
+pub data SpellsWhen : List Token → Option (List ℕ) → Type 0 where
+  always : SpellsWhen [] None
+  guarded : (name : List ℕ) → SpellsWhen (Word When ∷ Name name ∷ []) (Some name)
+
 -- the word and a number, or nothing
 pub data SpellsOption (w : words.Word) : List Token → Option ℤ → Type 0 where
   left_out : SpellsOption w [] None
@@ -61,18 +71,18 @@ pub data SpellsAt : List Token → ℤ → Type 0 where
   at_once : SpellsAt [] (pos 0)
   at_tick : (value : ℤ) → SpellsAt (Word At ∷ Number value ∷ []) value
 
--- the tokens of a line are the statement
+-- the tokens of a line are the statement, in whatever version it may stand
 pub data IsStatement : List Token → Statement → Type 0 where
   a_blank_line : IsStatement [] nothing
-  a_header : IsStatement (Word Dbp ∷ Number (pos 1) ∷ []) header
+  a_header : IsStatement (Word Dbp ∷ Number (pos 1) ∷ []) (header 1)
   fixed_priorities : IsStatement (Word PolicyWord ∷ Word FpWord ∷ []) (policy Fp)
   earliest_deadline : IsStatement (Word PolicyWord ∷ Word EdfWord ∷ []) (policy Edf)
   an_until : (end : ℤ) → IsStatement (Word Until ∷ Number end ∷ []) (until end)
   an_input : (name : List ℕ) (first : ℤ) → IsStatement (Word Input ∷ Name name ∷ Symbol Assign ∷ Number first ∷ []) (input name first)
   an_event : (name : List ℕ) → IsStatement (Word Event ∷ Name name ∷ []) (event name)
-  a_task : (name : List ℕ) (cs ps ds : List Token) (clock : Clock) (prio deadline : Option ℤ) (cost : ℤ)
-      → SpellsClock cs clock → SpellsOption Prio ps prio → SpellsOption Deadline ds deadline
-      → IsStatement (Word Task ∷ Name name ∷ (cs ++ ps ++ ds ++ Word Cost ∷ Number cost ∷ [])) (task (record { name = name; clock = clock; prio = prio; deadline = deadline; cost = cost }))
+  a_task : (h : TaskHeader) (cs ws ps ds us : List Token)
+      → SpellsClock cs h.clock → SpellsWhen ws h.when → SpellsOption Prio ps h.prio → SpellsOption Deadline ds h.deadline → SpellsOption Cpu us h.cpu
+      → IsStatement (Word Task ∷ Name h.name ∷ (cs ++ ws ++ ps ++ ds ++ Word Cost ∷ Number h.cost ∷ us)) (task h)
   a_state : (name : List ℕ) (first : ℤ) → IsStatement (Word State ∷ Name name ∷ Symbol Assign ∷ Number first ∷ []) (state name first)
   a_sense : (name from : List ℕ) → IsStatement (Word Sense ∷ Name name ∷ Symbol Assign ∷ Name from ∷ []) (sense name from)
   a_read : (name writer port : List ℕ) (pre ats : List Token) (delay : Option ℤ) (at : ℤ) → SpellsDelay pre delay → SpellsAt ats at

@@ -17,9 +17,13 @@ pub(crate) enum ClockForm {
 pub(crate) struct TaskForm {
     pub name: Name,
     pub clock: ClockForm,
+    /// The input that must not be 0.
+    pub when: Option<Name>,
     pub prio: Option<i64>,
     pub deadline: Option<i64>,
     pub cost: i64,
+    /// None without `cpu`.
+    pub cpu: Option<i64>,
 }
 
 /// A line that names an out of a task, with its numbers as they are spelled.
@@ -37,7 +41,8 @@ pub(crate) struct ReadForm {
 #[derive(Clone, Copy)]
 pub(crate) enum Form<'t> {
     Nothing,
-    Header,
+    /// The version.
+    Header(u32),
     Policy(Policy),
     Until(i64),
     Input(Name, i64),

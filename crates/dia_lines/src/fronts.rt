@@ -2,7 +2,7 @@
 
 ghost use Rattle.std.specs.Prelude.{◌≡◌};
 ghost use Rattle.std.specs.Option.{option_map};
-ghost use Rattle.dia_lines.specs.Forms.{assigned_at, first_at, offset_at, clock_at, prio_at, deadline_at, port_at, name_alone as is_name_alone, number_alone as is_number_alone, cost_alone as is_cost_alone, tick_alone as is_tick_alone};
+ghost use Rattle.dia_lines.specs.Forms.{assigned_at, first_at, offset_at, clock_at, when_at, prio_at, deadline_at, port_at, name_alone as is_name_alone, number_alone as is_number_alone, cost_end as is_cost_end, tick_alone as is_tick_alone};
 ghost use Rattle.dia_lines.specs.Delays.{delay_at};
 ghost use Rattle.dia_lines.specs.FormShapes.{clock_of};
 
@@ -51,6 +51,16 @@ pub(crate) fn clock(tokens: &[Token]) -> Option<(ClockForm, &[Token])>
         }
         [Token::Word(Word::On), Token::Name(name), rest @ ..] => Some((ClockForm::On(*name), rest)),
         _ => None,
+    }
+}
+
+/// `when NAME` at the front, if it is.
+pub(crate) fn when_name(tokens: &[Token]) -> (Option<Name>, &[Token])
+    ensures { (result.0, result.1.now) ≡ when_at tokens.now }
+{
+    match tokens {
+        [Token::Word(Word::When), Token::Name(name), rest @ ..] => (Some(*name), rest),
+        _ => (None, tokens),
     }
 }
 
@@ -120,12 +130,18 @@ pub(crate) fn number_alone(tokens: &[Token]) -> Option<i64>
     }
 }
 
-/// `cost N`, and nothing after it.
-pub(crate) fn cost_alone(tokens: &[Token]) -> Option<i64>
-    ensures { result ≡ is_cost_alone tokens.now }
+/// `cost N`, and after it `cpu N` or nothing.
+pub(crate) fn cost_end(tokens: &[Token]) -> Option<(i64, Option<i64>)>
+    ensures { result ≡ is_cost_end tokens.now }
 {
     match tokens {
-        [Token::Word(Word::Cost), Token::Number(cost)] => Some(*cost),
+        [Token::Word(Word::Cost), Token::Number(cost)] => Some((*cost, None)),
+        [
+            Token::Word(Word::Cost),
+            Token::Number(cost),
+            Token::Word(Word::Cpu),
+            Token::Number(cpu),
+        ] => Some((*cost, Some(*cpu))),
         _ => None,
     }
 }

@@ -25,11 +25,15 @@ pub enum RawClock {
 pub struct TaskLine {
     pub name: Name,
     pub clock: RawClock,
+    /// The input that must not be 0.
+    pub when: Option<Name>,
     pub prio: Option<u32>,
     /// In ticks from the release on.
     pub deadline: Option<u64>,
     /// In ticks.
     pub cost: u64,
+    /// The number of its processor: 0 if the line names none.
+    pub cpu: u32,
 }
 
 /// A line of a task's body, with names as they were read.
@@ -61,7 +65,8 @@ pub enum Part {
 pub enum Line {
     /// It is blank.
     Nothing,
-    Header,
+    /// The version of the language.
+    Header(u32),
     Policy(Policy),
     /// The tick before which tasks occur.
     Until(u64),

@@ -7,7 +7,7 @@ ghost use Rattle.dia_tokens.specs.Line.{Spells as SpellsTokens, HasBadStart};
 ghost use Rattle.dia_lines.specs.Answers.{Refuses, RefusesText, RefusesInDiagram, IsNextLine, RefusesAfter};
 ghost use Rattle.dia_lines.specs.Held.{IsHeld, IsKept};
 ghost use Rattle.dia_lines.specs.Lines.{Said, SaysStatement, SaysInScript, Reads, statements};
-ghost use Rattle.dia_lines.specs.Moves.{place_after_line};
+ghost use Rattle.dia_lines.specs.Moves.{place_after_line, version_after_line};
 ghost use Rattle.dia_lines.specs.Positions.{AreCounts, IsAfter};
 ghost use Rattle.dia_lines.specs.Statements.{Statement};
 ghost use Rattle.dia_lines.specs.declared.fault.LineError.TheVariants.{Refused, NoMemory as OutOfMemory};
@@ -49,7 +49,7 @@ fn diagram_line(
     line_tokens(line, tokens)?;
     let line = match token_code(position.place, tokens) {
         Some(code) => return Err(LineError::from(code)),
-        None => statement(alloc, position.place, tokens)?,
+        None => statement(alloc, position.version, position.place, tokens)?,
     };
     match position.counts.with_line(&line) {
         Ok(counts) => Ok((line, counts)),
@@ -78,7 +78,7 @@ fn place_after(place: Place, line: &Line) -> Place
     ensures { result ≡ place_after_line place line.now }
 {
     match line {
-        Line::Header => Place::Policy,
+        Line::Header(_) => Place::Policy,
         Line::Policy(_) => Place::Until,
         Line::Until(_) | Line::Decl(_) => Place::Declarations,
         Line::Task(_) | Line::Part(_) => Place::Body,
@@ -86,6 +86,16 @@ fn place_after(place: Place, line: &Line) -> Place
         Line::Script => Place::Script,
         Line::Done => Place::Ended,
         Line::Nothing | Line::Row | Line::Step(_) => place,
+    }
+}
+
+/// The version after a line that may stand after lines of the version.
+fn version_after(version: u32, line: &Line) -> u32
+    ensures { result ≡ version_after_line version line.now }
+{
+    match line {
+        Line::Header(named) => *named,
+        _ => version,
     }
 }
 
@@ -133,8 +143,8 @@ pub fn read_line(
     read_line_with(alloc, position, line, &mut Vec::new(alloc))
 }
 
-/// The same, for a caller who reads many lines: the list's room is used again for the line's tokens, which take the place
-/// of what it holds.
+/// As `read_line`, for a caller who reads many lines: the list's room is used again for the line's tokens, which take the
+/// place of what it holds. What the list holds afterwards no clause says.
 pub fn read_line_with(
     alloc: Global,
     position: Position,
@@ -154,6 +164,12 @@ pub fn read_line_with(
         → result ≡ Err (Refused BadToken) }
 {
     let (line, counts) = counted_line(alloc, position, line, tokens)?;
+    let version = version_after(position.version, &line);
     let place = place_after(position.place, &line);
-    Ok((line, Position { place, counts }))
+    let next = Position {
+        version,
+        place,
+        counts,
+    };
+    Ok((line, next))
 }

@@ -7,8 +7,8 @@ ghost use Rattle.dia_lines.specs.FormShapes.{clock_of, shape_of};
 
 use crate::form::{ClockForm, Form, ReadForm, TaskForm};
 use crate::fronts::{
-    assigned, clock, cost_alone, deadline, delay_at, first_value, name_alone, number_alone, port,
-    prio, tick_alone,
+    assigned, clock, cost_end, deadline, delay_at, first_value, name_alone, number_alone, port,
+    prio, tick_alone, when_name,
 };
 use dbp_plan::{Name, Policy};
 use dia_tokens::{Token, Word};
@@ -18,7 +18,7 @@ fn header<'t>(tokens: &'t [Token]) -> Option<Form<'t>>
     ensures { option_map shape_of result ≡ header_at tokens.now }
 {
     if number_alone(tokens)? == 1 {
-        Some(Form::Header)
+        Some(Form::Header(1))
     } else {
         None
     }
@@ -66,15 +66,18 @@ fn event<'t>(tokens: &'t [Token]) -> Option<Form<'t>>
 fn options<'t>(name: Name, clock: ClockForm, tokens: &'t [Token]) -> Option<Form<'t>>
     ensures { option_map shape_of result ≡ options_at name (clock_of clock) tokens.now }
 {
-    let (prio, after) = prio(tokens);
+    let (when, options) = when_name(tokens);
+    let (prio, after) = prio(options);
     let (deadline, rest) = deadline(after);
-    let cost = cost_alone(rest)?;
+    let (cost, cpu) = cost_end(rest)?;
     Some(Form::Task(TaskForm {
         name,
         clock,
+        when,
         prio,
         deadline,
         cost,
+        cpu,
     }))
 }
 

@@ -26,6 +26,8 @@ pub struct Counts {
 /// Where a reader of a document stands: what the lines before say of the next one.
 #[derive(Clone, Copy)]
 pub struct Position {
+    /// The version that the header names, and 1 before it.
+    pub version: u32,
     pub place: Place,
     pub counts: Counts,
 }
@@ -35,11 +37,12 @@ impl Position {
     ghost use Rattle.dia_lines.specs.declared.place.Place.TheVariants.{Ended};
     ghost use Rattle.dia_lines.specs.Positions.{IsAfter};
 
-    /// Before the first line.
+    /// The position before the first line.
     pub fn start() -> Position
         ensures { IsAfter [] result }
     {
         Position {
+            version: 1,
             place: Place::Header,
             counts: Counts {
                 inputs: 0,

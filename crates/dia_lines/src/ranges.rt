@@ -2,15 +2,15 @@
 
 ghost use Rattle.std.specs.Prelude.{◌≡◌, pos, ◌≤◌, IfSome};
 ghost use Rattle.std.specs.Option.{is_some, option_map};
-ghost use Rattle.dbp_plan.specs.declared.limits.TheConstants.{MAX_TIME as MaxTime, MAX_PRIO as MaxPrio};
+ghost use Rattle.dbp_plan.specs.declared.limits.TheConstants.{MAX_TIME as MaxTime, MAX_PRIO as MaxPrio, MAX_CPU as MaxCpu};
 ghost use Rattle.dia_lines.specs.Delays.{delay_of};
 ghost use Rattle.dia_lines.specs.Limits.{lies_within, option_lies_within, delay_fits, clock_fits, numbers_fit};
-ghost use Rattle.dia_lines.specs.Held.{IsClock, IsTaskLine, IsPart};
+ghost use Rattle.dia_lines.specs.Held.{IsClock, cpu_of, IsTaskLine, IsPart};
 ghost use Rattle.dia_lines.specs.FormShapes.{clock_of, task_of, read_of};
 
 use crate::form::{ClockForm, ReadForm, TaskForm};
 use crate::item::{Part, RawClock, TaskLine};
-use dbp_plan::{MAX_DELAY, MAX_PRIO, MAX_TIME};
+use dbp_plan::{MAX_CPU, MAX_DELAY, MAX_PRIO, MAX_TIME};
 
 // The number, if it lies between the two.
 fn within(value: i64, least: u64, greatest: u64) -> Option<u64>
@@ -81,6 +81,20 @@ fn optional_priority(value: Option<i64>) -> Option<Option<u32>>
     }
 }
 
+// The number of a processor: 0 if none is given.
+fn processor(cpu: Option<i64>) -> Option<u32>
+    ensures value { IfSome result (λ n. cpu_of cpu ≡ pos n) }
+    ensures exact { is_some result ≡ option_lies_within cpu 0 MaxCpu }
+{
+    match cpu {
+        Some(value) => match within(value, 0, u64::from(MAX_CPU)) {
+            Some(number) => Some(number as u32),
+            None => None,
+        },
+        None => Some(0),
+    }
+}
+
 fn clock(form: ClockForm) -> Option<RawClock>
     ensures value { IfSome result (λ c. IsClock (clock_of form) c) }
     ensures exact { is_some result ≡ clock_fits (clock_of form) }
@@ -104,12 +118,15 @@ pub(crate) fn task_line(form: &TaskForm) -> Option<TaskLine>
     let prio = optional_priority(form.prio)?;
     let deadline = optional_span(form.deadline)?;
     let cost = span(form.cost)?;
+    let cpu = processor(form.cpu)?;
     Some(TaskLine {
         name: form.name,
         clock,
+        when: form.when,
         prio,
         deadline,
         cost,
+        cpu,
     })
 }
 

@@ -17,7 +17,7 @@ use crate::item::{Decl, Line, Part};
 use crate::line_forms::form;
 use crate::place::Place;
 use crate::ranges::{read_part, task_line, ticks};
-use crate::standing::stands;
+use crate::standing::may_stand;
 use dbp_plan::{Expr, Name};
 use dia_exprs::expression;
 use dia_tokens::Token;
@@ -72,7 +72,7 @@ fn kept(alloc: Global, form: &Form) -> Result<Line, LineError>
 {
     match form {
         Form::Nothing => Ok(Line::Nothing),
-        Form::Header => Ok(Line::Header),
+        Form::Header(version) => Ok(Line::Header(*version)),
         Form::Policy(policy) => Ok(Line::Policy(*policy)),
         Form::Until(end) => Ok(kept_until(*end)?),
         Form::Input(name, first) => Ok(Line::Decl(Decl::Input(*name, *first))),
@@ -92,18 +92,23 @@ fn kept(alloc: Global, form: &Form) -> Result<Line, LineError>
     }
 }
 
-/// What the tokens of a line of the diagram say that may stand at the place.
-pub(crate) fn statement(alloc: Global, place: Place, tokens: &[Token]) -> Result<Line, LineError>
+/// What the tokens of a line of the diagram say that may stand at the place in a document of the version.
+pub(crate) fn statement(
+    alloc: Global,
+    version: u32,
+    place: Place,
+    tokens: &[Token],
+) -> Result<Line, LineError>
     requires nodes { node_count (expression_of tokens.now) ≤ MAX_NODES }
     requires depth { depth_of tokens.now ≤ MAX_DEPTH }
     // The tokens are a statement that may stand here, whose numbers are within their limits, and the line holds it.
-    ensures found { IfOk result (λ l. KeepsStatement place tokens.now l) }
+    ensures found { IfOk result (λ l. KeepsStatement version place tokens.now l) }
     // BadLine: no statement may stand here; LimitHit Number: one may, with a number past its limit; no other fault.
-    ensures fault { IfErr result (λ e. RefusesStatement place tokens.now e) }
+    ensures fault { IfErr result (λ e. RefusesStatement version place tokens.now e) }
 {
     match form(tokens) {
         Some(form) => {
-            if stands(place, &form) {
+            if may_stand(version, place, &form) {
                 kept(alloc, &form)
             } else {
                 Err(LineError::from(ReadCode::BadLine))

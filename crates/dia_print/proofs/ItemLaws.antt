@@ -40,10 +40,10 @@ use Rattle.dia_lines.specs.declared.place.Place.TheVariants.{Header}
 use Rattle.dia_lines.specs.Delays.{delay_tokens}
 use Rattle.dia_lines.proofs.DelayLaws.{given_delay, longer-tokens, delay-spelled, each-delay-token}
 use Rattle.dia_lines.specs.Lines.{token_fault, lacks_header, expression_of}
-use Rattle.dia_lines.specs.Statements.{Statement, header, policy, until, trace, script, done, state, sense, fixed_priorities, earliest_deadline, an_until, a_trace, a_script, an_end, a_header, SpellsClock, from_offset, with_event, SpellsOption, left_out, given, at_tick, IsStatement, an_input, an_event, a_task, a_state, a_sense, a_read, a_let_line, a_next_line, an_out}
+use Rattle.dia_lines.specs.Statements.{Statement, header, policy, until, trace, script, done, state, sense, fixed_priorities, earliest_deadline, an_until, a_trace, a_script, an_end, a_header, SpellsClock, from_offset, with_event, always, SpellsOption, left_out, given, at_tick, IsStatement, an_input, an_event, a_task, a_state, a_sense, a_read, a_let_line, a_next_line, an_out}
 use Rattle.dia_print.specs.ExpressionTokens.{tokens_of}
 use Rattle.dia_print.specs.ItemTokens.{assigned, decl_tokens, clock_tokens, option_tokens, task_tokens, source_tokens, part_tokens, policy_tokens, until_tokens, header_tokens}
-use Rattle.dia_print.proofs.ItemStatements.{decl_statement, clock_of, task_statement, part_statement}
+use Rattle.dia_print.proofs.ItemStatements.{decl_statement, clock_of, header_of, task_statement, part_statement}
 use Rattle.dia_print.specs.Printable.{IsPrintableExpr, IsPrintableDecl, IsPrintableClock, IsPrintablePart, IsPrintableTaskLine}
 use Rattle.dia_print.proofs.ExpressionLaws.{spells-tokens, keeps-tokens, both-parts, each-printable, shallow}
 
@@ -63,8 +63,10 @@ option-says w (Some n) = given (pos n)
 
 pub task-says : (t : TaskLine) → IsStatement (task_tokens t) (task_statement t)
 task-says t =
-    a_task t.name (clock_tokens t.clock) (option_tokens word.Prio t.prio) (option_tokens word.Deadline t.deadline) (clock_of t.clock) (option_map pos t.prio) (option_map pos t.deadline) (pos t.cost)
-    (clock-says t.clock) (option-says word.Prio t.prio) (option-says word.Deadline t.deadline)
+    let ps = option_tokens word.Prio t.prio in
+    let ds = option_tokens word.Deadline t.deadline in
+    let all = a_task (header_of t) (clock_tokens t.clock) [] ps ds [] (clock-says t.clock) always (option-says word.Prio t.prio) (option-says word.Deadline t.deadline) left_out in
+    subst (λ (cs : List Token). IsStatement (Word word.Task ∷ Name t.name ∷ (cs ++ ps ++ ds ++ Word word.Cost ∷ Number (pos t.cost) ∷ [])) (task_statement t)) (append-nil (clock_tokens t.clock)) all
 
 pub part-says : (p : Part) → IsPrintablePart p → IsStatement (part_tokens p) (part_statement p)
 part-says (part.State n v) h = a_state n v
@@ -327,7 +329,7 @@ module _ (place : Place) (after : IsAfterHeader place) where
   pub done-line : IsLine place (Word word.Done ∷ []) done
   done-line = plain-line (Word word.Done ∷ []) done refl (λ k. refl, tt) an_end (tt, tt) (λ e. tt, tt)
 
-pub header-line : IsLine Header header_tokens header
+pub header-line : IsLine Header header_tokens (header 1)
 header-line = record {
   form = a_header;
   printable = All-from_recursion IsPrintableToken header_tokens (tt, (omega arith, tt));

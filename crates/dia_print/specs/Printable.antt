@@ -1,5 +1,5 @@
 -- Items of a document that a text can have.
-use Rattle.std.specs.Prelude.{ℕ, ◌≤◌, All, List}
+use Rattle.std.specs.Prelude.{◌≡◌, ℕ, ◌≤◌, All, List, None}
 use Rattle.std.specs.Option.{IfSome}
 use Rattle.dbp_plan.specs.declared.expr.Expr.{Expr}
 use Rattle.dbp_plan.specs.declared.limits.TheConstants.{MAX_TIME, MAX_PRIO}
@@ -34,9 +34,12 @@ IsPrintablePart (part.Let n e) = IsPrintableName n × IsPrintableExpr e
 IsPrintablePart (part.Next n e) = IsPrintableName n × IsPrintableExpr e
 IsPrintablePart (part.Out n v e) = IsPrintableName n × IsPrintableNumber v × IsPrintableExpr e
 
+-- canonical text has neither `when` nor `cpu`
 pub record IsPrintableTaskLine (t : TaskLine) : Type 0 where
   pub named : IsPrintableName t.name
   pub clock : IsPrintableClock t.clock
+  pub when : t.when ≡ None
   pub prio : IfSome t.prio (λ p. p ≤ MAX_PRIO)
   pub deadline : IfSome t.deadline (λ d. (1 ≤ d) × (d ≤ MAX_TIME))
   pub cost : (1 ≤ t.cost) × (t.cost ≤ MAX_TIME)
+  pub cpu : t.cpu ≡ 0

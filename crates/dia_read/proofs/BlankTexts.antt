@@ -25,7 +25,7 @@ blank-reads line blank allowed =
       tokens = [];
       spelled = record { texts = []; allowed = allowed; lexes = blank-lexes true line blank; values = none };
       faultless = refl;
-      stands = record { form = a_blank_line; next = Header; stands = refl };
+      stands = record { form = a_blank_line; next = Header; stands = refl; known = refl };
       within = refl;
     })
 

@@ -17,7 +17,7 @@ use Rattle.dia_lines.specs.declared.item.RawClock.TheVariants.{Every, On}
 use Rattle.dia_lines.specs.declared.item.TaskLine.{TaskLine}
 use Rattle.dia_lines.specs.Statements.{Statement, Clock, every, on, input, event, task, state, sense, read, a_let, a_next, out}
 use Rattle.dia_lines.specs.Delays.{delay_of}
-use Rattle.dia_lines.specs.Held.{IsDecl, IsClock, IsTaskLine, IsPart}
+use Rattle.dia_lines.specs.Held.{IsDecl, IsClock, cpu_of, IsTaskLine, IsPart}
 use Rattle.dia_lines.specs.Lines.{Said}
 use Rattle.dia_lines.specs.Text.{lines_of}
 use Rattle.dia_read.specs.declared.document.Body.{Body}
@@ -92,13 +92,15 @@ clock-one (on m) (On n) (Every q a) x y = absurd y
 clock-one (on m) (Every q a) d x y = absurd x
 
 task-line-one : (s : Statement) (t u : TaskLine) → IsTaskLine s t → IsTaskLine s u → t ≡ u
-task-line-one (task h) t u (a, b, c, e, f) (a', b', c', e', f') =
+task-line-one (task h) t u (a, b, w, c, e, f, p) (a', b', w', c', e', f', p') =
     let the_name : t.name ≡ u.name = sym a ∙ a' in
     let the_clock : t.clock ≡ u.clock = clock-one h.clock t.clock u.clock b b' in
+    let the_when : t.when ≡ u.when = sym w ∙ w' in
     let the_prio : t.prio ≡ u.prio = option-one t.prio u.prio h.prio c c' in
     let the_deadline : t.deadline ≡ u.deadline = option-one t.deadline u.deadline h.deadline e e' in
     let the_cost : t.cost ≡ u.cost = same-pos t.cost u.cost h.cost f f' in
-    λ i. record { name = the_name i; clock = the_clock i; prio = the_prio i; deadline = the_deadline i; cost = the_cost i }
+    let the_cpu : t.cpu ≡ u.cpu = same-pos t.cpu u.cpu (cpu_of h.cpu) p p' in
+    λ i. record { name = the_name i; clock = the_clock i; when = the_when i; prio = the_prio i; deadline = the_deadline i; cost = the_cost i; cpu = the_cpu i }
 task-line-one s t u a b = absurd a
 
 -- no line begins a task and is one of a body
@@ -125,7 +127,7 @@ cut-one xs ys us vs ps qs ts ws (another s p xs' ps' h f) (another z q ys' qs' g
 
 raw-task-one : (t u : RawTask) → first_line t ≡ first_line u → t.parts ≡ u.parts → t ≡ u
 raw-task-one t u line parts =
-    λ i. record { name = (line i).name; clock = (line i).clock; prio = (line i).prio; deadline = (line i).deadline; cost = (line i).cost; parts = parts i }
+    λ i. record { name = (line i).name; clock = (line i).clock; when = (line i).when; prio = (line i).prio; deadline = (line i).deadline; cost = (line i).cost; cpu = (line i).cpu; parts = parts i }
 
 tasks-one : (ss : List Statement) (ts us : List RawTask) → AreTasks ss ts → AreTasks ss us → ts ≡ us
 tasks-one ss ts us d e = go ss ss ts us refl d e

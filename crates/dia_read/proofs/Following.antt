@@ -16,9 +16,9 @@ use Rattle.dia_lines.specs.declared.item.Line.TheVariants as line
 use Rattle.dia_lines.specs.declared.place.Place.{Place}
 use Rattle.dia_lines.specs.declared.position.Position.{Position}
 use Rattle.dia_lines.specs.Statements.{Statement}
-use Rattle.dia_lines.specs.Places.{is_body, leads}
+use Rattle.dia_lines.specs.Places.{is_body, leads, is_of_version}
 use Rattle.dia_lines.specs.Limits.{numbers_fit, is_input, is_event, is_task, is_read, is_out, of_this_task, passed_count}
-use Rattle.dia_lines.specs.Lines.{Said, says, statements, place_after, keeps_lines, Reads, of_the_diagram}
+use Rattle.dia_lines.specs.Lines.{Said, says, statements, place_after, version_after, keeps_lines, Reads, of_the_diagram}
 use Rattle.dia_lines.specs.Held.{IsKept, IsHeld}
 use Rattle.dia_lines.specs.Positions.{IsAfter}
 use Rattle.dia_lines.specs.Sections.{is_trace_byte}
@@ -56,7 +56,7 @@ bare d = record d { lines = empty_draft.lines }
 
 bare-drafted : (d : Draft) (n : ℕ) (text : List ℕ) (l : Line) → bare (drafted d n text l) ≡ bare (drafted (bare d) 0 text l)
 bare-drafted d n text line.Nothing = refl
-bare-drafted d n text line.Header = refl
+bare-drafted d n text (line.Header v) = refl
 bare-drafted d n text (line.Policy p) = refl
 bare-drafted d n text (line.Until end) = refl
 bare-drafted d n text (line.Decl x) = refl
@@ -70,6 +70,7 @@ bare-drafted d n text (line.Step kept) = refl
 
 abbrev position_at : List Said → Position
 position_at before = record {
+  version = version_after before;
   place = place_after before;
   counts = record {
     inputs = length (filter is_input (statements before));
@@ -83,7 +84,7 @@ position_at before = record {
 }
 
 after-there : (before : List Said) → IsAfter before (position_at before)
-after-there before = record { place = refl; counts = record { inputs = refl; events = refl; tasks = refl; links = refl; body = refl; reads = refl; outs = refl } }
+after-there before = record { version = refl; place = refl; counts = record { inputs = refl; events = refl; tasks = refl; links = refl; body = refl; reads = refl; outs = refl } }
 
 -- ---- where a reader stands
 
@@ -128,35 +129,35 @@ within-limits ss s e f = rw (e, f) refl
 
 -- after a line of the diagram
 pub diagram-line : (bytes text rest : List ℕ) (place q : Place) (content : Draft) (ts : List Token) (s : Statement) (l : Line) → IsLine place ts s → SpellsTokens text ts
-    → keeps_lines place ≡ false → leads place s ≡ Some q → numbers_fit s ≡ true
+    → keeps_lines place ≡ false → leads place s ≡ Some q → ((version : ℕ) → is_of_version version s ≡ true) → numbers_fit s ≡ true
     → ((ss : List Statement) (d : Draft) → bare d ≡ content → Prints ss d → passed_count ss s ≡ None) → IsKept s l
     → At bytes (text ++ 10 ∷ rest) place content → At bytes rest q (bare (drafted content 0 [] l))
-diagram-line bytes text rest place q content ts s l is spelled diagram stands numbers room kept at =
+diagram-line bytes text rest place q content ts s l is spelled diagram stands known numbers room kept at =
     next-line bytes text rest place q content (says s) l (spelled-inside text ts spelled) kept
     (λ before here. rw (here, stands) refl)
     (λ before d here holds prints. of_the_diagram text s (rw here diagram) (record {
       tokens = ts;
       spelled = spelled;
       faultless = rw here is.faultless;
-      stands = record { form = is.form; next = q; stands = rw here stands };
+      stands = record { form = is.form; next = q; stands = rw here stands; known = known (version_after before) };
       within = within-limits (statements before) s numbers (room (statements before) d holds prints.items);
     }))
     at
 
 -- the same, if the line is that of its tokens
 pub token-line : (bytes rest : List ℕ) (place q : Place) (content : Draft) (ts : List Token) (s : Statement) (l : Line) → IsLine place ts s
-    → keeps_lines place ≡ false → leads place s ≡ Some q → numbers_fit s ≡ true
+    → keeps_lines place ≡ false → leads place s ≡ Some q → ((version : ℕ) → is_of_version version s ≡ true) → numbers_fit s ≡ true
     → ((ss : List Statement) (d : Draft) → bare d ≡ content → Prints ss d → passed_count ss s ≡ None) → IsKept s l
     → At bytes (line_text ts ++ 10 ∷ [] ++ rest) place content → At bytes rest q (bare (drafted content 0 [] l))
-token-line bytes rest place q content ts s l is diagram stands numbers room kept at =
-    diagram-line bytes (line_text ts) rest place q content ts s l is (line-spells ts is.printable is.signs) diagram stands numbers room kept
+token-line bytes rest place q content ts s l is diagram stands known numbers room kept at =
+    diagram-line bytes (line_text ts) rest place q content ts s l is (line-spells ts is.printable is.signs) diagram stands known numbers room kept
     (at-same bytes _ _ place content (append_assoc (line_text ts) (10 ∷ []) rest) at)
 
 -- after two spaces
 pub indented-line : (bytes rest : List ℕ) (place q : Place) (content : Draft) (ts : List Token) (s : Statement) (l : Line) → IsLine place ts s
-    → keeps_lines place ≡ false → leads place s ≡ Some q → numbers_fit s ≡ true
+    → keeps_lines place ≡ false → leads place s ≡ Some q → ((version : ℕ) → is_of_version version s ≡ true) → numbers_fit s ≡ true
     → ((ss : List Statement) (d : Draft) → bare d ≡ content → Prints ss d → passed_count ss s ≡ None) → IsKept s l
     → At bytes (codes "  " ++ (line_text ts ++ 10 ∷ []) ++ rest) place content → At bytes rest q (bare (drafted content 0 [] l))
-indented-line bytes rest place q content ts s l is diagram stands numbers room kept at =
-    diagram-line bytes (32 ∷ 32 ∷ line_text ts) rest place q content ts s l is (indented-spells ts is.printable is.signs) diagram stands numbers room kept
+indented-line bytes rest place q content ts s l is diagram stands known numbers room kept at =
+    diagram-line bytes (32 ∷ 32 ∷ line_text ts) rest place q content ts s l is (indented-spells ts is.printable is.signs) diagram stands known numbers room kept
     (at-same bytes _ _ place content (ap (λ (xs : List ℕ). 32 ∷ 32 ∷ xs) (append_assoc (line_text ts) (10 ∷ []) rest)) at)

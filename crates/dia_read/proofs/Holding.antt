@@ -258,8 +258,8 @@ module _ (said : List Said) (d : Draft) (h : Holds said d) where
   pub holds-more : (x : Said) (l : Line) → IsHeld x l → HasItsTask said l → Holds (said ++ x ∷ []) (drafted d (length said + 1) (kept_text x) l)
   holds-more (says nothing) line.Nothing i b =
       plain (says nothing) d (ends-with said (says nothing) d d h.ends refl refl refl refl refl) refl refl refl refl refl refl refl refl refl refl refl refl refl refl refl refl refl refl refl
-  holds-more (says header) line.Header i b =
-      plain (says header) d (ends-with said (says header) d d h.ends refl refl refl refl refl) refl refl refl refl refl refl refl refl refl refl refl refl refl refl refl refl refl refl refl
+  holds-more (says (header v)) (line.Header w) i b =
+      plain (says (header v)) d (ends-with said (says (header v)) d d h.ends refl refl refl refl refl) refl refl refl refl refl refl refl refl refl refl refl refl refl refl refl refl refl refl refl
   holds-more (says (policy p)) (line.Policy q) i b =
       let e = drafted d n [] (line.Policy q) in
       plain (says (policy p)) e (ends-with said (says (policy p)) d e h.ends i refl refl refl refl) refl refl refl refl refl refl refl refl refl refl refl refl refl refl refl refl refl refl refl

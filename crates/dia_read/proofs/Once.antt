@@ -73,7 +73,7 @@ one_more said x p q o one two three four five six =
 
 -- if a line may stand there, one more such line keeps it
 once-at : (said : List Said) (p : Place) (s : Statement) → Once said p → IfSome (leads p s) (λ q. Once (said ++ says s ∷ []) q)
-once-at said Header header o = one_more said (says header) Header Policy o refl refl (λ n. refl) (λ n. refl) (λ n. omega arith) (omega arith)
+once-at said Header (header v) o = one_more said (says (header v)) Header Policy o refl refl (λ n. refl) (λ n. refl) (λ n. omega arith) (omega arith)
 once-at said Policy (policy x) o = one_more said (says (policy x)) Policy Until o refl refl (λ n. refl) (λ n. refl) (λ n. omega arith) (omega arith)
 once-at said Until (until x) o = one_more said (says (until x)) Until Declarations o refl refl (λ n. refl) (λ n. refl) (λ n. omega arith) (omega arith)
 once-at said Declarations (input n v) o = one_more said (says (input n v)) Declarations Declarations o refl refl (λ n. refl) (λ n. refl) (λ n. omega arith) (omega arith)

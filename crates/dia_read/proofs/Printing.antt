@@ -1,16 +1,17 @@
 -- A draft holds what can be printed.
 use Rattle.std.proofs.Common.{◌≡◌, ℕ, ℤ, pos, ◌+◌, ◌≤◌, Bool, true, false, cond, All, List, [], ◌∷◌, ◌++◌, length, filter, Option, Some, None, refl, sym, ap, ◌∙◌, subst, append_assoc, arith, length-append}
 use Rattle.std.specs.Prelude.{nat_le, ◌&&◌, count_by, sum_by}
-use Rattle.std.specs.Option.{IfSome, option_to_list, option_map}
+use Rattle.std.specs.Option.{IfSome, is_none, option_to_list, option_map}
 use Rattle.std.proofs.lemmas.Bool.{and_parts}
 use Rattle.std.proofs.lemmas.Bool.Decides.{nat_tests}
 use Rattle.std.proofs.lemmas.List.Elements.{All-push, All-append}
 use Rattle.std.proofs.lemmas.List.Sums.{sum_by-append}
 use Rattle.dbp_plan.proofs.FirstFaults.{test-none}
-use Rattle.dbp_plan.specs.declared.limits.TheConstants.{MAX_TASKS, MAX_INPUTS, MAX_EVENTS, MAX_READS, MAX_READ_LINES, MAX_OUTS, MAX_BODY, MAX_TIME, MAX_PRIO}
+use Rattle.dbp_plan.specs.declared.limits.TheConstants.{MAX_TASKS, MAX_INPUTS, MAX_EVENTS, MAX_READS, MAX_READ_LINES, MAX_OUTS, MAX_BODY, MAX_TIME, MAX_PRIO, MAX_CPU}
 use Rattle.dbp_plan.specs.declared.expr.Expr.{Expr}
 use Rattle.dbp_plan.specs.Expr.{IsExprOf}
 use Rattle.dbp_plan.specs.Tree.{Tree}
+use Rattle.dia_tokens.specs.declared.token.Token.{Token}
 use Rattle.dia_tokens.proofs.SpellingLaws.{printable-tokens, spells-again, spelled-again}
 use Rattle.dia_lines.specs.declared.fault.ReadCode.TheVariants.{LimitHit}
 use Rattle.dia_lines.specs.declared.fault.Limit.{Limit}
@@ -24,11 +25,11 @@ use Rattle.dia_lines.specs.declared.item.Part.TheVariants as part
 use Rattle.dia_lines.specs.declared.item.RawClock.{RawClock}
 use Rattle.dia_lines.specs.declared.item.RawClock.TheVariants.{Every, On}
 use Rattle.dia_lines.specs.declared.item.TaskLine.{TaskLine}
-use Rattle.dia_lines.specs.Statements.{Statement, Clock, every, on, nothing, header, policy, until, input, event, task, state, sense, read, a_let, a_next, out, trace, script, done}
-use Rattle.dia_lines.specs.Places.{is_body}
+use Rattle.dia_lines.specs.Statements.{Statement, Clock, every, on, nothing, header, policy, until, input, event, task, state, sense, read, a_let, a_next, out, trace, script, done, IsStatement, a_header}
+use Rattle.dia_lines.specs.Places.{is_body, is_of_version}
 use Rattle.dia_lines.specs.Limits.{lies_within, option_lies_within, delay_fits, clock_fits, numbers_fit, is_input, is_event, is_task, is_read, is_out, of_this_task, passed_count}
-use Rattle.dia_lines.specs.Lines.{Said, says, row, step, statements, limit_fault, SaysInTrace, an_empty_row, trace_ends, script_begins, a_row, SaysInScript, no_step, script_ends, a_step, Reads, of_the_diagram, of_the_trace, of_the_script}
-use Rattle.dia_lines.specs.Held.{IsDecl, IsClock, IsTaskLine, IsPart, IsKept, IsHeld}
+use Rattle.dia_lines.specs.Lines.{Said, says, row, step, statements, version_after, limit_fault, SaysInTrace, an_empty_row, trace_ends, script_begins, a_row, SaysInScript, no_step, script_ends, a_step, Reads, of_the_diagram, of_the_trace, of_the_script}
+use Rattle.dia_lines.specs.Held.{IsDecl, IsClock, cpu_of, IsTaskLine, IsPart, IsKept, IsHeld}
 use Rattle.dia_exprs.specs.Printable.{IsPrintableTree}
 use Rattle.dia_exprs.proofs.PrintableTrees.{printable-nodes}
 use Rattle.dia_lines.proofs.RangeLaws.{within}
@@ -38,7 +39,7 @@ use Rattle.dia_lines.proofs.PrintableStatements.{IsPrintableStatement, printable
 use Rattle.dia_read.specs.declared.document.RawTask.{RawTask}
 use Rattle.dia_read.specs.declared.draft.Draft.{Draft}
 use Rattle.dia_read.specs.declared.draft.Section.{Section}
-use Rattle.dia_read.specs.Documents.{kept_text}
+use Rattle.dia_read.specs.Documents.{Run, no_line, a_line, kept_text}
 use Rattle.dia_read.specs.Drafts.{empty_draft, task_of, with_part, drafted, section_text, finished}
 use Rattle.dia_read.specs.Printable.{IsPrintableExpr, IsPrintableDecl, IsPrintableClock, IsPrintablePart, is_input_decl, is_event_decl, is_read_part, is_out_part, IsPrintableTask, ended_lines, KeepsItself, IsPrintable}
 use Rattle.dia_read.proofs.Holding.{all_tasks}
@@ -58,11 +59,12 @@ below count most e = grind (arith, nat_tests)
 
 -- ---- what a line promises
 
--- the numbers and the counts of a statement after those before it, and its names
+-- the numbers and the counts of a statement after those before it, its names and its version
 pub record IsSound (before : List Statement) (s : Statement) : Type 0 where
   pub free : IsPrintableStatement s
   pub numbers : numbers_fit s ≡ true
   pub counts : passed_count before s ≡ None
+  pub plain : is_of_version 1 s ≡ true
 
 decl-prints : (s : Statement) (d : Decl) → IsDecl s d → IsPrintableStatement s → IsPrintableDecl d
 decl-prints (input n v) (Input m w) (a, b) f = (rw (← a) f.0, rw (← b) f.1)
@@ -101,18 +103,30 @@ clock-prints (on e) (On m) a f h = rw (← a) f
 clock-prints (every p o) (On m) a f h = absurd a
 clock-prints (on e) (Every r s) a f h = absurd a
 
-task-prints : (s : Statement) (t : TaskLine) → IsTaskLine s t → IsPrintableStatement s → numbers_fit s ≡ true → IsPrintableTask (task_of t)
-task-prints (task s) t (a, b, c, e, g) f h =
-    let one = and_parts (clock_fits s.clock && option_lies_within s.prio 0 MAX_PRIO && option_lies_within s.deadline 1 MAX_TIME) (lies_within s.cost 1 MAX_TIME) h in
+no-name : (when : Option (List ℕ)) → is_none when ≡ true → when ≡ None
+no-name None e = refl
+no-name (Some n) e = absurd cc
+
+no-cpu : (cpu : Option ℤ) (n : ℕ) → cpu_of cpu ≡ pos n → is_none cpu ≡ true → n ≡ 0
+no-cpu None n is e = let same : 0 ≡ n = cc in sym same
+no-cpu (Some z) n is e = absurd cc
+
+task-prints : (s : Statement) (t : TaskLine) → IsTaskLine s t → IsPrintableStatement s → numbers_fit s ≡ true → is_of_version 1 s ≡ true → IsPrintableTask (task_of t)
+task-prints (task s) t (a, b, w, c, e, g, u) f h v =
+    let none = and_parts (is_none s.when) (is_none s.cpu) v in
+    let all = and_parts (clock_fits s.clock && option_lies_within s.prio 0 MAX_PRIO && option_lies_within s.deadline 1 MAX_TIME && lies_within s.cost 1 MAX_TIME) (option_lies_within s.cpu 0 MAX_CPU) h in
+    let one = and_parts (clock_fits s.clock && option_lies_within s.prio 0 MAX_PRIO && option_lies_within s.deadline 1 MAX_TIME) (lies_within s.cost 1 MAX_TIME) all.0 in
     let two = and_parts (clock_fits s.clock && option_lies_within s.prio 0 MAX_PRIO) (option_lies_within s.deadline 1 MAX_TIME) one.0 in
     let three = and_parts (clock_fits s.clock) (option_lies_within s.prio 0 MAX_PRIO) two.0 in
     record {
       line = record {
         named = rw (← a) f.0;
         clock = clock-prints s.clock t.clock b f.1 three.0;
+        when = sym w ∙ no-name s.when none.0;
         prio = upper t.prio MAX_PRIO (option-within t.prio s.prio 0 MAX_PRIO c three.1);
         deadline = option-within t.deadline s.deadline 1 MAX_TIME e two.1;
         cost = within t.cost 1 MAX_TIME s.cost g one.1;
+        cpu = no-cpu s.cpu t.cpu u none.1;
       };
       parts = λ j x l. absurd (omega arith);
       body = omega arith;
@@ -123,7 +137,7 @@ task-prints (task s) t (a, b, c, e, g) f h =
     upper : (o : Option ℕ) (most : ℕ) → IfSome o (λ v. (0 ≤ v) × (v ≤ most)) → IfSome o (λ v. v ≤ most)
     upper None most h = tt
     upper (Some v) most h = h.1
-task-prints s t a f h = absurd a
+task-prints s t a f h v = absurd a
 
 -- ---- a draft
 
@@ -255,8 +269,8 @@ all-latest : (o : Option RawTask) (ss : List Statement) → IfSome o (IsLatest s
 all-latest None ss h = λ k x l. absurd (omega arith)
 all-latest (Some t) ss h = All-push IsPrintableTask [] t (λ k x l. absurd (omega arith)) h.prints
 
-task-line-more : (ss : List Statement) (s : Statement) (t : TaskLine) (d : Draft) (n : ℕ) → Prints ss d → IsTaskLine s t → IsPrintableStatement s → numbers_fit s ≡ true → HasCounts ss s → Prints (s ∷ ss) (drafted d n [] (line.Task t))
-task-line-more ss (task x) t d n p i f h c = record {
+task-line-more : (ss : List Statement) (s : Statement) (t : TaskLine) (d : Draft) (n : ℕ) → Prints ss d → IsTaskLine s t → IsPrintableStatement s → numbers_fit s ≡ true → is_of_version 1 s ≡ true → HasCounts ss s → Prints (s ∷ ss) (drafted d n [] (line.Task t))
+task-line-more ss (task x) t d n p i f h v c = record {
   until = p.until;
   decls = p.decls;
   inputs = p.inputs;
@@ -264,13 +278,13 @@ task-line-more ss (task x) t d n p i f h c = record {
   few_inputs = p.few_inputs;
   few_events = p.few_events;
   earlier = All-append IsPrintableTask d.tasks.earlier (option_to_list d.tasks.latest) p.earlier (all-latest d.tasks.latest ss p.latest);
-  latest = record { prints = task-prints (task x) t i f h; body = refl; reads = refl; outs = refl };
+  latest = record { prints = task-prints (task x) t i f h v; body = refl; reads = refl; outs = refl };
   tasks = omega (arith, length-append (all_tasks d.tasks) (task_of t ∷ []), p.tasks);
   few_tasks = omega (arith, c.tasks refl);
   links = sum_by-append reads_of (all_tasks d.tasks) (task_of t ∷ []) ∙ omega (arith, p.links);
   few_links = p.few_links;
 }
-task-line-more ss s t d n p i f h c = absurd i
+task-line-more ss s t d n p i f h v c = absurd i
 
 -- ---- one more line of a body
 
@@ -380,14 +394,14 @@ same-statement ss s d e p i v t r b c u end decls tasks = prints-kept ss (s ∷ 
 
 prints-stated : (ss : List Statement) (s : Statement) (l : Line) (d : Draft) (n : ℕ) → Prints ss d → IsSound ss s → IsKept s l → HasLatest d l → Prints (s ∷ ss) (drafted d n [] l)
 prints-stated ss nothing line.Nothing d n p i k h = same-statement ss nothing d d p refl refl refl refl refl refl refl p.until refl refl
-prints-stated ss header line.Header d n p i k h = same-statement ss header d d p refl refl refl refl refl refl refl p.until refl refl
+prints-stated ss (header v) (line.Header w) d n p i k h = same-statement ss (header v) d d p refl refl refl refl refl refl refl p.until refl refl
 prints-stated ss (policy x) (line.Policy y) d n p i k h = same-statement ss (policy x) d (drafted d n [] (line.Policy y)) p refl refl refl refl refl refl refl p.until refl refl
 prints-stated ss (until x) (line.Until y) d n p i k h = same-statement ss (until x) d (drafted d n [] (line.Until y)) p refl refl refl refl refl refl refl (within y 0 MAX_TIME x k i.numbers).1 refl refl
 prints-stated ss trace line.Trace d n p i k h = same-statement ss trace d (drafted d n [] line.Trace) p refl refl refl refl refl refl refl p.until refl refl
 prints-stated ss script line.Script d n p i k h = same-statement ss script d (drafted d n [] line.Script) p refl refl refl refl refl refl refl p.until refl refl
 prints-stated ss done line.Done d n p i k h = same-statement ss done d (drafted d n [] line.Done) p refl refl refl refl refl refl refl p.until refl refl
 prints-stated ss s (line.Decl x) d n p i k h = decl-more ss s x d n p (kept-decl s x k) i.free (counts-of ss s i.counts)
-prints-stated ss s (line.Task t) d n p i k h = task-line-more ss s t d n p (kept-task s t k) i.free i.numbers (counts-of ss s i.counts)
+prints-stated ss s (line.Task t) d n p i k h = task-line-more ss s t d n p (kept-task s t k) i.free i.numbers i.plain (counts-of ss s i.counts)
 prints-stated ss s (line.Part x) d n p i k h = part-line-more ss s x d n h.0 h.1 p (kept-part s x k) i.free i.numbers (counts-of ss s i.counts)
 prints-stated ss s l d n p i k h = absurd k
 
@@ -399,7 +413,7 @@ prints-same {ss} {d} {e} p end decls tasks =
 -- a statement keeps nothing in a section
 sections-stay : (s : Statement) (l : Line) (d : Draft) (n : ℕ) → IsKept s l → ((drafted d n [] l).trace.text ≡ d.trace.text) × ((drafted d n [] l).script.text ≡ d.script.text)
 sections-stay s line.Nothing d n k = (refl, refl)
-sections-stay s line.Header d n k = (refl, refl)
+sections-stay s (line.Header v) d n k = (refl, refl)
 sections-stay s (line.Policy x) d n k = (refl, refl)
 sections-stay s (line.Until x) d n k = (refl, refl)
 sections-stay s (line.Decl x) d n k = (refl, refl)
@@ -475,14 +489,33 @@ fault-free ss s e = go (numbers_fit s) (passed_count ss s) refl refl e
     go true (Some l) n c e = absurd cc
     go false o n c e = absurd cc
 
-pub sound-line : (before : List Said) (bytes : List ℕ) (x : Said) → Reads before bytes x → IsSoundLine (statements before) x
-sound-line before bytes x (of_the_diagram b s e i) =
+-- a line leaves the version at 1, since no header names another
+version-after : (before : List Said) (bytes : List ℕ) (x : Said) → version_after before ≡ 1 → Reads before bytes x → version_after (x ∷ before) ≡ 1
+version-after before bytes x v (of_the_diagram b s e i) = by_form i.tokens s i.stands.form
+  where
+    by_form : (ts : List Token) (s : Statement) → IsStatement ts s → version_after (says s ∷ before) ≡ 1
+    by_form ts s a_header = refl
+    by_form ts s form = v
+version-after before bytes x v (of_the_trace b s e (an_empty_row c i)) = v
+version-after before bytes x v (of_the_trace b s e (trace_ends c i)) = v
+version-after before bytes x v (of_the_trace b s e (script_begins c i)) = v
+version-after before bytes x v (of_the_trace b s e (a_row c i j)) = v
+version-after before bytes x v (of_the_script b s e (no_step c i)) = v
+version-after before bytes x v (of_the_script b s e (script_ends c i)) = v
+version-after before bytes x v (of_the_script b s e (a_step c u ts i n m k)) = v
+
+pub version-of-run : (before after : List Said) (lines : List (List ℕ)) → version_after before ≡ 1 → Run before lines after → version_after after ≡ 1
+version-of-run before after lines v (no_line b) = v
+version-of-run before after lines v (a_line b a line ls said r run) = version-of-run (said ∷ b) a ls (version-after b line said v r) run
+
+pub sound-line : (before : List Said) (bytes : List ℕ) (x : Said) → version_after before ≡ 1 → Reads before bytes x → IsSoundLine (statements before) x
+sound-line before bytes x v (of_the_diagram b s e i) =
     let free = fault-free (statements before) s i.within in
-    record { free = printable-statement i.tokens s i.stands.form (printable-tokens b i.tokens i.spelled); numbers = free.0; counts = free.1 }
-sound-line before bytes x (of_the_trace b s e (an_empty_row c i)) = record { free = tt; numbers = refl; counts = refl }
-sound-line before bytes x (of_the_trace b s e (trace_ends c i)) = record { free = tt; numbers = refl; counts = refl }
-sound-line before bytes x (of_the_trace b s e (script_begins c i)) = record { free = tt; numbers = refl; counts = refl }
-sound-line before bytes x (of_the_trace b s e (a_row c i j)) = a_row c i j
-sound-line before bytes x (of_the_script b s e (no_step c i)) = record { free = tt; numbers = refl; counts = refl }
-sound-line before bytes x (of_the_script b s e (script_ends c i)) = record { free = tt; numbers = refl; counts = refl }
-sound-line before bytes x (of_the_script b s e (a_step c u ts i n m k)) = a_step u u ts (spells-again c u ts i k) n m (spelled-again c u k)
+    record { free = printable-statement i.tokens s i.stands.form (printable-tokens b i.tokens i.spelled); numbers = free.0; counts = free.1; plain = subst (λ (n : ℕ). is_of_version n s ≡ true) v i.stands.known }
+sound-line before bytes x v (of_the_trace b s e (an_empty_row c i)) = record { free = tt; numbers = refl; counts = refl; plain = refl }
+sound-line before bytes x v (of_the_trace b s e (trace_ends c i)) = record { free = tt; numbers = refl; counts = refl; plain = refl }
+sound-line before bytes x v (of_the_trace b s e (script_begins c i)) = record { free = tt; numbers = refl; counts = refl; plain = refl }
+sound-line before bytes x v (of_the_trace b s e (a_row c i j)) = a_row c i j
+sound-line before bytes x v (of_the_script b s e (no_step c i)) = record { free = tt; numbers = refl; counts = refl; plain = refl }
+sound-line before bytes x v (of_the_script b s e (script_ends c i)) = record { free = tt; numbers = refl; counts = refl; plain = refl }
+sound-line before bytes x v (of_the_script b s e (a_step c u ts i n m k)) = a_step u u ts (spells-again c u ts i k) n m (spelled-again c u k)

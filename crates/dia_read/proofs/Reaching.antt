@@ -21,7 +21,7 @@ use Rattle.dia_read.proofs.Once.{Once, once-more, once-start}
 use Rattle.dia_read.proofs.Holding.{Holds, HasItsTask, holds-more, holds-start}
 use Rattle.dia_read.proofs.KeptLines.{run-more, in-body, no-row, no-step, kept-fits}
 use Rattle.dia_read.proofs.Paired.{Paired, PairsWith, paired-start, paired-more, row-has-no-feed, trace-begun, script-begun}
-use Rattle.dia_read.proofs.Printing.{PrintsAll, HasLatest, prints-start, prints-more, sound-line}
+use Rattle.dia_read.proofs.Printing.{PrintsAll, HasLatest, prints-start, prints-more, version-of-run, sound-line}
 use Rattle.dia_read.proofs.Bounds.{Bounded, KeptFits, bounded-more, bounded-start, has-room}
 
 -- ---- how far
@@ -118,7 +118,7 @@ module _ (bytes rest : List ℕ) (number : ℕ) (position : Position) (draft : D
             let kept : KeptFits l (kept_text said) (2 * add) = kept-fits reached.before text said l add reads held (omega arith) (omega arith) in
             subst (λ (k : ℕ). Bounded (drafted draft (number + 1) (kept_text said) l) (number + 1) k) (omega arith) (bounded-more draft (number + 1) number (2 * reached.used) (2 * add) (kept_text said) l reached.bounded kept);
         paired = paired-more draft (number + 1) (kept_text said) l reached.paired (pairs l said reads held);
-        printing = prints-more reached.before said l draft (number + 1) reached.printing (sound-line reached.before text said reads) held (latest l said reads held);
+        printing = prints-more reached.before said l draft (number + 1) reached.printing (sound-line reached.before text said (version-of-run [] reached.before reached.seen refl reached.run) reads) held (latest l said reads held);
         few = omega (arith, reached.few);
         within = omega (arith, reached.within);
       }

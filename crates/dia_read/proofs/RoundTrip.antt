@@ -1,9 +1,10 @@
 -- The canonical text of a document spells the document.
 use Rattle.std.proofs.Common.{◌≡◌, ℕ, pos, ◌+◌, ◌≤◌, Bool, true, false, cond, List, [], ◌∷◌, ◌++◌, codes, length, Option, Some, None, refl, sym, ap, subst, ◌∙◌, arith, append_assoc, length-append}
-use Rattle.std.specs.Prelude.{◌&&◌, count_by, sum_by}
+use Rattle.std.specs.Prelude.{◌&&◌, ◌==◌, count_by, sum_by}
 use Rattle.std.specs.List.{AllByRecursion, list_all, flat_map}
 use Rattle.std.specs.Option.{IfSome, option_map}
 use Rattle.std.proofs.lemmas.Bool.{and_from}
+use Rattle.std.proofs.Math.Bool.{or-true}
 use Rattle.std.proofs.lemmas.List.{append-nil}
 use Rattle.std.proofs.lemmas.List.Elements.{recursion_from_All}
 use Rattle.std.proofs.lemmas.List.Sums.{sum_by-append, sum_by-cons}
@@ -26,7 +27,7 @@ use Rattle.dia_lines.specs.declared.item.TaskLine.{TaskLine}
 use Rattle.dia_lines.specs.declared.place.Place.{Place}
 use Rattle.dia_lines.specs.declared.place.Place.TheVariants.{Header, Policy as PolicyPlace, Until, Declarations, Body as BodyPlace, Trace, Script, Ended}
 use Rattle.dia_lines.specs.Statements.{Statement, header, policy, until, trace, script, done}
-use Rattle.dia_lines.specs.Places.{leads}
+use Rattle.dia_lines.specs.Places.{leads, is_of_version}
 use Rattle.dia_lines.specs.Limits.{lies_within, option_lies_within, delay_fits, clock_fits, numbers_fit, passed_count}
 use Rattle.dia_lines.specs.Lines.{says, row, step, keeps_lines, of_the_trace, of_the_script, SaysInTrace, trace_ends, script_begins, SaysInScript, script_ends, a_step}
 use Rattle.dia_lines.specs.Held.{IsClock, IsKept}
@@ -75,11 +76,13 @@ deadline-fits (Some n) h = fits n 1 MAX_TIME h.0 h.1
 
 task-fits : (t : TaskLine) → IsPrintableTaskLine t → numbers_fit (task_statement t) ≡ true
 task-fits t h =
-    and_from (clock_fits (clock_of t.clock) && option_lies_within (option_map pos t.prio) 0 MAX_PRIO && option_lies_within (option_map pos t.deadline) 1 MAX_TIME) (lies_within (pos t.cost) 1 MAX_TIME)
+    and_from (clock_fits (clock_of t.clock) && option_lies_within (option_map pos t.prio) 0 MAX_PRIO && option_lies_within (option_map pos t.deadline) 1 MAX_TIME && lies_within (pos t.cost) 1 MAX_TIME) true
+    (and_from (clock_fits (clock_of t.clock) && option_lies_within (option_map pos t.prio) 0 MAX_PRIO && option_lies_within (option_map pos t.deadline) 1 MAX_TIME) (lies_within (pos t.cost) 1 MAX_TIME)
     (and_from (clock_fits (clock_of t.clock) && option_lies_within (option_map pos t.prio) 0 MAX_PRIO) (option_lies_within (option_map pos t.deadline) 1 MAX_TIME)
     (and_from (clock_fits (clock_of t.clock)) (option_lies_within (option_map pos t.prio) 0 MAX_PRIO) (clock-fits t.clock h.clock) (prio-fits t.prio h.prio))
     (deadline-fits t.deadline h.deadline))
-    (fits t.cost 1 MAX_TIME h.cost.0 h.cost.1)
+    (fits t.cost 1 MAX_TIME h.cost.0 h.cost.1))
+    refl
 
 decl-fits : (d : Decl) → numbers_fit (decl_statement d) ≡ true
 decl-fits (Input n v) = refl
@@ -103,8 +106,8 @@ clock-kept : (c : RawClock) → IsClock (clock_of c) c
 clock-kept (Every p o) = (refl, refl)
 clock-kept (On n) = refl
 
-task-kept : (t : TaskLine) → IsKept (task_statement t) (line.Task t)
-task-kept t = (refl, clock-kept t.clock, refl, refl, refl)
+task-kept : (t : TaskLine) → IsPrintableTaskLine t → IsKept (task_statement t) (line.Task t)
+task-kept t h = (refl, clock-kept t.clock, sym h.when, refl, refl, refl, ap (λ (n : ℕ). pos n) (sym h.cpu))
 
 part-kept : (p : Part) → IsKept (part_statement p) (line.Part p)
 part-kept (part.State n v) = (refl, refl)
@@ -173,6 +176,20 @@ to-decl : (d : Decl) → leads Declarations (decl_statement d) ≡ Some Declarat
 to-decl (Input n v) = refl
 to-decl (Event n) = refl
 
+-- ---- versions
+
+decl-of-each : (d : Decl) (version : ℕ) → is_of_version version (decl_statement d) ≡ true
+decl-of-each (Input n v) version = refl
+decl-of-each (Event n) version = refl
+
+part-of-each : (p : Part) (version : ℕ) → is_of_version version (part_statement p) ≡ true
+part-of-each (part.State n v) version = refl
+part-of-each (part.Sense n i) version = refl
+part-of-each (part.Read n d w p a) version = refl
+part-of-each (part.Let n e) version = refl
+part-of-each (part.Next n e) version = refl
+part-of-each (part.Out n v e) version = refl
+
 -- ---- counts
 
 count-front : {A : Type 0} (p : A → Bool) (xs ys : List A) → count_by p xs ≤ count_by p (xs ++ ys)
@@ -200,7 +217,7 @@ decls-follow bytes rest p end ts tr sc pre (d ∷ ds) h few_inputs few_events at
     let decls : e.decls ≡ pre = ap (λ (k : Draft). k.decls) is in
     decl-room ss e d prints (rw decls inputs) (rw decls events) in
     let next = token-line bytes (flat_map decl_text ds ++ rest) Declarations Declarations (content p end pre ts tr sc) (decl_tokens d) (decl_statement d) (line.Decl d) (decl-line Declarations declarations-after d h.0)
-    refl (to-decl d) (decl-fits d) room (decl-kept d) (at-same bytes _ _ Declarations _ (append_assoc (decl_text d) (flat_map decl_text ds) rest) at) in
+    refl (to-decl d) (decl-of-each d) (decl-fits d) room (decl-kept d) (at-same bytes _ _ Declarations _ (append_assoc (decl_text d) (flat_map decl_text ds) rest) at) in
     subst (λ all. At bytes rest Declarations (content p end all ts tr sc)) same
     (decls-follow bytes rest p end ts tr sc (pre ++ d ∷ []) ds h.1 (rw same few_inputs) (rw same few_events) next)
 
@@ -226,7 +243,7 @@ parts-follow bytes rest p end ds tr sc es t pre (x ∷ ps) h body reads outs lin
     (λ is_read. (omega (arith, reads, count-here is_read_part pre x ps is_read), omega (arith, links, count-here is_read_part pre x ps is_read, all, ap (λ (k : Tasks). sum_by reads_of (all_tasks k)) tasks)))
     (λ is_out. omega (arith, outs, count-here is_out_part pre x ps is_out)) in
     let next = indented-line bytes (flat_map part_text ps ++ rest) BodyPlace BodyPlace now (part_tokens x) (part_statement x) (line.Part x) (part-line BodyPlace body-after x h.0)
-    refl (to-part x) (part-fits x h.0) room (part-kept x) (at-same bytes _ _ BodyPlace _ (append_assoc (part_text x) (flat_map part_text ps) rest) at) in
+    refl (to-part x) (part-of-each x) (part-fits x h.0) room (part-kept x) (at-same bytes _ _ BodyPlace _ (append_assoc (part_text x) (flat_map part_text ps) rest) at) in
     subst (λ qs. At bytes rest BodyPlace (content p end ds (record { earlier = es; latest = Some (with_parts t qs) }) tr sc)) same
     (parts-follow bytes rest p end ds tr sc es t (pre ++ x ∷ []) ps h.1 (rw same body) (rw same reads) (rw same outs) (rw same links) next)
 
@@ -240,7 +257,7 @@ task-follows bytes rest p end ds tr sc ts place t o h few links at =
     let tasks : e.tasks ≡ ts = ap (λ (k : Draft). k.tasks) is in
     task-room ss e (first_line t) prints (rw tasks few) in
     let next = token-line bytes (flat_map part_text t.parts ++ rest) place BodyPlace (content p end ds ts tr sc) (task_tokens (first_line t)) (task_statement (first_line t)) (line.Task (first_line t))
-    (task-line place (open-after place o) (first_line t) h.line) (open-diagram place o) (to-task place (first_line t) o) (task-fits (first_line t) h.line) room (task-kept (first_line t))
+    (task-line place (open-after place o) (first_line t) h.line) (open-diagram place o) (to-task place (first_line t) o) (λ version. or-true (version == 2)) (task-fits (first_line t) h.line) room (task-kept (first_line t) h.line)
     (at-same bytes _ _ place _ (append_assoc (line_of (task_tokens (first_line t))) (flat_map part_text t.parts) rest) at) in
     parts-follow bytes rest p end ds tr sc (all_tasks ts) t [] t.parts (recursion_from_All IsPrintablePart t.parts h.parts) h.body h.reads h.outs links next
 
@@ -320,7 +337,7 @@ trace-follows bytes rest p end ds ts sc place (Some text) o h at =
     let lines = h.0 in
     let begun : Section = record { begun = true; text = [] } in
     let next = token-line bytes (text ++ rest) place Trace (content p end ds ts empty_section sc) (token.Word word.Trace ∷ []) trace line.Trace (trace-line place (open-after place o))
-    (open-diagram place o) (to-trace place o) refl (λ ss d is prints. refl) tt (at-same bytes _ _ place _ (append_assoc (line_of (token.Word word.Trace ∷ [])) text rest) at) in
+    (open-diagram place o) (to-trace place o) (λ version. refl) refl (λ ss d is prints. refl) tt (at-same bytes _ _ place _ (append_assoc (line_of (token.Word word.Trace ∷ [])) text rest) at) in
     let rows = rows-follow bytes rest p end ds ts begun sc lines (recursion_from_All (λ l. SaysInTrace l (row l)) lines h.2) (subst (λ t. At bytes (t ++ rest) Trace (content p end ds ts begun sc)) h.1 next) in
     record { place = Trace; before_script = in_trace; at = subst (λ t. At bytes rest Trace (content p end ds ts (record { begun = true; text = t }) sc)) (sym h.1) rows }
 
@@ -340,7 +357,7 @@ record AfterScript (bytes rest : List ℕ) (p : Policy) (end : ℕ) (ds : List D
 script-begins : (bytes rest : List ℕ) (p : Policy) (end : ℕ) (ds : List Decl) (ts : Tasks) (tr : Section) (place : Place) → IsBeforeScript place
     → At bytes (line_of (token.Word word.Script ∷ []) ++ rest) place (content p end ds ts tr empty_section) → At bytes rest Script (content p end ds ts tr (record { begun = true; text = [] }))
 script-begins bytes rest p end ds ts tr place (no_trace q o) at =
-    token-line bytes rest q Script (content p end ds ts tr empty_section) (token.Word word.Script ∷ []) script line.Script (script-line q (open-after q o)) (open-diagram q o) (to-script q o) refl (λ ss d is prints. refl) tt at
+    token-line bytes rest q Script (content p end ds ts tr empty_section) (token.Word word.Script ∷ []) script line.Script (script-line q (open-after q o)) (open-diagram q o) (to-script q o) (λ version. refl) refl (λ ss d is prints. refl) tt at
 script-begins bytes rest p end ds ts tr place in_trace at =
     next-line bytes (codes "script") rest Trace Script (content p end ds ts tr empty_section) (says script) line.Script refl tt (λ before here. rw here refl)
     (λ before d here holds prints. of_the_trace (codes "script") (says script) here (script_begins (codes "script") (word-alone (codes "script")))) at
@@ -363,7 +380,7 @@ done-spelled = let is = done-line BodyPlace body-after in line-spells (token.Wor
 end-follows : (bytes : List ℕ) (p : Policy) (end : ℕ) (ds : List Decl) (ts : Tasks) (tr sc : Section) (place : Place) → IsBeforeEnd place
     → At bytes (line_of (token.Word word.Done ∷ []) ++ []) place (content p end ds ts tr sc) → At bytes [] Ended (content p end ds ts tr sc)
 end-follows bytes p end ds ts tr sc place (no_script q (no_trace r o)) at =
-    token-line bytes [] r Ended (content p end ds ts tr sc) (token.Word word.Done ∷ []) done line.Done (done-line r (open-after r o)) (open-diagram r o) (to-end r o) refl (λ ss d is prints. refl) tt at
+    token-line bytes [] r Ended (content p end ds ts tr sc) (token.Word word.Done ∷ []) done line.Done (done-line r (open-after r o)) (open-diagram r o) (to-end r o) (λ version. refl) refl (λ ss d is prints. refl) tt at
 end-follows bytes p end ds ts tr sc place (no_script q in_trace) at =
     next-line bytes (codes "done") [] Trace Ended (content p end ds ts tr sc) (says done) line.Done refl tt (λ before here. rw here refl)
     (λ before d here holds prints. of_the_trace (codes "done") (says done) here (trace_ends (codes "done") (word-alone (codes "done")))) at
@@ -400,12 +417,12 @@ round-trip body h =
     let empty = empty_section in
     let start = at-same bytes _ _ Header _ (eight (line_of header_tokens) (line_of (policy_tokens body.policy)) (line_of (until_tokens body.until)) (flat_map decl_text body.decls) (flat_map task_text body.tasks)
     (section_lines word.Trace body.trace) (section_lines word.Script body.script) (line_of (token.Word word.Done ∷ []))) (at-start bytes) in
-    let one = token-line bytes (line_of (policy_tokens body.policy) ++ (line_of (until_tokens body.until) ++ decls)) Header PolicyPlace (content Fp 0 [] none empty empty) header_tokens header line.Header header-line
-    refl refl refl (λ ss d is prints. refl) tt start in
+    let one = token-line bytes (line_of (policy_tokens body.policy) ++ (line_of (until_tokens body.until) ++ decls)) Header PolicyPlace (content Fp 0 [] none empty empty) header_tokens (header 1) (line.Header 1) header-line
+    refl refl (λ version. refl) refl (λ ss d is prints. refl) refl start in
     let two = token-line bytes (line_of (until_tokens body.until) ++ decls) PolicyPlace Until (content Fp 0 [] none empty empty) (policy_tokens body.policy) (policy body.policy) (line.Policy body.policy)
-    (policy-line PolicyPlace policy-after body.policy) refl refl refl (λ ss d is prints. refl) refl one in
+    (policy-line PolicyPlace policy-after body.policy) refl refl (λ version. refl) refl (λ ss d is prints. refl) refl one in
     let three = token-line bytes decls Until Declarations (content body.policy 0 [] none empty empty) (until_tokens body.until) (until (pos body.until)) (line.Until body.until)
-    (until-line Until until-after body.until h.until) refl refl (fits body.until 0 MAX_TIME (omega arith) h.until) (λ ss d is prints. refl) refl two in
+    (until-line Until until-after body.until h.until) refl refl (λ version. refl) (fits body.until 0 MAX_TIME (omega arith) h.until) (λ ss d is prints. refl) refl two in
     let four = decls-follow bytes tasks body.policy body.until none empty empty [] body.decls (recursion_from_All IsPrintableDecl body.decls h.decls) h.inputs h.events three in
     let five = tasks-follow bytes sections body.policy body.until body.decls empty empty none Declarations body.tasks in_declarations (recursion_from_All IsPrintableTask body.tasks h.tasks) h.few h.links four in
     let six = trace-follows bytes script_and_last body.policy body.until body.decls five.tasks empty five.place body.trace five.open_there h.trace five.at in

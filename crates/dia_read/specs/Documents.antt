@@ -45,7 +45,7 @@ pub data Fit {A B : Type 0} (Is : A → B → Type 0) : List A → List B → Ty
 
 -- the line that begins a task
 abbrev pub first_line : RawTask → TaskLine
-first_line t = record { name = t.name; clock = t.clock; prio = t.prio; deadline = t.deadline; cost = t.cost }
+first_line t = record { name = t.name; clock = t.clock; when = t.when; prio = t.prio; deadline = t.deadline; cost = t.cost; cpu = t.cpu }
 
 -- task lines, each with the lines of its body after it, are the tasks
 pub data AreTasks : List Statement → List RawTask → Type 0 where

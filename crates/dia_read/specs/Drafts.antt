@@ -14,7 +14,7 @@ use Rattle.dia_read.specs.declared.draft.Tasks.{Tasks}
 
 -- the task that a line begins, without a body yet
 abbrev pub task_of : TaskLine → RawTask
-task_of t = record { name = t.name; clock = t.clock; prio = t.prio; deadline = t.deadline; cost = t.cost; parts = [] }
+task_of t = record { name = t.name; clock = t.clock; when = t.when; prio = t.prio; deadline = t.deadline; cost = t.cost; cpu = t.cpu; parts = [] }
 
 abbrev pub begun : Tasks → TaskLine → Tasks
 begun t line = record { earlier = t.earlier ++ option_to_list t.latest; latest = Some (task_of line) }
@@ -32,7 +32,7 @@ kept_line s text = record s { text = s.text ++ text ++ 10 ∷ [] }
 -- the draft with one more line, which has the number, and of which this text is kept
 abbrev pub drafted : Draft → ℕ → List ℕ → Line → Draft
 drafted d number text line.Nothing = d
-drafted d number text line.Header = d
+drafted d number text (line.Header version) = d
 drafted d number text (line.Policy p) = record d { policy = p }
 drafted d number text (line.Until end) = record d { until = end; lines = record d.lines { until_at = number } }
 drafted d number text (line.Decl decl) = record d { decls = d.decls ++ decl ∷ []; lines = record d.lines { decls = d.lines.decls ++ number ∷ [] } }

@@ -9,11 +9,15 @@ use std::alloc::Global;
 pub struct RawTask {
     pub name: Name,
     pub clock: RawClock,
+    /// The input that must not be 0.
+    pub when: Option<Name>,
     pub prio: Option<u32>,
     /// In ticks from the release on.
     pub deadline: Option<u64>,
     /// In ticks.
     pub cost: u64,
+    /// The number of its processor.
+    pub cpu: u32,
     pub parts: List<Part>,
 }
 
@@ -29,9 +33,11 @@ impl RawTask {
         RawTask {
             name: line.name,
             clock: line.clock,
+            when: line.when,
             prio: line.prio,
             deadline: line.deadline,
             cost: line.cost,
+            cpu: line.cpu,
             parts: List::new(alloc),
         }
     }
@@ -43,9 +49,11 @@ impl RawTask {
         TaskLine {
             name: self.name,
             clock: self.clock,
+            when: self.when,
             prio: self.prio,
             deadline: self.deadline,
             cost: self.cost,
+            cpu: self.cpu,
         }
     }
 }

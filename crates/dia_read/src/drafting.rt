@@ -138,7 +138,7 @@ impl Draft {
             (self.new ≡ drafted self.old number (text_of_line bytes.now line) line) }
     {
         match line {
-            Line::Nothing | Line::Header => {}
+            Line::Nothing | Line::Header(_) => {}
             Line::Policy(policy) => self.policy = policy,
             Line::Until(end) => {
                 self.until = end;

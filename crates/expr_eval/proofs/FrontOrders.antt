@@ -10,10 +10,10 @@ use Rattle.std.proofs.Math.Seq.{take-append_seam}
 use Rattle.dbp_plan.specs.declared.node.Node.TheVariants.{Var}
 use Rattle.dbp_plan.specs.declared.diagram.Let.{Let}
 use Rattle.dbp_plan.specs.LetOrder.{IsLetOrder}
+use Rattle.dbp_plan.specs.Listed.{AreListed}
 use Rattle.dbp_plan.specs.ListItems.{front_place, last_place, take_inside}
 use Rattle.expr_eval.specs.LetOrders.{Uses, IsReady, Waits, IsNextReady, IsFrontOrder}
-use Rattle.expr_eval.specs.LetSearch.{AreListed}
-use Rattle.expr_eval.proofs.Listed.{place_of, contains_at, one_place, listed_none, listed_push}
+use Rattle.dbp_plan.proofs.Listed.{place_of, contains_at, one_place, listed_none, listed_push}
 
 -- among so many numbers is this one, said of their variables
 from_variables : (base j : ℕ) (xs : List ℕ) → list_any (λ i. eqb (base + i) (base + j)) xs ≡ true → Contains xs j

@@ -1,6 +1,5 @@
 pub mod Cycles
 pub mod FrontOrders
 pub mod LetUses
-pub mod Listed
 pub mod Searches
 pub mod StackRuns

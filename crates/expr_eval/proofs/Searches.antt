@@ -5,11 +5,13 @@ use Rattle.std.proofs.lemmas.Bool.{cases_lt}
 use Rattle.std.proofs.lemmas.Option.{slice_get-get_or, slice_get_within, same_Some, MatchOption-at_some, MatchOption-at_none}
 use Rattle.std.proofs.lemmas.List.Elements.{Contains-push_cases}
 use Rattle.dbp_plan.specs.declared.diagram.Let.{Let}
+use Rattle.dbp_plan.specs.Listed.{AreListed}
 use Rattle.dbp_plan.specs.ListItems.{at_place, front_place, last_place, all_place, take_place}
 use Rattle.expr_eval.specs.LetOrders.{Uses, IsCycleFrom, IsFirstCycle, LiesOnCycle}
-use Rattle.expr_eval.specs.LetSearch.{AreListed, IsNextUser, UsesOneOf, UsesNoneOf, LeadTo, AreAllLeading}
-use Rattle.expr_eval.proofs.Listed.{place_of, contains_at, one_place, listed_none, listed_push, listed_room}
-use Rattle.expr_eval.proofs.Cycles.{IsPath, path_one, path_more, path_closed, cycle_listed}
+use Rattle.expr_eval.specs.LetSearch.{IsNextUser, UsesOneOf, UsesNoneOf, LeadTo, AreAllLeading}
+use Rattle.dbp_plan.proofs.Listed.{place_of, contains_at, one_place, listed_none, listed_push, listed_room}
+use Rattle.dbp_plan.proofs.Cycles.{IsPath, path_one, path_more, path_closed}
+use Rattle.expr_eval.proofs.Cycles.{cycle_listed}
 
 pub lead_one : (base : ℕ) (lets : List Let) (target : ℕ) → target < length lets → LeadTo base lets target (target ∷ [])
 lead_one base lets target below = record {
@@ -40,7 +42,7 @@ lead_more base lets target found user lead below fresh uses_one =
 
 -- a path from the target through lets that were found, each earlier; the next one is below the bound
 pub record IsDescent (base : ℕ) (lets : List Let) (target : ℕ) (found : List ℕ) (bound : ℕ) (path : List ℕ) (last : ℕ) : Type 0 where
-  pub is : IsPath base lets path last
+  pub is : IsPath (Uses base lets) path last
   pub begins : slice_get path 0 ≡ Some target
   pub below : last < length lets
   pub among : (x : ℕ) → Contains path x → (q : ℕ) × (slice_get found q ≡ Some x) × ((q ≡ 0) ⊎ (bound ≤ q))
@@ -55,7 +57,7 @@ only_one x y among =
 
 pub descent_begin : (base : ℕ) (lets : List Let) (target : ℕ) (found : List ℕ) → LeadTo base lets target found → IsDescent base lets target found (length found) (target ∷ []) target
 descent_begin base lets target found lead = record {
-  is = path_one base lets target;
+  is = path_one (Uses base lets) target;
   begins = refl;
   below = all_place (λ i. i < length lets) found 0 target lead.listed.named lead.begins;
   among = λ x inside. (0, lead.begins ∙ ap (λ (z : ℕ). Some z) (only_one target x inside), inl refl);
@@ -74,7 +76,7 @@ descent_more base lets target found bound path last place next lead descent afte
     let some : 0 < length path = descent.is.some in
     let step = lead.linked place next after at in
     record {
-      is = path_more base lets path last next descent.is used fresh;
+      is = path_more (Uses base lets) path last next descent.is used fresh;
       begins = front_place path (next ∷ []) 0 some ∙ descent.begins;
       below = all_place (λ i. i < length lets) found place next lead.listed.named at;
       among = λ x inside. elim (Contains-push_cases path next x inside) [
@@ -91,7 +93,7 @@ pub descent_closed : (base : ℕ) (lets : List Let) (target : ℕ) (found : List
     → IsDescent base lets target found bound path last → slice_get found 0 ≡ Some first → Uses base lets last first → IsCycleFrom base lets target path
 descent_closed base lets target found bound path last first lead descent at used =
     let same : first ≡ target = same_Some first target (sym at ∙ lead.begins) in
-    path_closed base lets path last target descent.is descent.begins (subst (λ (z : ℕ). Uses base lets last z) same used)
+    path_closed (Uses base lets) path last target descent.is descent.begins (subst (λ (z : ℕ). Uses base lets last z) same used)
 
 pub descent_few : (base : ℕ) (lets : List Let) (target : ℕ) (found : List ℕ) (bound : ℕ) (path : List ℕ) (last : ℕ) → LeadTo base lets target found
     → IsDescent base lets target found bound path last → AreListed (length lets) path

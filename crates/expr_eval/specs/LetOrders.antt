@@ -1,7 +1,8 @@
 -- How lets use each other: orders of evaluation from the front, and cycles. Lets are named by their places.
-use Rattle.std.specs.Prelude.{◌≡◌, ◌≢◌, ℕ, ◌+◌, ◌<◌, AllPairs, Contains, List, length, take, slice_get, Some}
+use Rattle.std.specs.Prelude.{◌≡◌, ℕ, ◌+◌, ◌<◌, Contains, List, length, take, slice_get, Some}
 use Rattle.dbp_plan.specs.declared.node.Node.TheVariants.{Var}
 use Rattle.dbp_plan.specs.declared.diagram.Let.{Let}
+use Rattle.dbp_plan.specs.Cycles as cycles
 use Rattle.dbp_plan.specs.LetOrder.{IsLetOrder}
 use Rattle.expr_eval.specs.declared.order.LetFail.{LetFail}
 use Rattle.expr_eval.specs.declared.order.LetFail.TheVariants.{Cycle, NoMemory}
@@ -15,11 +16,11 @@ pub record Uses (base : ℕ) (lets : List Let) (i j : ℕ) : Type 0 where
 
 -- all that the let uses are placed
 abbrev pub IsReady : ℕ → List Let → List ℕ → ℕ → Type 0
-IsReady base lets placed i = (j : ℕ) → Uses base lets i j → Contains placed j
+IsReady base lets placed i = cycles.IsReady (Uses base lets) placed i
 
 -- the let uses one that isn't placed
 abbrev pub Waits : ℕ → List Let → List ℕ → ℕ → Type 0
-Waits base lets placed i = (j : ℕ) × Uses base lets i j × (Contains placed j → ⊥)
+Waits base lets placed i = cycles.Waits (Uses base lets) placed i
 
 -- the earliest let that isn't placed and is ready
 pub record IsNextReady (base : ℕ) (lets : List Let) (placed : List ℕ) (next : ℕ) : Type 0 where
@@ -30,7 +31,7 @@ pub record IsNextReady (base : ℕ) (lets : List Let) (placed : List ℕ) (next 
 
 -- no let that isn't placed is ready
 abbrev pub AllWait : ℕ → List Let → List ℕ → Type 0
-AllWait base lets placed = (i : ℕ) → i < length lets → (Contains placed i → ⊥) → Waits base lets placed i
+AllWait base lets placed = cycles.AllWait (Uses base lets) (length lets) placed
 
 -- At each place stands the earliest let among those that may stand there: each earlier one that isn't placed yet waits for one that isn't.
 pub record IsFrontOrder (base : ℕ) (lets : List Let) (order : List ℕ) : Type 0 where
@@ -38,19 +39,15 @@ pub record IsFrontOrder (base : ℕ) (lets : List Let) (order : List ℕ) : Type
   pub earliest : (p next i : ℕ) → slice_get order p ≡ Some next → i < next → (Contains (take p order) i → ⊥) → Waits base lets (take p order) i
 
 -- distinct lets, of which each uses the next and the last uses the first
-pub record IsCycle (base : ℕ) (lets : List Let) (cycle : List ℕ) : Type 0 where
-  pub some : 0 < length cycle
-  pub distinct : AllPairs (λ i j. i ≢ j) cycle
-  pub linked : (p i j : ℕ) → slice_get cycle p ≡ Some i → slice_get cycle (p + 1) ≡ Some j → Uses base lets i j
-  pub closed : (p last first : ℕ) → p + 1 ≡ length cycle → slice_get cycle p ≡ Some last → slice_get cycle 0 ≡ Some first → Uses base lets last first
+abbrev pub IsCycle : ℕ → List Let → List ℕ → Type 0
+IsCycle base lets cycle = cycles.IsCycle (Uses base lets) cycle
 
 -- the cycle begins with the let
-pub record IsCycleFrom (base : ℕ) (lets : List Let) (i : ℕ) (cycle : List ℕ) : Type 0 where
-  pub is : IsCycle base lets cycle
-  pub begins : slice_get cycle 0 ≡ Some i
+abbrev pub IsCycleFrom : ℕ → List Let → ℕ → List ℕ → Type 0
+IsCycleFrom base lets i cycle = cycles.IsCycleFrom (Uses base lets) i cycle
 
 abbrev pub LiesOnCycle : ℕ → List Let → ℕ → Type 0
-LiesOnCycle base lets i = (cycle : List ℕ) × IsCycleFrom base lets i cycle
+LiesOnCycle base lets i = cycles.LiesOnCycle (Uses base lets) i
 
 -- a cycle from the earliest let that lies on one
 pub record IsFirstCycle (base : ℕ) (lets : List Let) (first : ℕ) (cycle : List ℕ) : Type 0 where

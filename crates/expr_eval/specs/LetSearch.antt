@@ -1,12 +1,8 @@
 -- The search for a cycle through a let.
-use Rattle.std.specs.Prelude.{◌≡◌, ◌≢◌, ℕ, ◌<◌, All, AllPairs, Contains, List, length, slice_get, Some}
+use Rattle.std.specs.Prelude.{◌≡◌, ℕ, ◌<◌, Contains, List, length, slice_get, Some}
 use Rattle.dbp_plan.specs.declared.diagram.Let.{Let}
+use Rattle.dbp_plan.specs.Listed.{AreListed}
 use Rattle.expr_eval.specs.LetOrders.{Uses}
-
--- distinct numbers below a bound
-pub record AreListed (count : ℕ) (numbers : List ℕ) : Type 0 where
-  pub named : All (λ i. i < count) numbers
-  pub once : AllPairs (λ i j. i ≢ j) numbers
 
 -- the let uses one of these
 abbrev pub UsesOneOf : ℕ → List Let → List ℕ → ℕ → Type 0

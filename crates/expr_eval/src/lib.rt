@@ -1,4 +1,8 @@
 //! The values of expressions, and the order in which lets are evaluated.
+//!
+//! Nodes stand in post-order, so `eval` is one loop over a stack, with the latest value in a local beside it.
+//! `order_lets` takes, at each place of the order, the earliest let whose used lets all stand already (`IsFrontOrder`).
+//! If it comes to a stop, there is a cycle, and it finds the earliest let on one (`IsFirstCycle`).
 #![tactic(auto)]
 
 ghost use Rattle.std.specs.Prelude.{◌≡◌, ◌<◌, ◌≤◌, length};

@@ -34,7 +34,7 @@ pub fn pieces_go_together()
         × Plays p w s first steps t × Plays p w t then_ more u }
 {}
 
-/// The rows of ended instances are those of any state in which as many have ended. If all have, they are the meaning.
+/// The rows of ended instances are those of any state in which as many have ended, and if all have, the meaning's table.
 pub fn rows_of_ended_instances()
     ensures stay { (p : Plan) (s new : State) (table : Table) → ((i : ℕ) → (state_of new i).part.ended ≡ (state_of s i).part.ended)
         → HasEndedRows p s table → HasEndedRows p new table }

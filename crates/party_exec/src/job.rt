@@ -16,7 +16,7 @@ const MOST_TURNS: u32 = 4096;
 const MOST_IDLE: u32 = 64;
 
 // A job counts as busy until it has had so many idle turns in a row.
-const STOPPED: u32 = 2;
+const IDLE_BEFORE_STOP: u32 = 2;
 
 // Makes turns of the party until it has finished, or until others are to have theirs.
 pub(crate) fn job<P: Pace>(pace: &P, words: &SlotWords, progress: &Progress, party: &mut Party)
@@ -24,7 +24,7 @@ pub(crate) fn job<P: Pace>(pace: &P, words: &SlotWords, progress: &Progress, par
     ensures { IsJob words.now party.old party.new }
 {
     let idle = make_turns(pace, words, progress, party);
-    if idle < STOPPED {
+    if idle < IDLE_BEFORE_STOP {
         progress.stop();
     }
 }
@@ -54,15 +54,15 @@ fn make_turns<P: Pace>(pace: &P, words: &SlotWords, progress: &Progress, party: 
 // may get on: on a busy machine a yield takes a time slice of another program.
 fn after_turn(progress: &Progress, idle_before: u32, idle: u32) {
     if idle == 0 {
-        if idle_before >= STOPPED {
+        if idle_before >= IDLE_BEFORE_STOP {
             progress.go_on();
         }
         return;
     }
-    if idle == STOPPED {
+    if idle == IDLE_BEFORE_STOP {
         progress.stop();
     }
-    if idle < STOPPED || progress.is_expected() {
+    if idle < IDLE_BEFORE_STOP || progress.is_expected() {
         thread::yield_now();
     }
 }

@@ -1,4 +1,14 @@
 //! The parties of a run: the releaser and the tasks, each of which makes one atomic step on the shared words a turn.
+//!
+//! A party is a seat with what goes with it. The releaser's has its book, whose part is the seat's (`Booked`). A task's
+//! has its `Work` and its rows, with room for all of them; its type keeps that they are what the meaning gives at its
+//! place (`Computed`), so when all have finished the rows are the meaning's table. A crew makes the turns of all
+//! parties until they have finished. A `ThreadCrew` gives each a thread for a round of at most 4,096 turns, which ends
+//! after 64 idle ones in a row; between idle turns a thread yields while another may get on. A `TurnCrew` makes all
+//! turns on one thread, in rounds that are drawn from its seed. `Jobs` says what one thread makes of its party, `Draws`
+//! what is drawn. No clause says that parties finish, in which order turns are made, what a pace does, when a thread
+//! yields, or that the threads of a round begin together; nor does a public clause of `ThreadCrew` say that a run goes
+//! in rounds.
 #![tactic(auto)]
 
 mod all_parties;

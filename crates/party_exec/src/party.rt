@@ -19,8 +19,7 @@ pub enum Party {
 }
 
 impl Party {
-    /// Makes the party's next step, which is exactly one atomic step on the words, or none if the party has finished.
-    /// It takes no memory.
+    /// Makes the party's next step, one atomic step on the words, or none if the party has finished. It takes no memory.
     pub fn turn(&mut self, words: &SlotWords) -> Turn
         requires { Belongs words.now self.old }
         ensures finished { (result ≡ Finished) ↔ HasFinished words.now self.old }

@@ -23,7 +23,7 @@ use std::thread;
 use std::thread::Threads;
 use word_rule::SlotWords;
 
-/// A crew that works in rounds. In each, every party is a job in a thread of its own.
+/// A crew with a thread for each party. It works in rounds, in each of which every party is a job; no clause says so.
 #[derive(Drop)]
 pub struct ThreadCrew<P: Pace> {
     pace: P,

@@ -2,6 +2,8 @@
 #![tactic(auto)]
 
 #[cfg(test)]
+mod guards;
+#[cfg(test)]
 mod meaning;
 #[cfg(test)]
 mod parts;

@@ -104,6 +104,13 @@ fn name(text: &str) -> Result<Name, Fail> {
     }
 }
 
+#[test]
+fn a_name_is_shown_by_its_text(rt: HostRuntime) -> Result<(), Fail> {
+    let shown = format!(in rt.alloc(); "{:?}", name("sensor_2")?)?;
+    assert_eq!(rt; shown.as_str(), "sensor_2");
+    Ok(())
+}
+
 fn inputs(alloc: Global, names: &[&str]) -> Result<Vec<Input>, Fail> {
     let mut inputs = Vec::new(alloc);
     for text in names {

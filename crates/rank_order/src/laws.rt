@@ -14,7 +14,7 @@ pub fn each_plan_has_one_service()
         → (t : ℕ) → serve t ≡ service p t }
 {}
 
-/// No instance ends twice.
+/// Each instance ends at one time at most.
 pub fn a_service_has_one_end_of_each_instance()
     ensures { (serve : ℕ → Option Instance) (x : Instance) (e f : ℕ)
         → IsEnd serve x e → IsEnd serve x f → e ≡ f }

@@ -2,9 +2,10 @@
 
 use dbp_plan::{BinOp, Expr, MAX_NODES, Name, Node, UnOp};
 use dia_exprs::{MAX_DEPTH, depth, expression, node_tokens};
-use dia_lines::{Limit, Line, Part, Position, ReadCode, read_line};
+use dia_lines::{Limit, Line, LineError, Part, Place, Position, ReadCode, TaskLine, read_line};
 use dia_tokens::{Symbol, Token, Word, line_spelling, tokens, tokens_into};
 use std::alloc::Global;
+use std::fmt::Write;
 use std::test::Fail;
 
 #[test]
@@ -147,6 +148,71 @@ fn a_line_after_others(rt: HostRuntime) -> Result<(), Fail> {
     assert_eq!(rt; position.counts.body, 2);
     assert_eq!(rt; position.counts.links, 1);
     assert!(rt; !position.is_ended());
+    Ok(())
+}
+
+fn push_task(text: &mut String, task: &TaskLine) -> Result<(), Fail> {
+    if let Some(input) = task.when {
+        text.push_str("when ")?;
+        for byte in input.bytes() {
+            text.push(char::from(*byte))?;
+        }
+        text.push(' ')?;
+    }
+    write!(text, "cost {} cpu {}", task.cost, task.cpu)?;
+    Ok(())
+}
+
+fn push_said(text: &mut String, said: &Result<(Line, Position), LineError>) -> Result<(), Fail> {
+    match said {
+        Ok((Line::Task(task), _)) => push_task(text, task)?,
+        Ok(_) => text.push_str("no task")?,
+        Err(error) => write!(text, "{error:?}")?,
+    }
+    Ok(())
+}
+
+// What a line of the version says of a task, or its refusal.
+fn shown(alloc: Global, version: u32, line: &[u8]) -> Result<String, Fail> {
+    let mut text = String::new(alloc);
+    let mut position = Position::start();
+    position.version = version;
+    position.place = Place::Declarations;
+    let said = read_line(alloc, position, line);
+    push_said(&mut text, &said)?;
+    Ok(text)
+}
+
+// Versions, lines of them and what they say.
+static TASKS: [(u32, &[u8], &str); 9] = [
+    (1, b"task a every 5 cost 2", "cost 2 cpu 0"),
+    (1, b"task a every 5 when x cost 2", "Refused(BadLine)"),
+    (1, b"task a every 5 cost 2 cpu 9", "Refused(BadLine)"),
+    (2, b"task a every 5 cost 2", "cost 2 cpu 0"),
+    (
+        2,
+        b"task a every 5 from 1 when x prio 3 deadline 4 cost 2 cpu 7",
+        "when x cost 2 cpu 7",
+    ),
+    (2, b"task a on e when y cost 2", "when y cost 2 cpu 0"),
+    (
+        2,
+        b"task a every 5 cost 2 cpu 8",
+        "Refused(LimitHit(Number))",
+    ),
+    (2, b"task a every 5 cpu 1 cost 2", "Refused(BadLine)"),
+    (
+        2,
+        b"task a every 5 prio 3 when x cost 2",
+        "Refused(BadLine)",
+    ),
+];
+
+#[test]
+fn task_lines_of_versions(rt: HostRuntime) -> Result<(), Fail> {
+    for (version, line, want) in &TASKS {
+        assert_eq!(rt; shown(rt.alloc(), *version, *line)?.as_str(), *want);
+    }
     Ok(())
 }
 

@@ -35,9 +35,11 @@ fn push_task(alloc: Global, printer: &mut Printer) -> Result<(), Fail> {
             period: 3,
             offset: 0,
         },
+        when: None,
         prio: Some(0),
         deadline: Some(2),
         cost: 1,
+        cpu: 0,
     })?;
     printer.end_line()?;
     printer.push_part(&Part::Out(name(b"y")?, 9, Expr::number(alloc, -5)?))?;

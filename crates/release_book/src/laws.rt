@@ -34,7 +34,8 @@ pub fn a_next_step_is_allowed()
         → IsNextStep (wiring_of p All) s.releaser (Aim i slot) → IsLeastAim (wiring_of p All) s i slot }
 {}
 
-/// And the state's part after that step is what the step makes of the part, from a number that it may hear.
+/// Wherever the part is the releaser's of a sound state, the state's part after its next step is what the step makes of
+/// the part, from a number that it may hear.
 pub fn a_book_follows_its_state()
     ensures heard { (p : Plan) (rows : ℕ → ℕ → Items ℤ) (s : State) (e : ReleaseStep) (step : Step) → Sound p (wiring_of p All) rows s
         → IsNextStep (wiring_of p All) s.releaser e → step_of e ≡ Some step → MayHear s.releaser e (loaded_number (loaded_value (wiring_of p All) s step)) }

@@ -10,7 +10,7 @@ use Rattle.std.proofs.lemmas.List.Sums.{fold-append}
 use Rattle.std.proofs.lemmas.Option.{get_or_from_slice_get, slice_get-map, slice_get_within, same_Some}
 use Rattle.dbp_plan.specs.declared.diagram.Input.{Input}
 use Rattle.dbp_plan.specs.declared.schedule.Sample.{Sample}
-use Rattle.dbp_plan.specs.Samples.{first_value, is_before, is_given, last_value}
+use Rattle.dbp_plan.specs.Samples.{first_value, is_before, is_given, last_value, own_samples}
 use Rattle.dbp_plan.specs.ListItems.{at_place}
 use Rattle.sync_meaning.specs.Taken.{AreTaken, AreValuesAt, HasLastValues}
 use Rattle.dbp_plan.proofs.ListParts.{take_push}
@@ -18,7 +18,7 @@ use Rattle.sync_meaning.proofs.Sets.{set_cases}
 
 -- the values that the samples give the input
 abbrev values_for : ℕ → List Sample → List ℤ
-values_for x samples = map (λ s. s.value) (filter (λ s. s.input == x) samples)
+values_for x samples = map (λ s. s.value) (own_samples x samples)
 
 first_of : (inputs : List Input) (x : ℕ) (word : ℤ) → slice_get (map (λ i. i.first) inputs) x ≡ Some word → word ≡ first_value inputs x
 first_of inputs x word at =
@@ -47,11 +47,11 @@ taken_later inputs samples time later taken values le a = record {
 
 for_here : (x : ℕ) (samples : List Sample) (s : Sample) → (s.input == x) ≡ true → values_for x (samples ++ s ∷ []) ≡ values_for x samples ++ s.value ∷ []
 for_here x samples s is =
-    rw (filter-append (λ (r : Sample). r.input == x) samples (s ∷ []), map-append (λ (r : Sample). r.value) (filter (λ (r : Sample). r.input == x) samples) (filter (λ (r : Sample). r.input == x) (s ∷ [])), is) refl
+    rw (filter-append (λ (r : Sample). r.input == x) samples (s ∷ []), map-append (λ (r : Sample). r.value) (own_samples x samples) (own_samples x (s ∷ [])), is) refl
 
 for_other : (x : ℕ) (samples : List Sample) (s : Sample) → (s.input == x) ≡ false → values_for x (samples ++ s ∷ []) ≡ values_for x samples
 for_other x samples s isnt =
-    rw (filter-append (λ (r : Sample). r.input == x) samples (s ∷ []), map-append (λ (r : Sample). r.value) (filter (λ (r : Sample). r.input == x) samples) (filter (λ (r : Sample). r.input == x) (s ∷ [])), isnt) (append-nil (values_for x samples))
+    rw (filter-append (λ (r : Sample). r.input == x) samples (s ∷ []), map-append (λ (r : Sample). r.value) (own_samples x samples) (own_samples x (s ∷ [])), isnt) (append-nil (values_for x samples))
 
 last-push : (first : ℤ) (values : List ℤ) (v : ℤ) → last_value first (values ++ v ∷ []) ≡ v
 last-push first values v = fold-append (λ _ w. w) first values (v ∷ [])
@@ -90,10 +90,10 @@ rest_later samples time k order next j d below =
           omega (arith, less, le)
     ])
 
-filter_come : (x time : ℕ) (samples : List Sample) → All (λ s. s.time ≤ time) samples → filter (is_given x time) samples ≡ filter (λ s. s.input == x) samples
+filter_come : (x time : ℕ) (samples : List Sample) → All (λ s. s.time ≤ time) samples → filter (is_given x time) samples ≡ own_samples x samples
 filter_come x time [] come = refl
 filter_come x time (s ∷ samples) come =
-    let rest : filter (is_given x time) samples ≡ filter (λ (r : Sample). r.input == x) samples = filter_come x time samples (λ k d below. come (suc k) d (omega arith)) in
+    let rest : filter (is_given x time) samples ≡ own_samples x samples = filter_come x time samples (λ k d below. come (suc k) d (omega arith)) in
     let here : nat_le s.time time ≡ true = le-leb s.time time (come 0 s (omega arith)) in
     let same : is_given x time s ≡ (s.input == x) = rw here (and-true (s.input == x)) in
     elim (cases_Bool (s.input == x)) [
@@ -113,8 +113,8 @@ filter_later x time (s ∷ samples) later =
 pub taken_all : (inputs : List Input) (samples : List Sample) (time k : ℕ) (values : List ℤ) → AreTaken inputs samples time k values → All (λ s. time < s.time) (drop k samples) → AreValuesAt inputs samples time values
 taken_all inputs samples time k values a later x word at =
     let parts : filter (is_given x time) (take k samples ++ drop k samples) ≡ filter (is_given x time) (take k samples) ++ filter (is_given x time) (drop k samples) = filter-append (is_given x time) (take k samples) (drop k samples) in
-    let front : filter (is_given x time) (take k samples) ≡ filter (λ (s : Sample). s.input == x) (take k samples) = filter_come x time (take k samples) a.come in
+    let front : filter (is_given x time) (take k samples) ≡ own_samples x (take k samples) = filter_come x time (take k samples) a.come in
     let after : filter (is_given x time) (drop k samples) ≡ [] = filter_later x time (drop k samples) later in
-    let all : filter (is_given x time) samples ≡ filter (λ (s : Sample). s.input == x) (take k samples) =
+    let all : filter (is_given x time) samples ≡ own_samples x (take k samples) =
     ap (filter (is_given x time)) (sym (take-append-drop k samples)) ∙ parts ∙ rw after (append-nil (filter (is_given x time) (take k samples))) ∙ front in
     a.last x word at ∙ ap (λ (l : List Sample). last_value (first_value inputs x) (map (λ s. s.value) l)) (sym all)

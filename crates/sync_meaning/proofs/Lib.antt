@@ -1,3 +1,4 @@
+pub mod BareMeaning
 pub mod Counts
 pub mod Envs
 pub mod ExactInputs

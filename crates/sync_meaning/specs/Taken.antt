@@ -1,12 +1,12 @@
 -- The samples that a run has taken, and the inputs' values after them.
-use Rattle.std.specs.Prelude.{◌≡◌, ℕ, ℤ, ◌≤◌, ◌==◌, All, List, filter, length, map, slice_get, take, Some}
+use Rattle.std.specs.Prelude.{◌≡◌, ℕ, ℤ, ◌≤◌, All, List, length, map, slice_get, take, Some}
 use Rattle.dbp_plan.specs.declared.diagram.Input.{Input}
 use Rattle.dbp_plan.specs.declared.schedule.Sample.{Sample}
-use Rattle.dbp_plan.specs.Samples.{first_value, input_value, last_value}
+use Rattle.dbp_plan.specs.Samples.{first_value, input_value, last_value, own_samples}
 
 -- each input has the last value that the samples give it, else its first one
 abbrev pub HasLastValues : List Input → List Sample → List ℤ → Type 0
-HasLastValues inputs samples values = (x : ℕ) (word : ℤ) → slice_get values x ≡ Some word → word ≡ last_value (first_value inputs x) (map (λ s. s.value) (filter (λ s. s.input == x) samples))
+HasLastValues inputs samples values = (x : ℕ) (word : ℤ) → slice_get values x ≡ Some word → word ≡ last_value (first_value inputs x) (map (λ s. s.value) (own_samples x samples))
 
 -- each input has its value at the time
 abbrev pub AreValuesAt : List Input → List Sample → ℕ → List ℤ → Type 0

@@ -20,8 +20,8 @@ use Rattle.dbp_plan.specs.Clocks.{time_at}
 use Rattle.dbp_plan.specs.ListItems.{front_place, last_place}
 use Rattle.dbp_plan.proofs.BatchTasks.{some_item}
 use Rattle.dbp_plan.proofs.TaskTimes.{times-named, times-other}
-use Rattle.trace_io.specs.Batches.{AreBatches, HasNumbersInRange, IsClockOf, IsTimetable, count_of}
-use Rattle.trace_io.specs.Merging.{AreNext, IsLeastBelow, IsLeastNext, TakesDue, is_at, next_of}
+use Rattle.trace_io.specs.Counts.{HasNumbersInRange, IsClockOf, IsTimetable, count_of}
+use Rattle.trace_io.specs.Merging.{AreMerged, AreNext, IsLeastBelow, IsLeastNext, TakesDue, is_at, next_of}
 use Rattle.trace_io.proofs.Due.{rising-push}
 
 -- a clock's next time is later
@@ -267,7 +267,7 @@ merge-step until events clocks taken next made time tasks table closed m least t
 pub merge-end : (until : ℕ) (events : List (List ℕ)) (clocks : List Clock) (taken : List ℕ) (made : List Batch)
     → All (IsClockOf (length events)) clocks → sum_by (count_of until events) clocks ≤ MAX_OCCURRENCES
     → Merged until events clocks taken made → IsLeastNext until events clocks taken (length clocks) None
-    → AreBatches until events clocks made
+    → AreMerged until events clocks made
 merge-end until events clocks taken made closed few m none = record {
   rising = m.rising;
   in_order = m.in_order;

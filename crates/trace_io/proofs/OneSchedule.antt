@@ -1,12 +1,13 @@
--- Clocks have one list of batches.
-use Rattle.std.proofs.Common.{◌≡◌, ◌≢◌, ℕ, zero, suc, ◌<◌, ◌≤◌, true, false, All, List, [], ◌∷◌, length, get_or, slice_get, arith, refl, sym, subst, ◌∙◌, inl, inr}
+-- The tasks of a diagram have one list of batches.
+use Rattle.std.proofs.Common.{◌≡◌, ◌≢◌, ℕ, zero, suc, ◌<◌, ◌≤◌, true, false, All, List, [], ◌∷◌, length, get_or, arith, refl, sym, subst, ◌∙◌, inl, inr}
 use Rattle.std.specs.Prelude.{◌==◌, AllPairs}
 use Rattle.std.specs.List.{list_any}
 use Rattle.std.specs.List.Sorted.{IsStrictlyIncreasing}
 use Rattle.std.proofs.lemmas.Bool.{cases_Bool, cases_eq, cases_lt, eq-eqb, false≢true, ne_eqb}
 use Rattle.std.proofs.lemmas.List.Kept.{AllPairs-from_increasing}
-use Rattle.dbp_plan.specs.declared.diagram.Clock.{Clock}
+use Rattle.dbp_plan.specs.declared.diagram.Diagram.{Diagram}
 use Rattle.dbp_plan.specs.declared.schedule.Batch.{Batch}
+use Rattle.dbp_plan.specs.declared.schedule.Sample.{Sample}
 use Rattle.dbp_plan.specs.Occurrences.{names, times_of}
 use Rattle.dbp_plan.specs.ListItems.{at_place}
 use Rattle.dbp_plan.specs.Times.{times_all}
@@ -144,20 +145,10 @@ unnamed n (b ∷ bs) i named past =
     let no : names i b ≡ false = named_below b.tasks i (λ k d fits. let less : get_or b.tasks k d < n = named 0 b (omega arith) k d fits in omega arith) in
     rw no (unnamed n bs i (λ k d fits. named (suc k) d (omega arith)) past)
 
--- lists with the same items at all places
-same-gets : (xs ys : List ℕ) → ((k : ℕ) → slice_get xs k ≡ slice_get ys k) → xs ≡ ys
-same-gets [] [] same = refl
-same-gets [] (y ∷ ys) same = absurd (let e = same 0 in cc)
-same-gets (x ∷ xs) [] same = absurd (let e = same 0 in cc)
-same-gets (x ∷ xs) (y ∷ ys) same =
-    let first = same 0 in
-    let tail : xs ≡ ys = same-gets xs ys (λ k. same (suc k)) in
-    cc
-
-pub one-schedule : (until : ℕ) (events : List (List ℕ)) (clocks : List Clock) (a b : List Batch) → AreBatches until events clocks a → AreBatches until events clocks b → a ≡ b
-one-schedule until events clocks a b fa fb =
-    let times : (i : ℕ) → times_of a i ≡ times_of b i = λ i. elim (cases_lt i (length clocks)) [
-      | inl fits ↦ let (clock, is) = at_place clocks i fits in same-gets (times_of a i) (times_of b i) (λ k. fa.each i k clock is ∙ sym (fb.each i k clock is))
-      | inr past ↦ unnamed (length clocks) a i fa.named past ∙ sym (unnamed (length clocks) b i fb.named past)
+pub one-schedule : (d : Diagram) (samples : List Sample) (events : List (List ℕ)) (a b : List Batch) → AreBatches d samples events a → AreBatches d samples events b → a ≡ b
+one-schedule d samples events a b fa fb =
+    let times : (i : ℕ) → times_of a i ≡ times_of b i = λ i. elim (cases_lt i (length d.tasks)) [
+      | inl fits ↦ let (t, at) = at_place d.tasks i fits in fa.each i t at ∙ sym (fb.each i t at)
+      | inr past ↦ unnamed (length d.tasks) a i fa.named past ∙ sym (unnamed (length d.tasks) b i fb.named past)
     ] in
     one-list a b (record { up = rise a fa.rising; in_order = fa.in_order; some = fa.some }) (record { up = rise b fb.rising; in_order = fb.in_order; some = fb.some }) times

@@ -1,6 +1,5 @@
 -- One plan of a text, and one first fault.
 use Rattle.std.proofs.Common.{◌≡◌, ℕ, List, Option, Some, None, sym, ap, ◌∙◌, subst}
-use Rattle.dbp_plan.specs.declared.diagram.Clock.{Clock}
 use Rattle.dbp_plan.specs.declared.diagram.Diagram.{Diagram}
 use Rattle.dbp_plan.specs.declared.plan.Plan.{Plan}
 use Rattle.dbp_plan.specs.declared.schedule.Batch.{Batch}
@@ -18,7 +17,7 @@ use Rattle.dia_read.specs.declared.document.Doc.{Doc}
 use Rattle.dia_read.specs.Documents.{Spells, IsFirstFault}
 use Rattle.trace_io.specs.declared.code.Code.{Code}
 use Rattle.trace_io.specs.Batches.{AreBatches}
-use Rattle.trace_io.specs.Traces.{TraceCode, events_of, clocks_of, trace_faults, IsPlanOf, IsTraceFault}
+use Rattle.trace_io.specs.Traces.{TraceCode, events_of, given_samples, trace_faults, IsPlanOf, IsTraceFault}
 use Rattle.trace_io.specs.Texts.{Accepts, Refuses, of_reading, of_checking, of_the_trace, IsSameCode}
 
 -- plans are the same if their parts are
@@ -41,7 +40,7 @@ module _
     (one_check : (doc : Doc) (d e : Diagram) → IsCheckedOf doc d → IsCheckedOf doc e → d ≡ e)
     (no_check_fault : (doc : Doc) (d : Diagram) (line : ℕ) (code : CheckCode) → IsCheckedOf doc d → IsCheckFault doc line code → ⊥)
     (one_check_fault : (doc : Doc) (line other : ℕ) (code another : CheckCode) → IsCheckFault doc line code → IsCheckFault doc other another → (line ≡ other) × checking.IsSameCode code another)
-    (one_schedule : (until : ℕ) (events : List (List ℕ)) (clocks : List Clock) (a b : List Batch) → AreBatches until events clocks a → AreBatches until events clocks b → a ≡ b)
+    (one_schedule : (d : Diagram) (samples : List Sample) (events : List (List ℕ)) (a b : List Batch) → AreBatches d samples events a → AreBatches d samples events b → a ≡ b)
   where
     same-diagram : (text : List ℕ) (doc other : Doc) (d e : Diagram) → Spells text doc → Spells text other → IsCheckedOf doc d → IsCheckedOf other e → (doc ≡ other) × (d ≡ e)
     same-diagram text doc other d e here there checked also =
@@ -50,7 +49,7 @@ module _
 
     planned-once : (doc : Doc) (d : Diagram) (p q : Plan) → IsPlanOf doc d p → IsPlanOf doc d q → p ≡ q
     planned-once doc d p q a b =
-        same-plan p q (a.diagram ∙ sym b.diagram) (a.samples ∙ sym b.samples) (one_schedule d.until (events_of doc d) (clocks_of d) p.batches q.batches a.batches b.batches)
+        same-plan p q (a.diagram ∙ sym b.diagram) (a.samples ∙ sym b.samples) (one_schedule d (given_samples doc d) (events_of doc d) p.batches q.batches a.batches b.batches)
 
     pub accepted-once : (text : List ℕ) (p q : Plan) → Accepts text p → Accepts text q → p ≡ q
     accepted-once text p q a b =

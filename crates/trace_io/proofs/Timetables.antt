@@ -15,7 +15,7 @@ use Rattle.trace_rows.specs.Records.{records_of}
 use Rattle.trace_rows.specs.Headers.{kind_of_column}
 use Rattle.trace_rows.specs.Rows.{row_faults}
 use Rattle.trace_rows.proofs.Timetable.{event-times-count, event-times-rise, event-times-end, samples-rise, samples-named}
-use Rattle.trace_io.specs.Batches.{IsTimetable}
+use Rattle.trace_io.specs.Counts.{IsTimetable}
 use Rattle.trace_io.specs.Traces.{columns_of, rows_of, header_faults, IsTraceOf}
 use Rattle.trace_io.proofs.TraceLines.{record-lines}
 

@@ -1,9 +1,12 @@
 -- The first fault of a trace, by what its section has.
-use Rattle.std.proofs.Common.{◌≡◌, ℕ, ◌<◌, ◌≤◌, true, false, List, [], ◌∷◌, length, map, drop, Some, None, refl, sym, ap, ◌∙◌, arith}
-use Rattle.std.specs.Prelude.{nat_lt, ◌==◌, slice_index_or, replicate}
+use Rattle.std.proofs.Common.{◌≡◌, ℕ, ◌+◌, ◌<◌, ◌≤◌, true, false, List, [], ◌∷◌, length, map, drop, Some, None, refl, sym, ap, ◌∙◌, arith}
+use Rattle.std.specs.Prelude.{nat_lt, ◌==◌, filter, slice_index_or, sum_by, replicate}
 use Rattle.std.proofs.lemmas.Bool.{both_ways}
 use Rattle.std.proofs.lemmas.Bool.Decides.{nat_tests}
 use Rattle.dbp_plan.specs.declared.diagram.Diagram.{Diagram}
+use Rattle.dbp_plan.specs.declared.diagram.Task.{Task}
+use Rattle.dbp_plan.specs.Clocks.{is_on}
+use Rattle.std.proofs.lemmas.List.Sums.{sum_by-cons}
 use Rattle.dbp_plan.specs.declared.limits.TheConstants.{MAX_OCCURRENCES}
 use Rattle.dbp_plan.specs.declared.schedule.Sample.{Sample}
 use Rattle.dbp_plan.specs.FirstFault.{first_fault}
@@ -19,9 +22,9 @@ use Rattle.trace_rows.specs.Headers.{is_header, kind_of_column}
 use Rattle.trace_rows.specs.Records.{cells_of, records_of}
 use Rattle.trace_rows.specs.Rows.{row_faults}
 use Rattle.trace_rows.specs.Values.{event_times, samples_of}
-use Rattle.trace_io.specs.Batches.{total_of}
-use Rattle.trace_io.specs.Traces.{columns_of, rows_of, events_of, clocks_of, section_faults, trace_faults, occurrence_fault, IsTraceOf, IsTraceFault, IsTraceRefusal}
-use Rattle.trace_io.proofs.Counting.{no-occurrences}
+use Rattle.trace_io.specs.Batches.{times_in, total_of}
+use Rattle.trace_io.specs.Traces.{columns_of, rows_of, events_of, given_samples, section_faults, trace_faults, occurrence_fault, IsTraceOf, IsTraceFault, IsTraceRefusal}
+use Rattle.trace_io.proofs.Counting.{no-times}
 
 -- a fault of the section is one of the trace
 pub trace-fault : (doc : Doc) (d : Diagram) (line : ℕ) (code : TraceCode) → first_fault (section_faults doc d) ≡ Some (line, code) → IsTraceFault doc d line code
@@ -77,32 +80,46 @@ no-section doc d events samples none events_are samples_are = record {
 no-events : (doc : Doc) (d : Diagram) → doc.body.trace ≡ None → events_of doc d ≡ replicate (length d.events) []
 no-events doc d none = rw none (no-marks d.events)
 
-pub empty-total : (doc : Doc) (d : Diagram) → doc.body.trace ≡ None → total_of d.until (events_of doc d) (clocks_of d) ≡ total_of d.until [] (clocks_of d)
-empty-total doc d none = ap (λ ts. total_of d.until ts (clocks_of d)) (no-events doc d none) ∙ no-occurrences d.until (length d.events) (clocks_of d)
+-- and its samples
+no-samples : (doc : Doc) (d : Diagram) → doc.body.trace ≡ None → given_samples doc d ≡ []
+no-samples doc d none = rw none refl
+
+-- what is counted of no section
+pub empty-total : (doc : Doc) (d : Diagram) → doc.body.trace ≡ None → total_of d (given_samples doc d) (events_of doc d) ≡ total_of d [] []
+empty-total doc d none =
+    (λ j. total_of d (no-samples doc d none j) (no-events doc d none j)) ∙ same d.tasks
+  where
+    same : (tasks : List Task) → sum_by (λ t. length (times_in d [] (replicate (length d.events) []) t)) tasks ≡ sum_by (λ t. length (times_in d [] [] t)) tasks
+    same [] = refl
+    same (t ∷ tasks) =
+        let first : length (times_in d [] (replicate (length d.events) []) t) ≡ length (times_in d [] [] t) =
+        ap (λ (ts : List ℕ). length (filter (is_on d.inputs [] t.when) ts)) (no-times d.until (length d.events) t.clock) in
+        sum_by-cons (λ (u : Task). length (times_in d [] (replicate (length d.events) []) u)) t tasks ∙ (λ j. first j + same tasks j)
+        ∙ sym (sum_by-cons (λ (u : Task). length (times_in d [] [] u)) t tasks)
 
 -- no line of the section has a fault, and the tasks occur too often
-pub too-many : (doc : Doc) (d : Diagram) → first_fault (section_faults doc d) ≡ None → MAX_OCCURRENCES < total_of d.until (events_of doc d) (clocks_of d) → IsTraceFault doc d doc.lines.until_at TooManyOccurrences
+pub too-many : (doc : Doc) (d : Diagram) → first_fault (section_faults doc d) ≡ None → MAX_OCCURRENCES < total_of d (given_samples doc d) (events_of doc d) → IsTraceFault doc d doc.lines.until_at TooManyOccurrences
 too-many doc d faultless many = first-append (section_faults doc d) ((doc.lines.until_at, occurrence_fault doc d) ∷ []) faultless ∙ go
   where
     go : first_fault ((doc.lines.until_at, occurrence_fault doc d) ∷ []) ≡ Some (doc.lines.until_at, TooManyOccurrences)
-    go = let test : nat_lt MAX_OCCURRENCES (total_of d.until (events_of doc d) (clocks_of d)) ≡ true = grind (arith, nat_tests) in rw test refl
+    go = let test : nat_lt MAX_OCCURRENCES (total_of d (given_samples doc d) (events_of doc d)) ≡ true = grind (arith, nat_tests) in rw test refl
 
 -- no line of the section has a fault, and the tasks don't occur too often
-pub no-fault : (doc : Doc) (d : Diagram) → first_fault (section_faults doc d) ≡ None → total_of d.until (events_of doc d) (clocks_of d) ≤ MAX_OCCURRENCES → first_fault (trace_faults doc d) ≡ None
+pub no-fault : (doc : Doc) (d : Diagram) → first_fault (section_faults doc d) ≡ None → total_of d (given_samples doc d) (events_of doc d) ≤ MAX_OCCURRENCES → first_fault (trace_faults doc d) ≡ None
 no-fault doc d faultless few = first-append (section_faults doc d) ((doc.lines.until_at, occurrence_fault doc d) ∷ []) faultless ∙ go
   where
     go : first_fault ((doc.lines.until_at, occurrence_fault doc d) ∷ []) ≡ None
-    go = let test : nat_lt MAX_OCCURRENCES (total_of d.until (events_of doc d) (clocks_of d)) ≡ false = grind (arith, nat_tests) in rw test refl
+    go = let test : nat_lt MAX_OCCURRENCES (total_of d (given_samples doc d) (events_of doc d)) ≡ false = grind (arith, nat_tests) in rw test refl
 
 pub too-many-at : (doc : Doc) (d : Diagram) (line : ℕ) (code : TraceCode) → line ≡ doc.lines.until_at → code ≡ TooManyOccurrences → first_fault (section_faults doc d) ≡ None
-    → MAX_OCCURRENCES < total_of d.until (events_of doc d) (clocks_of d) → IsTraceFault doc d line code
+    → MAX_OCCURRENCES < total_of d (given_samples doc d) (events_of doc d) → IsTraceFault doc d line code
 too-many-at doc d line code line_is code_is faultless many =
     let fault : IsTraceFault doc d doc.lines.until_at TooManyOccurrences = too-many doc d faultless many in
     rw (line_is, code_is) fault
 
 -- there is no section, and the tasks occur too often
 pub empty-refused : (doc : Doc) (d : Diagram) (line : ℕ) (code : TraceCode) → line ≡ doc.lines.until_at → code ≡ TooManyOccurrences → doc.body.trace ≡ None
-    → MAX_OCCURRENCES < total_of d.until [] (clocks_of d) → IsTraceFault doc d line code
+    → MAX_OCCURRENCES < total_of d [] [] → IsTraceFault doc d line code
 empty-refused doc d line code line_is code_is none many =
     let faultless : first_fault (section_faults doc d) ≡ None = rw none refl in
     too-many-at doc d line code line_is code_is faultless (omega (arith, empty-total doc d none, many))

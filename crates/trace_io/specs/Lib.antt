@@ -1,8 +1,11 @@
 -- Definitions that public clauses cite.
 pub mod Batches
+pub mod Counts
 pub mod Lines
+pub mod Spans
 pub mod Texts
 pub mod Traces
 -- What private functions, the inside of types and proofs cite.
+pub mod Guards
 pub mod Merging
 pub mod Printing

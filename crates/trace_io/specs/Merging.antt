@@ -1,10 +1,30 @@
--- One step of the merge of clocks, of each of which so many occurrences were taken.
-use Rattle.std.specs.Prelude.{◌≡◌, ℕ, ◌+◌, ◌<◌, ◌≤◌, ◌==◌, nat_eq, Bool, true, false, All, List, length, sum, slice_index, slice_index_or, Option, Some, None, IfSome, MatchOption, unwrap_or}
+-- The merge of clocks into batches.
+use Rattle.std.specs.Prelude.{◌≡◌, ◌≢◌, ℕ, ◌+◌, ◌<◌, ◌≤◌, ◌==◌, nat_eq, Bool, true, false, All, List, [], length, map, sum, sum_by, slice_get, slice_index, slice_index_or, Option, Some, None, IfSome, MatchOption, unwrap_or}
 use Rattle.std.specs.List.{list_any}
 use Rattle.std.specs.List.Sorted.{IsStrictlyIncreasing}
 use Rattle.std.specs.Option.{option_eq}
 use Rattle.dbp_plan.specs.declared.diagram.Clock.{Clock}
+use Rattle.dbp_plan.specs.declared.limits.TheConstants.{MAX_OCCURRENCES}
+use Rattle.dbp_plan.specs.declared.schedule.Batch.{Batch}
 use Rattle.dbp_plan.specs.Clocks.{time_at}
+use Rattle.dbp_plan.specs.Occurrences.{occurrence_count, times_of}
+use Rattle.trace_io.specs.Counts.{count_of}
+
+-- how often all clocks together tick
+abbrev pub ticks_of : ℕ → List (List ℕ) → List Clock → ℕ
+ticks_of until events clocks = sum_by (count_of until events) clocks
+
+-- each clock stands in the batches of exactly its base times
+pub record AreMerged (until : ℕ) (events : List (List ℕ)) (clocks : List Clock) (batches : List Batch) : Type 0 where
+  pub rising : IsStrictlyIncreasing (map (λ b. b.time) batches)
+  pub in_order : All (λ b. IsStrictlyIncreasing b.tasks) batches
+  pub some : All (λ b. b.tasks ≢ []) batches
+  pub named : All (λ b. All (λ i. i < length clocks) b.tasks) batches
+  pub ends : All (λ b. b.time < until) batches
+  pub few : occurrence_count batches ≤ MAX_OCCURRENCES
+  pub each : (i k : ℕ) (clock : Clock) → slice_get clocks i ≡ Some clock → slice_get (times_of batches i) k ≡ time_at until events clock k
+
+-- ---- one step, after so many occurrences of each clock were taken
 
 -- the time of the clock's next occurrence
 abbrev pub next_of : ℕ → List (List ℕ) → List Clock → List ℕ → ℕ → Clock → Option ℕ

@@ -1,6 +1,5 @@
 -- The plan of a document, or the first fault of its trace.
 use Rattle.std.specs.Prelude.{◌≡◌, ℕ, nat_lt, if◌then◌else◌, List, [], ◌∷◌, ◌++◌, map, drop, slice_index_or, Option, Some, None}
-use Rattle.dbp_plan.specs.declared.diagram.Clock.{Clock}
 use Rattle.dbp_plan.specs.declared.diagram.Diagram.{Diagram}
 use Rattle.dbp_plan.specs.declared.limits.TheConstants.{MAX_OCCURRENCES}
 use Rattle.dbp_plan.specs.declared.plan.Plan.{Plan}
@@ -31,8 +30,9 @@ rows_of doc = rows_in (records_of doc.body.trace)
 abbrev pub events_of : Doc → Diagram → List (List ℕ)
 events_of doc d = event_times (columns_of doc) (rows_of doc) d.events
 
-abbrev pub clocks_of : Diagram → List Clock
-clocks_of d = map (λ t. t.clock) d.tasks
+-- the values of the inputs of the diagram
+abbrev pub given_samples : Doc → Diagram → List Sample
+given_samples doc d = samples_of (columns_of doc) (rows_of doc) d.inputs
 
 -- ---- its faults, by line
 
@@ -53,7 +53,7 @@ header_faults doc d (Some text) = let records = records_of (Some text) in (heade
 
 -- all tasks together occur more often than `MAX_OCCURRENCES`
 abbrev pub occurrence_fault : Doc → Diagram → Option TraceCode
-occurrence_fault doc d = if nat_lt MAX_OCCURRENCES (total_of d.until (events_of doc d) (clocks_of d)) then Some TooManyOccurrences else None
+occurrence_fault doc d = if nat_lt MAX_OCCURRENCES (total_of d (given_samples doc d) (events_of doc d)) then Some TooManyOccurrences else None
 
 -- the lines of the section, each with its first fault
 abbrev pub section_faults : Doc → Diagram → List (ℕ × Option TraceCode)
@@ -67,17 +67,17 @@ trace_faults doc d = section_faults doc d ++ (doc.lines.until_at, occurrence_fau
 pub record IsTraceOf (doc : Doc) (d : Diagram) (events : List (List ℕ)) (samples : List Sample) : Type 0 where
   pub faultless : first_fault (section_faults doc d) ≡ None
   pub events_are : events ≡ events_of doc d
-  pub samples_are : samples ≡ samples_of (columns_of doc) (rows_of doc) d.inputs
+  pub samples_are : samples ≡ given_samples doc d
 
 -- ---- the plan of a document with this diagram, or its first fault
 
 -- the trace has no fault; the plan has this diagram, its samples are the values of the trace's rows, and each task occurs
--- at exactly the times of its clock
+-- at exactly those base times of its clock at which the input of its `when` isn't 0
 pub record IsPlanOf (doc : Doc) (d : Diagram) (plan : Plan) : Type 0 where
   pub faultless : first_fault (trace_faults doc d) ≡ None
   pub diagram : plan.diagram ≡ d
-  pub samples : plan.samples ≡ samples_of (columns_of doc) (rows_of doc) d.inputs
-  pub batches : AreBatches d.until (events_of doc d) (clocks_of d) plan.batches
+  pub samples : plan.samples ≡ given_samples doc d
+  pub batches : AreBatches d (given_samples doc d) (events_of doc d) plan.batches
 
 -- the first fault is at this line, and it is this
 abbrev pub IsTraceFault : Doc → Diagram → ℕ → TraceCode → Type 0

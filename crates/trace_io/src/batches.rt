@@ -1,31 +1,15 @@
 // The batches of many clocks.
 
-ghost use Rattle.std.specs.Prelude.{◌≡◌, ◌<◌, ◌≤◌, All, IfOk, OnOk, length, map};
-ghost use Rattle.trace_io.specs.Batches.{AreBatches, HasNumbersInRange, IsClockOf, IsTimetable, total_of};
-ghost use Rattle.trace_io.specs.Merging.{AreNext, IsLeastBelow, TakesDue};
+ghost use Rattle.std.specs.Prelude.{◌≡◌, ◌<◌, ◌≤◌, All, IfOk, OnOk, length};
+ghost use Rattle.trace_io.specs.Counts.{IsClockOf, IsTimetable};
+ghost use Rattle.trace_io.specs.Merging.{AreMerged, AreNext, IsLeastBelow, TakesDue, ticks_of};
 
-use crate::clocks::{nth_time, occurrences};
-use dbp_plan::{
-    Batch, Clock, List, MAX_OCCURRENCES, MAX_TASKS, MAX_TIME, NoMemory, Task, TaskNumbers,
-};
+use crate::clocks::nth_time;
+use dbp_plan::{Batch, Clock, List, MAX_OCCURRENCES, MAX_TASKS, NoMemory, TaskNumbers};
 use std::alloc::Global;
 
-/// How often all tasks together occur. No tick is walked.
-pub(crate) fn total(until: u64, events: &[List<u64>], tasks: &[Task]) -> u64
-    requires numbers { All (λ t. HasNumbersInRange t.clock) tasks.now }
-    requires tasks { length tasks.now ≤ MAX_TASKS }
-    requires until { until ≤ MAX_TIME }
-    ensures { result ≡ total_of until events.now (map (λ t. t.clock) tasks.now) }
-{
-    let mut sum = 0;
-    for task in tasks {
-        sum += occurrences(until, events, task.clock);
-    }
-    sum
-}
-
-/// The batches of tasks with these clocks, below tick `until`: each task occurs at exactly the times of its clock.
-/// The times of event `e` are those of `events[e]`. Each turn makes one batch, from each clock's next occurrence.
+/// The batches of these clocks, below tick `until`: each clock stands in those of exactly its base times. The times of
+/// event `e` are those of `events[e]`. Each turn makes one batch, from each clock's next base time.
 pub(crate) fn merged(
     alloc: Global,
     until: u64,
@@ -35,8 +19,8 @@ pub(crate) fn merged(
     requires clocks { All (IsClockOf (length events.now)) clocks.now }
     requires tasks { length clocks.now ≤ MAX_TASKS }
     requires table { IsTimetable until events.now }
-    requires few { total_of until events.now clocks.now ≤ MAX_OCCURRENCES }
-    ensures { IfOk result (λ batches. AreBatches until events.now clocks.now batches) }
+    requires few { ticks_of until events.now clocks.now ≤ MAX_OCCURRENCES }
+    ensures { IfOk result (λ batches. AreMerged until events.now clocks.now batches) }
 {
     let mut taken = vec![in alloc; 0u64; clocks.len()]?;
     let mut next = next_times(alloc, until, events, clocks, &taken)?;
@@ -48,7 +32,7 @@ pub(crate) fn merged(
     Ok(made)
 }
 
-// The time of each clock's next occurrence after so many, or `until` if it has none.
+// Each clock's next base time after so many, or `until` if it has none.
 fn next_times(
     alloc: Global,
     until: u64,

@@ -1,31 +1,34 @@
 // Laws of the definitions.
 
-ghost use Rattle.std.specs.Prelude.{◌≡◌, ℕ, ◌<◌, ◌↔◌, IsSome, List as Items, length};
+ghost use Rattle.std.specs.Prelude.{◌≡◌, ℕ, List as Items, length};
 ghost use Rattle.dbp_plan.specs.declared.diagram.Clock.{Clock as AnyClock};
+ghost use Rattle.dbp_plan.specs.declared.diagram.Diagram.{Diagram as AnyDiagram};
 ghost use Rattle.dbp_plan.specs.declared.schedule.Batch.{Batch as AnyBatch};
-ghost use Rattle.dbp_plan.specs.Clocks.{time_at};
+ghost use Rattle.dbp_plan.specs.declared.schedule.Sample.{Sample as AnySample};
+ghost use Rattle.dbp_plan.specs.Clocks.{base_times};
 ghost use Rattle.dbp_plan.specs.declared.plan.Plan.{Plan as AnyPlan};
 ghost use Rattle.dia_read.specs.declared.document.Doc.{Doc as AnyDocument};
 ghost use Rattle.dia_read.specs.Documents.{Spells, with_script};
 ghost use Rattle.trace_io.specs.declared.code.Code.{Code as AnyCode};
 ghost use Rattle.trace_io.specs.Texts.{Accepts, Refuses, IsSameCode};
-ghost use Rattle.trace_io.specs.Batches.{AreBatches, IsClockOf, count_of};
+ghost use Rattle.trace_io.specs.Batches.{AreBatches};
+ghost use Rattle.trace_io.specs.Counts.{IsClockOf, count_of};
 
 use dia_check::{one_check, the_script_is_not_checked};
 use dia_read::{each_item_has_a_line, one_document, one_first_fault};
 
-/// Clocks have one list of batches at most.
+/// The tasks of a diagram have one list of batches at most, whatever the samples and the times of the events.
 pub fn one_schedule()
-    ensures { (until : ℕ) (events : Items (Items ℕ)) (clocks : Items AnyClock)
-        (a b : Items AnyBatch) → AreBatches until events clocks a → AreBatches until events clocks b
-        → a ≡ b }
+    ensures { (diagram : AnyDiagram) (samples : Items AnySample) (events : Items (Items ℕ))
+        (a b : Items AnyBatch) → AreBatches diagram samples events a
+        → AreBatches diagram samples events b → a ≡ b }
 {}
 
-/// A clock occurs as often as it is counted.
+/// A clock has as many base times as are found by division.
 pub fn count_is_exact()
-    ensures { (until : ℕ) (events : Items (Items ℕ)) (clock : AnyClock) (k : ℕ)
+    ensures { (until : ℕ) (events : Items (Items ℕ)) (clock : AnyClock)
         → IsClockOf (length events) clock
-        → (k < count_of until events clock) ↔ IsSome (time_at until events clock k) }
+        → length (base_times until events clock) ≡ count_of until events clock }
 {}
 
 /// A text is accepted with one plan at most, and not if it is refused; it is refused with one first fault at most,

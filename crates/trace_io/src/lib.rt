@@ -1,15 +1,27 @@
-//! The plan of a document, with the samples of its trace and the batches of its clocks; which texts are accepted and
+//! The plan of a document, with the samples of its trace and the batches of its tasks; which texts are accepted and
 //! which are refused; and the printed lines of a table.
+//!
+//! `IsPlanOf` says that the trace has no fault, that the plan has the given diagram and the trace's samples, and that
+//! its batches are those of its tasks (`AreBatches`). So a document determines its plan. The faults are a list
+//! (`trace_faults`): the header's, the rows', and last the `until` line with too many occurrences. `Accepts` puts the
+//! relations of reading, checking and this crate together, and `Refuses` has a case for the first fault of each; what a
+//! command makes of a document stands on these two. A text has one of both at most (`one_plan`).
+//!
+//! Occurrences are counted by division, and no loop walks ticks. Between two samples of its input a task with a `when`
+//! has all base times of its clock, or none; its times are made after all are counted, and handed to the merge as those
+//! of one more event (`guards`). A task without a `when` costs the merge what it did.
 #![tactic(auto)]
 
 mod batches;
 mod clocks;
 mod code;
+mod guards;
 mod laws;
 mod printed;
 mod trace;
 
 pub use code::Code;
+pub use guards::{count_on, times_on};
 pub use laws::{accepted_with_another_script, count_is_exact, one_plan, one_schedule};
 pub use printed::lines;
 pub use trace::read_trace;

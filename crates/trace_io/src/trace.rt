@@ -1,17 +1,21 @@
 // The plan of a document.
 
-ghost use Rattle.std.specs.Prelude.{◌≡◌, ◌<◌, ◌≤◌, [], IfErr, IfOk, OnOk, None, Some, map, replicate};
+ghost use Rattle.std.specs.Prelude.{◌≡◌, ◌<◌, ◌≤◌, [], All, AllPairs, IsTrue, length, IfErr, IfOk, List as Items, OnOk, None, Some, replicate};
 ghost use Rattle.dbp_plan.specs.Ranked.{IsRanked};
+ghost use Rattle.dbp_plan.specs.Samples.{is_before};
 ghost use Rattle.dia_check.specs.Checks.{IsCheckedOf};
 ghost use Rattle.dia_read.specs.Printable.{HasItemLines, IsPrintable};
-ghost use Rattle.trace_io.specs.Batches.{AreBatches, total_of};
-ghost use Rattle.trace_io.specs.Traces.{IsPlanOf, IsTraceOf, IsTraceRefusal, clocks_of, events_of};
+ghost use Rattle.trace_io.specs.Batches.{total_of};
+ghost use Rattle.trace_io.specs.Guards.{HasItsSamples, RiseInTime};
+ghost use Rattle.trace_io.specs.Counts.{IsTimetable};
+ghost use Rattle.trace_io.specs.Traces.{IsPlanOf, IsTraceOf, IsTraceRefusal, events_of, given_samples};
 ghost use Rattle.trace_rows.specs.declared.fail.TraceCode.TheVariants.{BadHeader, TooManyOccurrences};
 ghost use Rattle.trace_rows.specs.declared.fail.TraceFail.TheVariants.{Refused};
 
-use crate::batches::{merged, total};
+use crate::batches::merged;
+use crate::guards::{merge_clocks, total};
 use csv::ByteRecord;
-use dbp_plan::{Clock, Diagram, List, MAX_OCCURRENCES, NoMemory, Plan, Sample, Task};
+use dbp_plan::{Diagram, List, MAX_OCCURRENCES, NoMemory, Plan, Sample, samples_by_input};
 use dia_read::Doc;
 use std::alloc::Global;
 use trace_rows::{Records, TraceCode, TraceFail, TraceFault, is_header, no_times, row_values};
@@ -22,20 +26,33 @@ struct Trace {
     /// The times of each event, in ticks.
     events: Vec<List<u64>>,
     samples: List<Sample>,
+    /// The samples of each input by itself, if a task has a `when`; else nothing.
+    own: List<List<Sample>>,
 }
 
+ghost use Rattle.dbp_plan.specs.declared.schedule.Sample.{Sample as AnySample};
+
 /// The fault of the `until` line: all tasks together occur more often than `MAX_OCCURRENCES`, if these are the times of
-/// the events.
-fn few_occurrences(diagram: &Diagram, doc: &Doc, events: &[List<u64>]) -> Result<(), TraceFault>
+/// the events and the samples of each input.
+fn few_occurrences(
+    diagram: &Diagram,
+    doc: &Doc,
+    events: &[List<u64>],
+    own: &[List<Sample>],
+) -> Result<(), TraceFault>
     requires ranked { IsRanked diagram.now }
-    ensures few { OnOk result (total_of diagram.now.until events.now (clocks_of diagram.now)
-        ≤ MAX_OCCURRENCES) }
-    ensures many { IfErr result
-        (λ fault. MAX_OCCURRENCES < total_of diagram.now.until events.now (clocks_of diagram.now)) }
+    requires table { IsTimetable diagram.now.until events.now }
+    requires rising { RiseInTime own.now }
+    ensures few { OnOk result ((samples : Items AnySample)
+        → All (HasItsSamples samples own.now) diagram.now.tasks
+        → total_of diagram.now samples events.now ≤ MAX_OCCURRENCES) }
+    ensures many { IfErr result (λ fault. (samples : Items AnySample)
+        → All (HasItsSamples samples own.now) diagram.now.tasks
+        → MAX_OCCURRENCES < total_of diagram.now samples events.now) }
     ensures line { IfErr result (λ fault. fault.line ≡ doc.now.lines.until_at) }
     ensures code { IfErr result (λ fault. fault.code ≡ TooManyOccurrences) }
 {
-    if total(diagram.until, events, diagram.tasks.items()) > u64::from(MAX_OCCURRENCES) {
+    if total(diagram, events, own) > u64::from(MAX_OCCURRENCES) {
         return Err(TraceFault {
             line: doc.lines.until_at,
             code: TraceCode::TooManyOccurrences,
@@ -50,20 +67,44 @@ fn empty_trace(alloc: Global, diagram: &Diagram, doc: &Doc) -> Result<Trace, Tra
     requires ranked { IsRanked diagram.now }
     ensures trace { IfOk result
         (λ trace. IsTraceOf doc.now diagram.now trace.events.items trace.samples) }
-    ensures few { OnOk result (total_of diagram.now.until (events_of doc.now diagram.now)
-        (clocks_of diagram.now) ≤ MAX_OCCURRENCES) }
+    ensures own { IfOk result
+        (λ trace. All (HasItsSamples trace.samples trace.own) diagram.now.tasks) }
+    ensures rising { IfOk result (λ trace. RiseInTime trace.own) }
+    ensures few { OnOk result (total_of diagram.now (given_samples doc.now diagram.now)
+        (events_of doc.now diagram.now) ≤ MAX_OCCURRENCES) }
     ensures fault { IfErr result (λ fail. IsTraceRefusal doc.now diagram.now fail) }
-    ensures many { MAX_OCCURRENCES < total_of diagram.now.until [] (clocks_of diagram.now)
+    ensures many { MAX_OCCURRENCES < total_of diagram.now [] []
         → result ≡ Err (Refused doc.now.lines.until_at TooManyOccurrences) }
 {
-    few_occurrences(diagram, doc, &[])?;
+    few_occurrences(diagram, doc, &[], &[])?;
     Ok(Trace {
         events: no_times(alloc, diagram.events.items().len())?,
         samples: List::new(alloc),
+        own: List::new(alloc),
     })
 }
 
+/// The samples of each input, if a task has a `when`; else nothing.
+fn own_samples(
+    alloc: Global,
+    diagram: &Diagram,
+    samples: &List<Sample>,
+) -> Result<List<List<Sample>>, NoMemory>
+    requires ranked { IsRanked diagram.now }
+    requires named { All (λ s. s.input < length diagram.now.inputs) samples.now }
+    requires order { AllPairs (λ a b. IsTrue (is_before a b)) samples.now }
+    ensures own { IfOk result (λ own. All (HasItsSamples samples.now own) diagram.now.tasks) }
+    ensures rising { IfOk result RiseInTime }
+{
+    if diagram.tasks.items().iter().any(|task| task.when.is_some()) {
+        samples_by_input(alloc, diagram.inputs.len(), samples)
+    } else {
+        Ok(List::new(alloc))
+    }
+}
+
 /// What the lines of the document's trace section give to the inputs and events of its diagram, or their first fault.
+/// The samples of each input by itself aren't made yet.
 fn lines_of_section(
     alloc: Global,
     diagram: &Diagram,
@@ -102,6 +143,7 @@ fn lines_of_section(
     Ok(Trace {
         events: said.events,
         samples: said.samples,
+        own: List::new(alloc),
     })
 }
 
@@ -128,16 +170,20 @@ fn section_trace(
     requires ranked { IsRanked diagram.now }
     ensures trace { IfOk result
         (λ trace. IsTraceOf doc.now diagram.now trace.events.items trace.samples) }
-    ensures few { OnOk result (total_of diagram.now.until (events_of doc.now diagram.now)
-        (clocks_of diagram.now) ≤ MAX_OCCURRENCES) }
+    ensures own { IfOk result
+        (λ trace. All (HasItsSamples trace.samples trace.own) diagram.now.tasks) }
+    ensures rising { IfOk result (λ trace. RiseInTime trace.own) }
+    ensures few { OnOk result (total_of diagram.now (given_samples doc.now diagram.now)
+        (events_of doc.now diagram.now) ≤ MAX_OCCURRENCES) }
     ensures fault { IfErr result (λ fail. IsTraceRefusal doc.now diagram.now fail) }
     ensures no_line { text.now ≡ [] → result ≡ Err (Refused doc.now.lines.trace_at BadHeader) }
 {
     if text.is_empty() {
         return Err(bad_header(doc.lines.trace_at));
     }
-    let trace = lines_of_section(alloc, diagram, doc, text)?;
-    few_occurrences(diagram, doc, &trace.events)?;
+    let mut trace = lines_of_section(alloc, diagram, doc, text)?;
+    trace.own = own_samples(alloc, diagram, &trace.samples)?;
+    few_occurrences(diagram, doc, &trace.events, trace.own.items())?;
     Ok(trace)
 }
 
@@ -148,11 +194,14 @@ fn trace_of(alloc: Global, diagram: &Diagram, doc: &Doc) -> Result<Trace, TraceF
     requires ranked { IsRanked diagram.now }
     ensures trace { IfOk result
         (λ trace. IsTraceOf doc.now diagram.now trace.events.items trace.samples) }
-    ensures few { OnOk result (total_of diagram.now.until (events_of doc.now diagram.now)
-        (clocks_of diagram.now) ≤ MAX_OCCURRENCES) }
+    ensures own { IfOk result
+        (λ trace. All (HasItsSamples trace.samples trace.own) diagram.now.tasks) }
+    ensures rising { IfOk result (λ trace. RiseInTime trace.own) }
+    ensures few { OnOk result (total_of diagram.now (given_samples doc.now diagram.now)
+        (events_of doc.now diagram.now) ≤ MAX_OCCURRENCES) }
     ensures fault { IfErr result (λ fail. IsTraceRefusal doc.now diagram.now fail) }
     ensures no_section { doc.now.body.trace ≡ None
-        → MAX_OCCURRENCES < total_of diagram.now.until [] (clocks_of diagram.now)
+        → MAX_OCCURRENCES < total_of diagram.now [] []
         → result ≡ Err (Refused doc.now.lines.until_at TooManyOccurrences) }
     ensures no_line { doc.now.body.trace ≡ Some []
         → result ≡ Err (Refused doc.now.lines.trace_at BadHeader) }
@@ -163,18 +212,9 @@ fn trace_of(alloc: Global, diagram: &Diagram, doc: &Doc) -> Result<Trace, TraceF
     }
 }
 
-fn clocks_of(alloc: Global, tasks: &[Task]) -> Result<Vec<Clock>, NoMemory>
-    ensures { IfOk result (λ clocks. clocks.items ≡ map (λ t. t.clock) tasks.now) }
-{
-    let mut clocks = Vec::new(alloc);
-    for task in tasks {
-        clocks.push(task.clock)?;
-    }
-    Ok(clocks)
-}
-
 /// The plan of the document, whose diagram this is: with the values of its trace's rows as samples, and with batches in
-/// which each task occurs at exactly the times of its clock. A document without a trace section has an empty trace.
+/// which each task occurs at exactly those base times of its clock at which the input of its `when` isn't 0. A document
+/// without a trace section has an empty trace.
 ///
 /// Refused is the first of these that has a fault: the header, with `BadHeader` at its line, or at the line that begins
 /// the section if no line is kept; then the rows in order, each with its first fault in the order `TooManyRows`,
@@ -192,14 +232,14 @@ pub fn read_trace(alloc: Global, diagram: Diagram, doc: &Doc) -> Result<Plan, Tr
     ensures fault { IfErr result (λ fail. IsTraceRefusal doc.now diagram fail) }
     // Without a trace section occurrences are counted before memory is taken, so too many are never out of memory.
     ensures no_section { doc.now.body.trace ≡ None
-        → MAX_OCCURRENCES < total_of diagram.until [] (clocks_of diagram)
+        → MAX_OCCURRENCES < total_of diagram [] []
         → result ≡ Err (Refused doc.now.lines.until_at TooManyOccurrences) }
     // Neither is a section that keeps no line.
     ensures no_line { doc.now.body.trace ≡ Some []
         → result ≡ Err (Refused doc.now.lines.trace_at BadHeader) }
 {
-    let trace = trace_of(alloc, &diagram, doc)?;
-    let clocks = clocks_of(alloc, diagram.tasks.items())?;
+    let mut trace = trace_of(alloc, &diagram, doc)?;
+    let clocks = merge_clocks(alloc, &diagram, &mut trace.events, trace.own.items())?;
     let batches = merged(alloc, diagram.until, &trace.events, &clocks)?;
     Ok(Plan {
         diagram,

@@ -20,7 +20,7 @@ use Rattle.dbp_rules.specs.declared.step.Step.TheVariants.{Claim, Done, End, Hea
 use Rattle.instance_steps.specs.Events.{step_of, aim_events, batch_events, begin_events, claim_events, end_events, look_events, put_events, read_events, reads_at}
 use Rattle.virtual_sim.specs.Budgets.{early_reads, step_bound, steps_below}
 use Rattle.virtual_sim.specs.Record.{begin_events_at}
-use Rattle.virtual_sim.proofs.PlanRules as rules
+use Rattle.dbp_plan.proofs.PlanRules as rules
 use Rattle.virtual_sim.proofs.Recorded.{NoReadAt}
 
 -- ---- counts

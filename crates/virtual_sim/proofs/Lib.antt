@@ -1,6 +1,4 @@
 pub mod Budgets
-pub mod PlanRules
-pub mod Times
 pub mod Steps
 pub mod Releases
 pub mod Running

@@ -1,16 +1,14 @@
 -- The instance that is served first may step under the condition on ranks.
 use Rattle.std.specs.Prelude.{IsTrue, unwrap_or}
-use Rattle.std.proofs.Common.{◌≡◌, ℕ, ◌+◌, ◌-◌, ◌<◌, ◌≤◌, true, [], length, get_or, refl, sym, ap, ◌∙◌, subst, ⊎_elim, arith}
-use Rattle.std.proofs.lemmas.Bool.{cases_eq, cases_lt, lt-ltb}
+use Rattle.std.proofs.Common.{◌≡◌, ℕ, ◌+◌, ◌-◌, ◌<◌, ◌≤◌, true, [], length, get_or, refl, ap, ◌∙◌, ⊎_elim, arith}
+use Rattle.std.proofs.lemmas.Bool.{cases_eq}
 use Rattle.std.proofs.lemmas.Bool.Decides.{nat_tests}
-use Rattle.std.proofs.lemmas.Option.{slice_get-get_or}
 use Rattle.dbp_plan.specs.declared.diagram.Policy.{Policy}
 use Rattle.dbp_plan.specs.declared.diagram.Policy.TheVariants.{Fp, Edf}
 use Rattle.dbp_plan.specs.declared.plan.Plan.{Plan}
-use Rattle.dbp_plan.specs.Lookups.{declared_task, no_declared_task}
+use Rattle.dbp_plan.specs.Lookups.{declared_task}
 use Rattle.dbp_plan.specs.Occurrences.{times_of}
-use Rattle.dbp_plan.specs.Ranks.{is_above}
-use Rattle.dbp_plan.proofs.RankLaws.{above-lesser, kept-rank}
+use Rattle.dbp_plan.proofs.RankLaws.{higher-deadline}
 use Rattle.rank_order.specs.Instances.{Instance, release_of}
 use Rattle.rank_order.specs.Order.{goes_before, is_before, key_by}
 use Rattle.rank_order.specs.Queue.{IsServedFirst}
@@ -38,24 +36,10 @@ by_deadline : (a b d e m n : ℕ) → n < m → e ≤ d → is_before (record { 
 by_deadline a b d e m n less le before = grind (arith, nat_tests)
 
 module _ (p : Plan) (i q : ℕ) (il : i < length p.diagram.tasks) (ql : q < length p.diagram.tasks) (higher : get_or p.diagram.ranks q 0 < get_or p.diagram.ranks i 0) where
-  above : is_above p.diagram.policy (i, declared_task p i) (q, declared_task p q) ≡ true → ⊥
-  above is =
-      let less = above-lesser p.diagram.policy p.diagram.tasks i q (declared_task p i) (declared_task p q) (get_or p.diagram.ranks i 0) (get_or p.diagram.ranks q 0)
-      (slice_get-get_or p.diagram.tasks i no_declared_task il) (slice_get-get_or p.diagram.tasks q no_declared_task ql) (kept-rank p.diagram i p.rules.ranked il) (kept-rank p.diagram q p.rules.ranked ql) is in
-      omega (arith, less, higher)
-
-  -- under earliest deadlines the higher rank has no greater deadline
-  deadlines : p.diagram.policy ≡ Edf → unwrap_or (declared_task p q).deadline 0 ≤ unwrap_or (declared_task p i).deadline 0
-  deadlines edf = ⊎_elim
-      (λ (lt : unwrap_or (declared_task p i).deadline 0 < unwrap_or (declared_task p q).deadline 0).
-      absurd (above (subst (λ (policy : Policy). is_above policy (i, declared_task p i) (q, declared_task p q) ≡ true) (sym edf) (rw (lt-ltb _ _ lt) refl))))
-      (λ (ge : unwrap_or (declared_task p q).deadline 0 ≤ unwrap_or (declared_task p i).deadline 0). ge)
-      (cases_lt (unwrap_or (declared_task p i).deadline 0) (unwrap_or (declared_task p q).deadline 0))
-
   by_policy : (policy : Policy) (a b : ℕ) → p.diagram.policy ≡ policy → is_before (key_by policy p.diagram i a) (key_by policy p.diagram q b) ≡ true → a < b
   by_policy Fp a b is before = absurd (by_rank (get_or p.diagram.ranks i 0) (get_or p.diagram.ranks q 0) a b higher before)
   by_policy Edf a b is before =
-      by_deadline a b (unwrap_or (declared_task p i).deadline 0) (unwrap_or (declared_task p q).deadline 0) (get_or p.diagram.ranks i 0) (get_or p.diagram.ranks q 0) higher (deadlines is) before
+      by_deadline a b (unwrap_or (declared_task p i).deadline 0) (unwrap_or (declared_task p q).deadline 0) (get_or p.diagram.ranks i 0) (get_or p.diagram.ranks q 0) higher (higher-deadline p.diagram p.rules.ranked i q il ql higher is) before
 
   -- one that goes before a higher-ranked one was released earlier
   pub released_earlier : (a b : ℕ) → IsTrue (goes_before p.diagram i a q b) → a < b

@@ -1,5 +1,5 @@
 -- The events of a simulation that goes from one event to the next.
-use Rattle.std.proofs.Common.{◌≡◌, ◌≢◌, ℕ, suc, ◌+◌, ◌<◌, ◌≤◌, eqb, false, Bool, List, [], ◌∷◌, ◌++◌, length, take, drop, get_or, Option, Some, refl, sym, ap, ◌∙◌, arith, append_assoc, take-append-drop}
+use Rattle.std.proofs.Common.{◌≡◌, ◌≢◌, ℕ, suc, ◌+◌, ◌<◌, ◌≤◌, eqb, List, [], ◌∷◌, ◌++◌, length, take, drop, get_or, Option, Some, refl, sym, ap, ◌∙◌, arith, append_assoc, take-append-drop}
 use Rattle.std.specs.List.{flat_map, filter, range_with_len}
 use Rattle.std.proofs.lemmas.Bool.{ne_eqb, eq-eqb}
 use Rattle.std.proofs.lemmas.Grind.{flat_map-append}
@@ -9,14 +9,11 @@ use Rattle.std.proofs.lemmas.List.FromFn.{length-range_with_len, get_or-range_wi
 use Rattle.dbp_plan.specs.declared.plan.Plan.{Plan}
 use Rattle.dbp_plan.specs.declared.schedule.Batch.{Batch}
 use Rattle.dbp_plan.specs.Lookups.{declared_task, no_read}
+use Rattle.dbp_plan.proofs.ListMaps.{filter-none}
 use Rattle.rank_order.specs.Instances.{Instance}
 use Rattle.rank_order.specs.Service.{left_of, served_ticks}
 use Rattle.instance_steps.specs.Events.{Event, batch_events, end_events, look_events, read_events}
 use Rattle.virtual_sim.specs.Record.{events_so_far, end_events_at, end_events_of, events_at, events_before, release_events_at, service_events_of}
-
-pub filter-none : {X : Type 0} (p : X → Bool) (xs : List X) → ((k : ℕ) (d : X) → k < length xs → p (get_or xs k d) ≡ false) → filter p xs ≡ []
-filter-none p [] none = refl
-filter-none p (x ∷ xs) none = rw (none 0 x (omega arith)) (filter-none p xs (λ k d lt. none (suc k) d (omega (arith, lt))))
 
 -- the read of the task is due after so many ticks
 abbrev pub NoReadAt : Plan → ℕ → ℕ → Type 0

@@ -12,9 +12,9 @@ use Rattle.rank_order.specs.Ends.{IsOverrun, NoOverrun}
 use Rattle.virtual_sim.specs.State.{Renewed, release_count, instance, busy_count, IsSimulatedTo}
 use Rattle.rank_order.proofs.OneService.{serves_waiting}
 use Rattle.rank_order.proofs.ServedTicks.{unserved}
-use Rattle.virtual_sim.proofs.PlanRules as rules
+use Rattle.dbp_plan.proofs.OccurrenceBatches.{batch-time, named-time}
+use Rattle.dbp_plan.proofs.PlanRules as rules
 use Rattle.dbp_plan.proofs.TaskTimes.{more-named, more-other, some-of}
-use Rattle.virtual_sim.proofs.Times.{time_at, when}
 use Rattle.instance_steps.specs.Releases.{no_batch}
 use Rattle.virtual_sim.proofs.Steps.{busy_count_one, busy_count_none, batch_of_instance, number_by, ended_left}
 
@@ -25,7 +25,7 @@ module _ (P : Plan) (serve : ℕ → Option Instance) (service : IsService P ser
   brought i il named =
       let up = more-named P.batches i b no_batch small named in
       let all = some-of P.batches i (b + 1) in
-      let t = time_at i P.batches b no_batch small named in
+      let t = named-time P.batches i b no_batch small named in
       let back : release_count P.batches b i + 1 - 1 ≡ release_count P.batches b i = omega arith in (
         record { task = il; from_one = omega arith; within = omega (arith, up, all) },
         ap (λ (n : ℕ). get_or (times_of P.batches i) n 0) back ∙ t ∙ due,
@@ -120,7 +120,7 @@ module _ (P : Plan) (serve : ℕ → Option Instance) (service : IsService P ser
         };
         least = λ u y lt late.
             let k = batch_of_instance P serve service y late.instance in
-            let w = when k.1 no_batch in
+            let w = batch-time k.1 no_batch in
             let r = late.at in
             let before : k.0 < b = ⊎_elim (λ (l : k.0 < b). l)
             (λ (g : b ≤ k.0). absurd (⊎_elim (λ (e : k.0 ≡ b). let t = ap (λ (m : ℕ). (get_or P.batches m no_batch).time) e in omega (arith, t, due, w, r, lt))
@@ -133,7 +133,7 @@ module _ (P : Plan) (serve : ℕ → Option Instance) (service : IsService P ser
             omega (arith, none', more);
         highest = λ y late.
             let k = batch_of_instance P serve service y late.instance in
-            let w = when k.1 no_batch in
+            let w = batch-time k.1 no_batch in
             let r = late.at in
             let same : k.0 ≡ b = ⊎_elim
             (λ (l : k.0 < b). absurd (let t = rules.rising P k.0 b no_batch no_batch l small in omega (arith, t, due, w, r)))

@@ -1,6 +1,6 @@
 -- The tasks of a batch begin their instances, one by one.
-use Rattle.std.proofs.Common.{◌≡◌, ◌≢◌, ℕ, zero, suc, ◌+◌, ◌<◌, ◌⊎◌, ◌↔◌, ◌||◌, true, false, eqb, List, [], ◌∷◌, length, get_or, take, refl, sym, ◌∙◌, subst, inl, inr, ⊎_elim, arith}
-use Rattle.std.proofs.lemmas.Bool.{cases_eq, false≢true, or_cases, or_left, or_right, or_parts, eqb-true, eqb-false, eq-eqb}
+use Rattle.std.proofs.Common.{◌≡◌, ◌≢◌, ℕ, ◌+◌, ◌<◌, ◌⊎◌, ◌↔◌, ◌||◌, true, false, eqb, List, length, get_or, take, sym, ◌∙◌, subst, inl, inr, ⊎_elim}
+use Rattle.std.proofs.lemmas.Bool.{cases_eq, or_cases, or_left, or_right, or_parts, eqb-true, eqb-false, eq-eqb}
 use Rattle.std.proofs.lemmas.List.Folds.{list_any_more}
 use Rattle.dbp_plan.specs.declared.plan.Plan.{Plan}
 use Rattle.rank_order.specs.declared.ready.Ready.{Ready}
@@ -16,20 +16,6 @@ pub record Renewing (P : Plan) (tasks : List ℕ) (j time : ℕ) (rest rest' : L
   pub others : (i : ℕ) → is_in (take j tasks) i ≡ false → get_or rest' i 0 ≡ get_or rest i 0
   pub made : MadeFor ready' P.diagram
   pub held : (i a : ℕ) → Holds ready' i a ↔ (((is_in (take j tasks) i ≡ true) × (a ≡ time)) ⊎ Holds ready i a)
-
-pub in_place : (xs : List ℕ) (j i : ℕ) → is_in (take j xs) i ≡ true → (k : ℕ) × (k < j) × (k < length xs) × (get_or xs k 0 ≡ i)
-in_place xs zero i is = absurd (false≢true is)
-in_place [] (suc j) i is = absurd (false≢true is)
-in_place (x ∷ xs) (suc j) i is =
-    ⊎_elim
-    (λ (e : eqb x i ≡ true). (0, omega arith, omega arith, eqb-true x i e))
-    (λ (e : is_in (take j xs) i ≡ true). let k = in_place xs j i e in (suc k.0, (let a = k.1 in omega (arith, a)), (let a = k.2 in omega (arith, a)), k.3))
-    (or_cases (eqb x i) (is_in (take j xs) i) is)
-
-pub in_from : (xs : List ℕ) (k : ℕ) → k < length xs → is_in xs (get_or xs k 0) ≡ true
-in_from [] k lt = absurd (omega (arith, lt))
-in_from (x ∷ xs) zero lt = or_left (eqb x x) (is_in xs x) (eq-eqb x x refl)
-in_from (x ∷ xs) (suc k) lt = or_right (eqb x (get_or xs k 0)) (is_in xs (get_or xs k 0)) (in_from xs k (omega (arith, lt)))
 
 module _ (P : Plan) (tasks : List ℕ) (j time : ℕ) (rest rest' : List ℕ) (ready ready' : Ready) (h : Renewing P tasks j time rest rest' ready ready') (small : j < length tasks) where
   task : ℕ

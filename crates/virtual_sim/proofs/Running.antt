@@ -18,7 +18,7 @@ use Rattle.virtual_sim.specs.Runs.{IsRun}
 use Rattle.rank_order.proofs.Choices.{same_instance}
 use Rattle.dbp_plan.proofs.ListParts.{refilled}
 use Rattle.dbp_plan.proofs.TaskTimes.{some-of, times_few}
-use Rattle.virtual_sim.proofs.PlanRules as rules
+use Rattle.dbp_plan.proofs.PlanRules as rules
 use Rattle.rank_order.proofs.SomeService.{service_is}
 use Rattle.virtual_sim.proofs.Steps.{waits_is, waits_from, runs_on, runs_out, waits_out}
 

@@ -48,11 +48,11 @@ use Rattle.virtual_sim.specs.State.{NoBatchBefore, Renewed, instance, release_co
 use Rattle.virtual_sim.specs.declared.simulation.Simulation.{Simulation}
 use Rattle.virtual_sim.proofs.Budgets.{bound_all, ended_steps, length-batch, one_changed, paused_steps, same_early, same_steps, steps_few}
 use Rattle.virtual_sim.proofs.MaySteps.{may_step}
-use Rattle.virtual_sim.proofs.PlanRules as rules
+use Rattle.dbp_plan.proofs.PlanRules as rules
 use Rattle.virtual_sim.proofs.Recorded.{NoReadAt, one_batch_more}
 use Rattle.virtual_sim.proofs.RecordJumps.{jump_idle, jump_to_end, jump_to_event}
 use Rattle.virtual_sim.proofs.Recordings.{adds_batch, adds_piece, goes_on, has_ended, place_all, place_some}
-use Rattle.virtual_sim.proofs.Renewing.{in_place}
+use Rattle.dbp_plan.proofs.Searches.{in_place}
 use Rattle.virtual_sim.proofs.Running.{few_ends, first_small, first_some, is_choice}
 use Rattle.virtual_sim.proofs.Steps.{busy_count_none, busy_count_one, quiet, waits_is}
 

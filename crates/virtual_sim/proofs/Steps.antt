@@ -11,9 +11,8 @@ use Rattle.virtual_sim.specs.State.{release_count, instance, busy_count, EndsAt,
 use Rattle.rank_order.proofs.Jump.{Ran, runs, serves}
 use Rattle.rank_order.proofs.OneService.{serves_waiting}
 use Rattle.rank_order.proofs.ServedTicks.{left_falls, unserved_after}
-use Rattle.dbp_plan.proofs.OccurrenceBatches.{IsOfBatch, batch_of}
+use Rattle.dbp_plan.proofs.OccurrenceBatches.{IsOfBatch, batch-time, batch_of}
 use Rattle.dbp_plan.proofs.TaskTimes.{more-named, some-of, some-rise}
-use Rattle.virtual_sim.proofs.Times.{when}
 
 pub busy_count_one : (n : ℕ) → 0 < n → busy_count n ≡ 1
 busy_count_one zero lt = absurd (omega (arith, lt))
@@ -59,7 +58,7 @@ module _ (P : Plan) (serve : ℕ → Option Instance) (service : IsService P ser
       pub released_by : (x : Instance) → IsInstance P x → release_of P x < limit → (release_of P x ≤ now) × (x.number ≤ release_count P.batches b x.task)
       released_by x here lt =
           let k = batch_of_instance x here in
-          let w = when k.1 no_batch in
+          let w = batch-time k.1 no_batch in
           let before : k.0 < b = ⊎_elim (λ (l : k.0 < b). l) (λ (g : b ≤ k.0). let u = until.later k.0 no_batch g k.1.within in absurd (omega (arith, u, w, lt))) (cases_lt k.0 b) in
           let e = at.early k.0 no_batch before k.1.within in
           (omega (arith, e, w), number_by x k.0 b here k.1 before)
@@ -97,7 +96,7 @@ module _ (P : Plan) (serve : ℕ → Option Instance) (service : IsService P ser
     waits_from i small some =
         let here = in_plan i small some in
         let k = batch_of_instance (instance i (release_count P.batches b i)) here in
-        let w = when k.1 no_batch in
+        let w = batch-time k.1 no_batch in
         let n = k.1.number in
         let one = here.from_one in
         let before : k.0 < b = ⊎_elim (λ (l : k.0 < b). l) (λ (g : b ≤ k.0). let u = some-rise P.batches i b k.0 g in absurd (omega (arith, u, n, one))) (cases_lt k.0 b) in

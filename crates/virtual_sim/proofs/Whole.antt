@@ -15,12 +15,13 @@ use Rattle.rank_order.specs.Queue.{Holds, MadeFor}
 use Rattle.instance_steps.specs.Releases.{batch_at, no_batch}
 use Rattle.dbp_plan.specs.Numbers.{is_in}
 use Rattle.virtual_sim.specs.Runs.{IsRun, IsWorst}
-use Rattle.virtual_sim.proofs.PlanRules as rules
+use Rattle.dbp_plan.proofs.PlanRules as rules
 use Rattle.rank_order.proofs.SomeService.{service_is}
 use Rattle.dbp_plan.proofs.TaskTimes.{more-named, more-other}
 use Rattle.virtual_sim.proofs.Steps.{busy_count_none}
 use Rattle.virtual_sim.proofs.Releases.{released, brought, overrun}
-use Rattle.virtual_sim.proofs.Renewing.{Renewing, in_place, in_from}
+use Rattle.dbp_plan.proofs.Searches.{in_place, in_from}
+use Rattle.virtual_sim.proofs.Renewing.{Renewing}
 use Rattle.virtual_sim.proofs.Running.{sum_zero}
 
 sum_small : (xs : List ℕ) → ((i : ℕ) → i < length xs → get_or xs i 0 ≤ 1000000000) → sum xs ≤ length xs * 1000000000

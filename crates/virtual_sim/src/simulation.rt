@@ -250,7 +250,7 @@ pub fn simulate(alloc: Global, plan: &Plan) -> Result<SimRun, SimFail>
     simulate_shared(alloc, &shared)
 }
 
-/// The same, with no copy of the plan.
+/// As `simulate`, with no copy of the plan.
 pub fn simulate_shared(alloc: Global, plan: &Rc<Plan>) -> Result<SimRun, SimFail>
     ensures { MatchResult result
         (λ run. IsSimRun plan.now.value run) (λ why. IsSimFail plan.now.value why) }
@@ -265,7 +265,8 @@ pub fn simulate_shared(alloc: Global, plan: &Rc<Plan>) -> Result<SimRun, SimFail
     })
 }
 
-/// The table of the same simulation. Its steps are made as for `simulate`, and none is kept.
+/// The table of the simulation that `simulate` makes. Its steps are made as for that, and none is kept; no clause says
+/// that they are made.
 pub fn simulate_table(alloc: Global, plan: &Plan) -> Result<Table, SimFail>
     ensures { MatchResult result
         (λ table. IsSimTable plan.now table) (λ why. IsSimFail plan.now why) }
@@ -276,7 +277,7 @@ pub fn simulate_table(alloc: Global, plan: &Plan) -> Result<Table, SimFail>
     simulate_table_shared(alloc, &shared)
 }
 
-/// The same, with no copy of the plan.
+/// As `simulate_table`, with no copy of the plan.
 pub fn simulate_table_shared(alloc: Global, plan: &Rc<Plan>) -> Result<Table, SimFail>
     ensures { MatchResult result
         (λ table. IsSimTable plan.now.value table) (λ why. IsSimFail plan.now.value why) }

@@ -1,4 +1,8 @@
 // The words that parties share, and their seats: one step after another.
+//
+// Public clauses leave open which number a `Closed`, a `NotYet` and a `seen` return. These tests find a `start` that
+// returns `Closed` at an open gate or names another gate, a `look` that returns `NotYet` at the ordered row or names
+// another stamp, and a `seen` that returns the number that was known before.
 
 ghost use Rattle.std.specs.Prelude.{◌≡◌};
 ghost use Rattle.sync_meaning.specs.SomeMeaning.{meaning_of};

@@ -1,7 +1,7 @@
 use Rattle.std.proofs.Common.{rules, arith, ◌≡◌, ◌-◌, sym, ◌∙◌, slice_index_or, pos, w64}
 use Rattle.std.proofs.lemmas.Int.{to_z-of_z}
 use Rattle.dbp_plan.specs.declared.schedule.Sample.{Sample}
-use Rattle.dbp_rules.proofs.InputValues.{IsUntil, until_point, value_last, value_none}
+use Rattle.dbp_plan.proofs.InputValues.{IsUntil, until_point, value_last, value_none}
 use Rattle.dbp_rules.proofs.sensing.value_at.Goals as goal
 use mir.Val.{to_z, of_z}
 

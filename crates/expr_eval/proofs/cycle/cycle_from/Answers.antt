@@ -2,7 +2,7 @@ use Rattle.std.proofs.Common.{◌≡◌, ℕ, get_or, slice_get, Some, length, a
 use Rattle.std.proofs.lemmas.Option.{slice_get_within, slice_get-get_or, same_Some}
 use Rattle.expr_eval.specs.LetOrders.{Uses}
 use Rattle.dbp_plan.specs.ListItems.{take_inside}
-use Rattle.expr_eval.proofs.Listed.{listed_few}
+use Rattle.dbp_plan.proofs.Listed.{listed_few}
 use Rattle.expr_eval.proofs.Searches.{descent_more, descent_closed, descent_few, descent_none}
 use Rattle.expr_eval.proofs.cycle.cycle_from.Goals as goal
 

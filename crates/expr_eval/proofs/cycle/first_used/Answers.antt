@@ -1,5 +1,5 @@
 use Rattle.std.proofs.Common.{arith}
-use Rattle.expr_eval.proofs.Listed.{place_of}
+use Rattle.dbp_plan.proofs.Listed.{place_of}
 use Rattle.expr_eval.proofs.cycle.first_used.Goals as goal
 
 pub returns : goal.returns

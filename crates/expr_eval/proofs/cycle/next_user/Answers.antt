@@ -1,7 +1,7 @@
 use Rattle.std.proofs.Common.{Contains, below_more, arith, inl, inr}
 use Rattle.std.proofs.lemmas.Option.{slice_get_within}
 use Rattle.expr_eval.specs.LetSearch.{UsesNoneOf}
-use Rattle.expr_eval.proofs.Listed.{contains_cases}
+use Rattle.dbp_plan.proofs.Listed.{contains_cases}
 use Rattle.expr_eval.proofs.cycle.next_user.Goals as goal
 
 pub loop-i-preserved : goal.loop-i-preserved

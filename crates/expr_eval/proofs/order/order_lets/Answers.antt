@@ -1,8 +1,8 @@
 use Rattle.std.proofs.Common.{◌<◌, ℕ, [], ◌∷◌, length, length-append, arith}
 use Rattle.expr_eval.specs.LetOrders.{AllWait, IsNextReady, LiesOnCycle}
-use Rattle.expr_eval.proofs.Listed.{listed_few, listed_room}
+use Rattle.dbp_plan.proofs.Listed.{listed_few, listed_room}
 use Rattle.expr_eval.proofs.FrontOrders.{front_more, front_end}
-use Rattle.expr_eval.specs.LetSearch.{AreListed}
+use Rattle.dbp_plan.specs.Listed.{AreListed}
 use Rattle.expr_eval.proofs.Cycles.{all_placed}
 use Rattle.expr_eval.proofs.Searches.{found_listed, found_none}
 use Rattle.expr_eval.proofs.order.order_lets.Goals as goal

@@ -1,14 +1,8 @@
-use Rattle.std.proofs.Common.{rules}
-use Rattle.dbp_plan.specs.Ranked.{IsRanked}
-use Rattle.trace_io.proofs.Plans.{numbers_fit}
+use Rattle.std.proofs.Common.{arith}
 use Rattle.trace_io.proofs.trace.few_occurrences.Goals as goal
 
-pub total-requires-clause-numbers : goal.total-requires-clause-numbers
-total-requires-clause-numbers c =
-    let ranked : IsRanked c.args.diagram.now = search rules in
-    rw c.items.ensures.value (numbers_fit c.args.diagram.now ranked.closed)
+pub returns-clause-few : goal.returns-clause-few
+returns-clause-few c = λ samples its. omega (arith, c.total.ensures samples its, c.if-total.false)
 
-pub total-requires-clause-tasks : goal.total-requires-clause-tasks
-total-requires-clause-tasks c =
-    let ranked : IsRanked c.args.diagram.now = search rules in
-    rw c.items.ensures.value ranked.closed.tasks
+pub returns-then-total-clause-many : goal.returns-then-total-clause-many
+returns-then-total-clause-many c = λ samples its. omega (arith, c.total.ensures samples its, c.if-total.true)

@@ -7,7 +7,7 @@ use Rattle.dbp_plan.specs.ListItems.{read_place}
 use Rattle.dbp_plan.specs.Samples.{input_value}
 use Rattle.dbp_rules.specs.Moves.{with_now, with_senses}
 use Rattle.dbp_rules.specs.Work.{WorkWords}
-use Rattle.dbp_rules.proofs.InputValues.{sense_more}
+use Rattle.dbp_rules.proofs.SensePlaces.{sense_more}
 use Rattle.dbp_rules.proofs.work.Work.sense.Goals as goal
 use mir.Val.{to_z, of_z}
 

@@ -2,7 +2,7 @@ use Rattle.std.proofs.Common.{arith, ℕ, List, Option, ◌≡◌, ◌<◌, ◌+
 use Rattle.std.proofs.lemmas.List.{get_or_default, get_or_read}
 use Rattle.dbp_plan.specs.declared.schedule.Batch.{Batch}
 use Rattle.instance_steps.specs.Releases.{batch_at, no_batch}
-use Rattle.virtual_sim.proofs.PlanRules as rules
+use Rattle.dbp_plan.proofs.PlanRules as rules
 use Rattle.virtual_sim.proofs.LateTasks.{Worst, chooses, skips}
 use Rattle.virtual_sim.proofs.run.Run.late_task.Goals as goal
 use Rattle.virtual_sim.proofs.run.Run.late_task.Goals.{then-index-gt0, else-index-gt0}

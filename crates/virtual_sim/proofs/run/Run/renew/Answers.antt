@@ -6,7 +6,7 @@ use Rattle.dbp_plan.specs.Lookups.{declared_task, no_declared_task}
 use Rattle.rank_order.specs.Queue.{Holds}
 use Rattle.instance_steps.specs.Releases.{batch_at, no_batch}
 use Rattle.virtual_sim.specs.State.{Sets}
-use Rattle.virtual_sim.proofs.PlanRules as rules
+use Rattle.dbp_plan.proofs.PlanRules as rules
 use Rattle.virtual_sim.proofs.Renewing.{one_more}
 use Rattle.virtual_sim.proofs.Running.{sets_at}
 use Rattle.virtual_sim.proofs.Whole.{absent, renewed}

@@ -2,7 +2,7 @@ use Rattle.std.proofs.Common.{List, ◌≡◌, get_or, refl, ap, ◌∙◌}
 use Rattle.std.proofs.lemmas.List.{get_or_default}
 use Rattle.dbp_plan.specs.declared.schedule.Batch.{Batch}
 use Rattle.instance_steps.specs.Releases.{batch_at, no_batch}
-use Rattle.virtual_sim.proofs.PlanRules as rules
+use Rattle.dbp_plan.proofs.PlanRules as rules
 use Rattle.virtual_sim.proofs.Running.{rested, until_next}
 use Rattle.virtual_sim.proofs.run.Run.wait.Goals as goal
 

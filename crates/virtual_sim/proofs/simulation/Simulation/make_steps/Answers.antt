@@ -9,7 +9,7 @@ use Rattle.instance_steps.specs.TaskPieces.{MayStep, place_after}
 use Rattle.instance_steps.proofs.Adding.{still_kept}
 use Rattle.virtual_sim.specs.Record.{begin_events_at, events_so_far}
 use Rattle.virtual_sim.proofs.Budgets.{begin_few}
-use Rattle.virtual_sim.proofs.PlanRules.{closed_task}
+use Rattle.dbp_plan.proofs.PlanRules.{closed_task}
 use Rattle.virtual_sim.proofs.Running.{first_small}
 use Rattle.virtual_sim.proofs.Serving.{events_few, may, reads_first, recorded_length, with_here}
 use Rattle.virtual_sim.proofs.simulation.Simulation.make_steps.Goals as goal

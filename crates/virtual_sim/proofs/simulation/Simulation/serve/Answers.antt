@@ -16,7 +16,7 @@ use Rattle.virtual_sim.specs.Runs.{IsRun}
 use Rattle.virtual_sim.specs.State.{NoBatchBefore}
 use Rattle.virtual_sim.specs.declared.run.Run.{Run}
 use Rattle.virtual_sim.proofs.Budgets.{begin_few, reads_few}
-use Rattle.virtual_sim.proofs.PlanRules.{closed_task}
+use Rattle.dbp_plan.proofs.PlanRules.{closed_task}
 use Rattle.virtual_sim.proofs.Running.{first_small}
 use Rattle.virtual_sim.proofs.Serving.{body_is, events_few, finishes, is_shut, may, no_sooner_in, of_first, pauses, recorded_length, sooner}
 use Rattle.virtual_sim.proofs.simulation.Simulation.serve.Goals as goal
