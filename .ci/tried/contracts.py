@@ -1,4 +1,5 @@
-"""tools/contracts: docs/CONTRACTS.md is the page that it makes, and sources are read as they should be."""
+"""tools/contracts: docs/CONTRACTS.md is the page that it makes, and sources are read as they should be. Each crate has
+its row in docs/LAYERS.md, and each library a paragraph at its head."""
 
 import subprocess
 import sys
@@ -9,7 +10,7 @@ from pathlib import Path
 TOP = Path(__file__).resolve().parents[2]
 sys.path.insert(0, str(TOP / "tools"))
 
-from clauses.crates import crates_of, from_the_lowest, is_library  # noqa: E402
+from clauses.crates import crates_of, from_the_lowest, is_library, listed_crates  # noqa: E402
 from clauses.items import Export, Unreadable, read_source  # noqa: E402
 from clauses.page import FILE, contracts_page, first_sentence  # noqa: E402
 
@@ -106,6 +107,24 @@ def page_fault():
     return fault and f"{fault}; `tools/contracts` makes it anew"
 
 
+def rows_fault():
+    """Returns the crates that have no row, or more than one, in the table of docs/LAYERS.md, or nothing."""
+    page = (TOP / "docs" / "LAYERS.md").read_text(encoding="utf-8").partition("\n## Crate by crate\n")[2]
+    first_cells = [it.split("|")[1] for it in page.splitlines() if it.startswith("|")]
+    named = [name for cell in first_cells for name in cell.replace("`", " ").replace(",", " ").split()]
+    crates = [it.name for it in listed_crates()]
+    strange = [it for it in crates if named.count(it) != 1] + [it for it in named[2:] if it not in crates]
+    return f"these crates have no row, or a row has no such crate: {', '.join(strange)}" if strange else None
+
+
+def heads_fault():
+    """Returns the libraries whose head has no paragraph after its first one, or nothing."""
+    crates = listed_crates()
+    heads = {it.name: read_source(it.root.read_text(encoding="utf-8")).head for it in crates if is_library(it, crates)}
+    bare = [name for name, head in heads.items() if len(head.partition("\n\n")[2].split()) < 20]
+    return f"these have no paragraph at their heads: {', '.join(bare)}" if bare else None
+
+
 def calls_fault():
     """Returns how the calls of a source are read otherwise than wanted, or nothing."""
     read = read_source(SOURCE)
@@ -172,6 +191,8 @@ def copied_fault():
 def trials(program):
     """Yields the trials, each a name and a call that returns what differs, or nothing; the program isn't asked."""
     yield "docs/CONTRACTS.md", page_fault
+    yield "rows of docs/LAYERS.md", rows_fault
+    yield "heads of libraries", heads_fault
     yield "the calls of a source", calls_fault
     yield "the types of a source", types_fault
     yield "first sentences", sentence_fault

@@ -21,6 +21,7 @@ from doc_pages import blocks_and_prose, pages, spans, without_spans  # noqa: E40
 # Words in backticks that no file has, each with the reason why it may stand there.
 EXPLAINED = {
     ".vscode/tasks.json": "a file of the reader's own",
+    "TASK_instance_": "a signal whose name is put together, of a task, `_instance` and as many `_` as it needs",
     "UnusedLet": "a warning whose name is put together, of `Unused` and the kind of the line",
     "UnusedRead": "as `UnusedLet`",
     "UnusedSense": "as `UnusedLet`",
@@ -75,7 +76,8 @@ def known_words():
 @lru_cache(maxsize=None)
 def known_files():
     """Returns the names of all files and folders of the repository, as paths from its top."""
-    names = subprocess.run(["git", "ls-files", "-z"], cwd=TOP, capture_output=True, check=False).stdout.decode()
+    listing = ["git", "ls-files", "-z", "--cached", "--others", "--exclude-standard"]
+    names = subprocess.run(listing, cwd=TOP, capture_output=True, check=False).stdout.decode()
     files = [it for it in names.split("\0") if it] or [it.relative_to(TOP).as_posix() for it in files_of("**/*")]
     folders = {parent.as_posix() for it in files for parent in Path(it).parents}
     return {*files, *folders, *(it.name for it in map(Path, files))}
