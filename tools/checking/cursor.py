@@ -41,7 +41,8 @@ class Cursor:
 
     def says(self, *texts):
         """Whether the next token is one of these words and symbols."""
-        return self.here is not None and self.here.says(*texts)
+        here = self.here
+        return here is not None and here.says(*texts)
 
     def takes(self, *texts):
         """Takes one of these words and symbols, if it comes next."""

@@ -1,16 +1,54 @@
-"""Warnings of a simulation: the release that overruns, and the first instance that ends after its deadline."""
+"""Warnings of a simulation: the release that overruns, and the first instance that ends after its deadline.
+
+The program simulates a document, unless its periods and costs show that no release can come too early.
+"""
 
 import re
+from fractions import Fraction
 
 from canonical import read_document
 from checking.messages import Note, warning
+from checking.occurrences import times_of_events
+from checking.ranks import ranks_of
 from ending import Status
 from pictures.asking import cut_text
 from pictures.record import Disagreement, agreed_steps
 from pictures.service import End, is_late, serve
 from program import read_as_answer
 
+MOST_ROUNDS = 1000
+NEVER = 10**20  # the period of a task that occurs once, or not at all
 OVERRUN_LINE = re.compile(rb"overrun: (\w+) ([0-9]+) at ([0-9]+)\n")
+
+
+def is_surely_in_time(document):
+    """Whether no release can meet an unfinished instance, as long as two of a task are as far apart as they are."""
+    tasks, events = ranks_of(document), times_of_events(document)
+    costs = [(task.head.number("cost"), least_period(task, events)) for task in tasks]
+    if document.policy == "fp":
+        return all(ends_in_period(costs[:place], *own) for place, own in enumerate(costs))
+    lengths = [task.head.number("deadline") for task in tasks]
+    is_short = all(length <= period for length, (_, period) in zip(lengths, costs))
+    return is_short and sum(Fraction(cost, length) for length, (cost, _) in zip(lengths, costs)) <= 1
+
+
+def least_period(task, events):
+    """Returns how far apart two releases of a task are at least."""
+    if task.head.source is None:
+        return task.head.number("every")
+    times = events.get(task.head.source.text, ())
+    return min((after - before for before, after in zip(times, times[1:])), default=NEVER)
+
+
+def ends_in_period(higher, cost, period):
+    """Whether a task ends within its period if all tasks ranked above are released with it, which is the worst case."""
+    time, needed = 0, cost
+    for _ in range(MOST_ROUNDS):
+        if needed > period or needed == time:
+            break
+        time = needed
+        needed = cost + sum(-(-time // other) * own for own, other in higher)
+    return needed == time and time <= period
 
 
 def overrun_warnings(document, ran):
