@@ -14,7 +14,6 @@ from ending import Status
 from pictures.asking import cut_text
 from pictures.record import Disagreement, agreed_steps
 from pictures.service import End, is_late, serve
-from program import read_as_answer
 
 MOST_ROUNDS = 1000
 NEVER = 10**20  # the period of a task that occurs once, or not at all
@@ -70,9 +69,8 @@ def late_warnings(run, text, document):
     if not any("deadline" in task.head.numbers for task in document.tasks) or is_surely_in_time(document):
         return
     form = run(["form"], text)
-    with read_as_answer("the program"):
-        canonical = read_document(form.stdout)
-        late = first_late(canonical)
+    canonical = read_document(form.stdout)
+    late = first_late(canonical)
     if late and is_recorded(run, cut_text(form.stdout, canonical, late.time)):
         head = document.tasks[late.instance.task].head
         deadline, release = head.number("deadline"), late.instance.release
