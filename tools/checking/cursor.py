@@ -96,6 +96,8 @@ class Cursor:
             more = about(self.tokens, self.at)
             if more:
                 return more
+        if self.here.says(",") and wanted == "`=`":
+            return "each name has a line of its own"
         if self.here.kind is Kind.WORD and "name" in wanted:
             return f"`{self.here.text}` is a reserved word, and no name"
         if "line's end" in wanted and self.here.kind is Kind.WORD and self.here.text in FORMS:

@@ -1,7 +1,7 @@
 """Expressions: which names they use, and where they leave their form."""
 
 from checking.cursor import LeavesForm
-from checking.foreign import CALLS, WORDS, about_word, in_lower_case
+from checking.foreign import CALLS, OF_IF, WORDS, about_word, in_lower_case
 from checking.language import FORMS, RESERVED
 from checking.tokens import Kind, spelled
 
@@ -133,6 +133,8 @@ def about_rest(cursor):
         return in_lower_case(before, RESERVED)
     if here.says("="):
         return "equal is `==`"
+    if here.says("if"):
+        return OF_IF
     if here.says(")"):
         return "no parenthesis is open"
     if here.says("(") and before.kind is Kind.NAME:

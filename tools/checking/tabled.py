@@ -13,7 +13,7 @@ from checking.timing import is_surely_in_time, overrun_warnings
 from checking.tokens import Kind
 from checking.trees import expression_of, tree_of
 from ending import Status
-from program import read_as_answer, table_lines
+from program import table_lines
 
 ENDS = {str(LEAST_VALUE): LEAST_VALUE, str(GREATEST_VALUE): GREATEST_VALUE}
 START_OF_ENDS = str(GREATEST_VALUE)[:-1]
@@ -23,13 +23,7 @@ MOST_NAMES = 32  # an expression with 64 nodes has this many names, and a `min` 
 
 
 def table_warnings(run, text, document):
-    """Returns the warnings of a document's table, and of its simulation, which gives the same table or an overrun."""
-    with read_as_answer("the program"):
-        return list(warnings_in_table(run, text, document))
-
-
-def warnings_in_table(run, text, document):
-    """Yields those warnings."""
+    """Yields the warnings of a document's table, and of its simulation, which gives the same table or an overrun."""
     bounded = bounded_names(document)
     asked = [column for task in document.tasks for column in joined_columns(task, bounded)]
     columns, left = columns_of_copy(document, asked, keeps_all=True)
