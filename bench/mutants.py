@@ -154,7 +154,7 @@ def interrupted(program, draw, tool, words):
 
     Until a script has begun, Python itself says what stopped it; that isn't the tool's.
     """
-    command = [sys.executable, TOP / "tools" / tool, "--program", program, *words]
+    command = [sys.executable, "-S", TOP / "tools" / tool, "--program", program, *words]
     started = subprocess.Popen(command, cwd=TOP, stdout=subprocess.DEVNULL, stderr=subprocess.PIPE)
     time.sleep(draw.uniform(0, 0.4))
     started.send_signal(draw.choice((signal.SIGINT, signal.SIGTERM, signal.SIGHUP)))

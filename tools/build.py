@@ -1,4 +1,4 @@
-#!/usr/bin/env python3
+#!/usr/bin/env -S python3 -S
 """Proves the crates that the program dbp is made of side by side, and builds the program.
 
 The launcher ./dbp calls it, one call at a time. One `rt` at a time may work in a crate and in all crates below it, so

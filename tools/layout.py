@@ -144,7 +144,8 @@ def format_files(words):
     """Lays out the files that the words name, one after another."""
     parser = Parser(prog="format", description=ABOUT, formatter_class=RawDescriptionHelpFormatter)
     parser.add_argument("files", nargs="+", metavar="FILE", help="a document; `-` is standard input")
-    parser.add_argument("--check", action="store_true", help="write nothing, and end with 1 if a document isn't laid out")
+    about_check = "write nothing, and end with 1 if a document isn't laid out"
+    parser.add_argument("--check", action="store_true", help=about_check)
     add_program_option(parser)
     options = parser.parse_args(words)
     return status_of_all([status_of_file(options, name) for name in options.files])

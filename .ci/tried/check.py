@@ -78,6 +78,18 @@ def all_cases(program):
     return all_of(program, cases)
 
 
+def other_documents(program):
+    """Returns the documents of the docs, and those of .ci/tried, that differ from what the program prints, or nothing."""
+    texts = {}
+    for page in sorted([*TOP.glob("*.md"), *(TOP / "docs").glob("*.md")]):
+        for place, text in enumerate(re.findall(r"```\n(dbp 1\n.*?)```", page.read_text(), re.DOTALL), 1):
+            texts[f"{page.name}, document {place}"] = text.encode()
+    for file in sorted([*(TOP / ".ci").rglob("*.dbp"), *(TOP / "docs").rglob("*.dbp")]):
+        texts[file.relative_to(TOP)] = file.read_bytes()
+    words = [["plan"], ["replay"]]
+    return all_of(program, [(it, w, text, run_program(program, w, text).stdout) for it, text in texts.items() for w in words])
+
+
 def made_cases(program):
     """Returns the refused documents of .ci/made that differ, or nothing; those that are large are left out."""
     cases = {}
@@ -155,6 +167,7 @@ def trials(program):
     """Yields the trials of the tool, each a name and a call that returns what differs, or nothing."""
     yield "all cases", partial(all_cases, program)
     yield "cases that are made", partial(made_cases, program)
+    yield "other documents", partial(other_documents, program)
     for document in sorted(WRITTEN.glob("*.dbp")):
         yield f"the text of {document.stem}", partial(written, program, document)
     for name in WITH_JSON:

@@ -147,7 +147,8 @@ def written_fault(program, tool, words):
         ran = subprocess.run(command, cwd=TOP, capture_output=True, check=False)
         if ran.returncode or ran.stdout or ran.stderr or not printed or out.read_bytes() != printed:
             return f"the status is {ran.returncode}; it said {ran.stderr[-300:]!r}"
-        is_kept = other.is_symlink() and out.stat().st_mode & 0o777 == 0o640 and len(list(Path(place).iterdir())) == 2
+        left = {it.name for it in Path(place).iterdir() if it.suffix != ".gtkw"}
+        is_kept = other.is_symlink() and out.stat().st_mode & 0o777 == 0o640 and left == {out.name, other.name}
         return None if is_kept else f"the folder has {sorted(Path(place).iterdir())}"
 
 

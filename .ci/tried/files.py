@@ -88,22 +88,33 @@ def dash_fault(program, tool):
         return without or fault_of(run_tool(program, tool, ["--", "-a.dbp"], cwd=place), laid_out)
 
 
-def unread_fault(program, tool):
-    """Returns how a tool ends with a file that it may not read. Who may read all files runs it as nobody."""
+def is_for_all(file):
+    """Whether everybody may run a file, and reach it and the tools."""
+    return all(it.stat().st_mode & 1 for it in (file, *file.parents, TOP, *TOP.parents))
+
+
+def right_fault(program, tool, words, file_right, folder_right, status):
+    """Returns how a tool ends with a file and a folder of these rights, and what it makes of the file. Who may do
+    anything runs it as nobody, by the Python of the system, if nobody may run that and the program."""
     is_root = os.geteuid() == 0
     python = "/usr/bin/python3" if is_root else sys.executable
-    if not os.access(python, os.X_OK):
+    if not os.access(python, os.X_OK) or is_root and not is_for_all(Path(program).resolve()):
         return None
     with tempfile.TemporaryDirectory() as place:
-        os.chmod(place, 0o755)
         file = Path(place) / "a.dbp"
         file.write_bytes(EXAMPLE)
-        file.chmod(0)
-        command = [python, "-B", TOP / "tools" / tool[0], *tool[1:], "--program", program, file]
+        file.chmod(file_right)
+        os.chmod(place, folder_right)
+        command = [python, "-B", TOP / "tools" / tool[0], *tool[1:], "--program", program, *words, "a.dbp"]
         who = {"user": NOBODY, "group": NOBODY, "extra_groups": []} if is_root else {}
-        ran = subprocess.run(command, stdin=subprocess.DEVNULL, capture_output=True, timeout=60, check=False, **who)
-    fault = fault_of(ran, 4)
-    return fault or (None if b"Permission denied" in ran.stderr else f"it said {ran.stderr[-300:]!r}")
+        how = {"cwd": place, "stdin": subprocess.DEVNULL, "capture_output": True, "timeout": 60, **who}
+        ran = subprocess.run(command, check=False, **how)
+        os.chmod(place, 0o700)
+        file.chmod(0o600)
+        left = {it.name: it.read_bytes() for it in Path(place).iterdir()}
+    if left != {"a.dbp": EXAMPLE}:
+        return f"the folder has {left}"
+    return fault_of(ran, status) or (None if b"Permission denied" in ran.stderr else f"it said {ran.stderr[-300:]!r}")
 
 
 def many_fault(program):
@@ -123,5 +134,11 @@ def trials(program):
         for name in NAMES:
             yield f"{called}: the name {name[:40]}", partial(name_fault, program, tool, name)
         yield f"{called}: a dash before a name", partial(dash_fault, program, tool)
-        yield f"{called}: no permission", partial(unread_fault, program, tool)
+        yield f"{called}: a file that can't be read", partial(right_fault, program, tool, [], 0, 0o755, 4)
+    for tool in (["timeline"], ["diagram"], ["waves"]):
+        out = ["-o", "out"]
+        yield f"{tool[0]}: a folder for reading alone", partial(right_fault, program, tool, out, 0o444, 0o555, 5)
+    for right, folder in ((0o444, 0o777), (0o666, 0o555)):
+        name = f"format: the rights {right:o} in {folder:o}"
+        yield name, partial(right_fault, program, ["format"], [], right, folder, 5)
     yield "check: several files", partial(many_fault, program)

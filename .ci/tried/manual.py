@@ -1,10 +1,12 @@
-"""The manual page docs/dbp.1: its commands are those that the program lists, its statuses those of README.md, and its
-examples run. What lays it out says nothing; a program for that is skipped if it isn't on the machine."""
+"""The manual page docs/dbp.1: its commands are those that the program lists, its statuses those of README.md, its version
+and date the latest of CHANGELOG.md, and its examples run. What lays it out says nothing; a program for that is skipped if
+it isn't on the machine."""
 
 import os
 import re
 import shutil
 import subprocess
+from datetime import datetime
 from functools import partial
 from pathlib import Path
 
@@ -45,6 +47,17 @@ def fault_of_statuses():
     return None if found == wanted else f"the page has {found}, README.md has {wanted}"
 
 
+def fault_of_version():
+    """Returns how the version and the date of the page differ from the latest of CHANGELOG.md."""
+    page = PAGE.read_text()
+    latest = re.search(r"(?m)^## (\S+), (\d+-\d\d-\d\d)$", (TOP / "CHANGELOG.md").read_text())
+    date, version = re.search(r"(?m)^\.Dd (.*)$", page), re.search(r"(?m)^\.Os dbp (\S+)$", page)
+    if not (latest and date and version):
+        return "a version or a date is missing"
+    found = (version[1], datetime.strptime(date[1], "%B %d, %Y").strftime("%Y-%m-%d"))
+    return None if found == latest.groups() else f"the page has {found}, CHANGELOG.md has {latest.groups()}"
+
+
 def fault_of_layout(command):
     """Returns what a program says that lays the page out."""
     if not shutil.which(command[0]):
@@ -64,6 +77,7 @@ def trials(program):
     """Yields the trials of the page, each a name and a call that returns what differs, or None."""
     yield "commands", partial(fault_of_commands, program)
     yield "statuses", fault_of_statuses
+    yield "version", fault_of_version
     for command in LAID_OUT:
         yield command[0], partial(fault_of_layout, command)
     for line in re.findall(r"(?m)^\.Dl (.*)$", PAGE.read_text()):

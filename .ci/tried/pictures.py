@@ -8,6 +8,8 @@ import re
 import subprocess
 import sys
 import tempfile
+import time
+from collections import Counter
 from pathlib import Path
 from xml.etree import ElementTree
 
@@ -15,7 +17,7 @@ TOP = Path(__file__).resolve().parent.parent.parent
 WANTED = Path(__file__).resolve().parent / "pictures"
 sys.path.insert(0, str(TOP / "tools"))
 
-from pictures import asking, commands, diagram, dot, gallery, record, slot_rows, styles, svg, timeline  # noqa: E402
+from pictures import asking, commands, courses, diagram, dot, gallery, record, slot_rows, styles, svg, timeline  # noqa: E402
 
 EXACT = {
     "modes.timeline.svg": (commands.timeline, "examples/modes.dbp"),
@@ -25,6 +27,9 @@ EXACT = {
     "two_late.svg": (commands.timeline, "cases/sim/documents/two_late_at_one_time.dbp"),
     "speed_control.diagram.svg": (commands.diagram, "examples/speed_control.dbp"),
     "logger.dot": (commands.diagram, "examples/logger.dbp", "--dot"),
+    "modes.tasks.svg": (commands.timeline, "examples/modes.dbp", "--tasks", "pump,started"),
+    "modes.tasks.diagram.svg": (commands.diagram, "examples/modes.dbp", "--tasks", "pump,started"),
+    "modes.tasks.dot": (commands.diagram, "examples/modes.dbp", "--dot", "--tasks", "pump,started"),
 }
 
 STATUSES = {
@@ -34,7 +39,11 @@ STATUSES = {
     "no document": (2, ["timeline"], b"usage"),
     "another word": (2, ["diagram", "examples/logger.dbp", "--slots", "monitor"], b"usage"),
     "ticks in the wrong order": (2, ["timeline", "examples/logger.dbp", "--from", "5", "--to", "5"], b"--to"),
+    "a tick of 400 digits": (2, ["timeline", "examples/logger.dbp", "--to", "9" * 400], b"is no tick"),
+    "ticks after all": (0, ["timeline", "examples/logger.dbp", "--from", "1000000000", "--to", "999999999999"], b""),
     "a tick below 0": (2, ["timeline", "examples/logger.dbp", "--from=-1"], b"-1 is no tick"),
+    "tasks of which one isn't there": (2, ["diagram", "examples/logger.dbp", "--tasks", "doors,nobody"], b"no task nobody"),
+    "slots and tasks": (2, ["timeline", "examples/logger.dbp", "--slots", "doors", "--tasks", "monitor"], b"usage"),
     "slots of no task": (2, ["timeline", "examples/logger.dbp", "--slots", "nobody"], b"no task nobody"),
     "no such file": (4, ["timeline", "examples/none.dbp"], b"none.dbp"),
     "a picture that can't be written": (5, ["diagram", "examples/logger.dbp", "-o", "examples/none/x.svg"], b"none"),
@@ -60,7 +69,7 @@ LATE = {
     "examples/sim/mended.dbp": (0, b"ends at"),
 }
 
-MOST_ROWS = 50_000
+MOST_ROWS, MOST_SECONDS = 50_000, 12
 
 RULES = "".join([*styles.STYLES, *styles.BOX_STYLES])
 SIZES = {name: int(size) for name, size in re.findall(r"\.([a-z-]+)\{font-size:(\d+)px", RULES)}
@@ -166,15 +175,40 @@ def overlap(picture):
     return None
 
 
-def heard_fault(program, form, lines):
-    """Returns how the computed orders differ from what tasks hear when the program replays the record."""
+def values_of(found):
+    """Returns the values that pictures tell of reads, by the task, the read, and the number of the instance."""
+    values = {}
+    for claim in courses.claims_of(found, courses.courses_of(found)):
+        it = claim.reader.instance
+        for place in (place for places in claim.reads.values() for place in places):
+            read = found.document.tasks[it.task].reads[place]
+            key = found.document.tasks[it.task].name, read.name, it.number
+            values[key] = found.value(claim.writer, claim.row, read.port)
+    return values
+
+
+def taken_fault(found, replayed):
+    """Returns how the values that pictures tell differ from those that reads take when the program replays the record."""
+    counts, values = Counter(), {}
+    for line in replayed:
+        step, _, heard = line.partition(" -> ")
+        if step.startswith("take "):
+            counts[step] += 1
+            values[(*step.split()[1:], counts[step])] = int(heard)
+    told = values_of(found)
+    return None if told == values else f"told is {set(told.items()) - set(values.items())}, and {values} is taken"
+
+
+def heard_fault(program, found, form, lines):
+    """Returns how the computed orders and values differ from what tasks hear when the program replays the record."""
     document = asking.read_document(form)
     steps = record.steps_of(document, asking.serve(document).events)
     wanted = [f"{it.line} -> slot {it.order.slot} number {it.order.row}" for it in steps if it.line.startswith("hear ")]
     kept = form.decode().split("\n")[: -2 - (0 if document.script is None else 1 + len(document.script))]
     script = "\n".join([*kept, "script", *lines, "done", ""]).encode()
     heard = asking.answer(program, ["replay", "--ranked"], script).decode().splitlines()
-    return difference("\n".join(it for it in heard if it.startswith("hear ")), "\n".join(wanted))
+    orders = difference("\n".join(it for it in heard if it.startswith("hear ")), "\n".join(wanted))
+    return orders or taken_fault(found, heard)
 
 
 def drawn_fault(program, text):
@@ -188,15 +222,27 @@ def drawn_fault(program, text):
     document = found.document
     pictures = [timeline.draw_timeline(found, "document", (None, None))[0], diagram.draw_diagram(document, "document")]
     pictures += [slot_rows.draw_slots(found, "document", (None, None), task.name)[0] for task in document.tasks[:2]]
+    for tasks in ([0], [len(document.tasks) - 1, 0]) if document.tasks else ():
+        pictures.append(timeline.draw_timeline(found, "document", (None, None), None, sorted(set(tasks)))[0])
     dot.dot_text(document, "document")
     form, _ = asking.canonical_text(program, text)
     lines, overrun = asking.record_of(program, form)
-    return next(filter(None, map(overlap, pictures)), None) or (None if overrun else heard_fault(program, form, lines))
+    return next(filter(None, map(overlap, pictures)), None) or (None if overrun else heard_fault(program, found, form, lines))
 
 
 def documents():
     """Returns the documents whose pictures are tried."""
     return sorted([*(TOP / "examples").rglob("*.dbp"), *(TOP / "cases" / "sim").rglob("*.dbp")])
+
+
+def narrow_fault(program):
+    """Returns what is wrong with a timeline of many instances: it isn't wide, and bars without a number tell theirs."""
+    text = b"dbp 1\npolicy fp\nuntil 1000\ntask a every 1 prio 1 cost 1\n  out y = 0 then 1\ndone\n"
+    picture, _ = timeline.draw_timeline(asking.simulated(program, text), "document", (0, 1000))
+    width = float(re.search(r'<svg [^>]*width="([0-9.]+)"', picture)[1])
+    if width > 1800 or 'class="number"' in picture:
+        return f"the width is {width}"
+    return None if "<title>a 1000 is served from 999 to 1000</title>" in picture else "instance 1000 is told nowhere"
 
 
 def long_text(first):
@@ -208,15 +254,14 @@ def long_text(first):
 
 
 def long_fault(program, first):
-    """Returns how the timeline of a long document that overruns differs. With work that is no multiple of its length it
-    takes minutes."""
-    overrun = f"overrun: a {first + 1} at {2 * first - 1}".encode()
-    words = [sys.executable, "tools/timeline", "--program", str(program), "-"]
-    try:
-        ran = subprocess.run(words, cwd=TOP, input=long_text(first), capture_output=True, timeout=30, check=False)
-    except subprocess.TimeoutExpired:
-        return "it hadn't ended after 30 seconds"
-    return None if ran.returncode == 0 and overrun in ran.stdout else f"the status is {ran.returncode}: {ran.stderr[-200:]!r}"
+    """Returns how the timeline of a long document that overruns differs, or how long it took beside the program. With
+    work that is no multiple of the document's length it takes minutes."""
+    start = time.thread_time()
+    picture, _ = timeline.draw_timeline(asking.simulated(program, long_text(first)), "document", (None, None))
+    seconds = time.thread_time() - start
+    if f"overrun: a {first + 1} at {2 * first - 1}" not in picture:
+        return "the overrun isn't told"
+    return None if seconds < MOST_SECONDS else f"it took {seconds:.1f} seconds of a processor"
 
 
 def trials(program):
@@ -230,6 +275,7 @@ def trials(program):
     for name, wanted in TAMPERED.items():
         yield f"a record with {name}", lambda it=wanted: tampered_fault(program, *it)
     yield "status of a record that differs", lambda: refused_record_fault(program)
+    yield "many instances", lambda: narrow_fault(program)
     for first in (1, MOST_ROWS - 1):
         yield f"50,000 rows that overrun at row {first}", lambda it=first: long_fault(program, it)
     for picture in gallery.PICTURES:

@@ -41,7 +41,8 @@ class Cursor:
 
     def says(self, *texts):
         """Whether the next token is one of these words and symbols."""
-        return self.here is not None and self.here.says(*texts)
+        here = self.here
+        return here is not None and here.says(*texts)
 
     def takes(self, *texts):
         """Takes one of these words and symbols, if it comes next."""
@@ -95,6 +96,8 @@ class Cursor:
             more = about(self.tokens, self.at)
             if more:
                 return more
+        if self.here.says(",") and wanted == "`=`":
+            return "each name has a line of its own"
         if self.here.kind is Kind.WORD and "name" in wanted:
             return f"`{self.here.text}` is a reserved word, and no name"
         if "line's end" in wanted and self.here.kind is Kind.WORD and self.here.text in FORMS:

@@ -1,7 +1,7 @@
 """Expressions: which names they use, and where they leave their form."""
 
 from checking.cursor import LeavesForm
-from checking.foreign import CALLS, WORDS, about_word, in_lower_case
+from checking.foreign import CALLS, OF_IF, WORDS, about_word, in_lower_case
 from checking.language import FORMS, RESERVED
 from checking.tokens import Kind, spelled
 
@@ -9,6 +9,7 @@ OPERAND = "an expression (a number, a name, `(`, `-`, `not`, `min`, `max`)"
 COMPARISONS = ("==", "!=", "<", "<=", ">", ">=")
 # From the loosest to the tightest.
 LEVELS = (("or",), ("and",), COMPARISONS, ("+", "-"), ("*", "/", "%"))
+LEVEL_OF = {text: depth for depth, texts in enumerate(LEVELS) for text in texts}
 
 
 def expression(cursor, names):
@@ -23,36 +24,31 @@ def expression(cursor, names):
     expression(cursor, names)
 
 
-def level(cursor, names, depth):
-    """Takes operands with the operators of a level and of those that bind tighter."""
-    if depth == len(LEVELS):
-        operand(cursor, names)
-        return
-    if LEVELS[depth] is COMPARISONS:
-        comparison(cursor, names, depth)
-        return
-    level(cursor, names, depth + 1)
-    while cursor.takes(*LEVELS[depth]):
-        level(cursor, names, depth + 1)
-
-
-def comparison(cursor, names, depth):
-    """Takes an operand, or a comparison of two; a third one leaves the form."""
+def level(cursor, names, least):
+    """Takes operands with the operators between them that are of a level or bind tighter."""
     start = cursor.at
-    level(cursor, names, depth + 1)
-    if cursor.takes(*COMPARISONS):
-        middle = cursor.at
+    operand(cursor, names)
+    while level_of(cursor.here) >= least:
+        depth, middle = level_of(cursor.here), cursor.at + 1
+        cursor.at = middle
         level(cursor, names, depth + 1)
-        if cursor.says(*COMPARISONS):
-            cursor.leave("another operator", about_chain(cursor, start, middle, depth))
+        if LEVELS[depth] is COMPARISONS and cursor.says(*COMPARISONS):
+            cursor.leave("another operator", about_chain(cursor, start, middle))
 
 
-def about_chain(cursor, start, middle, depth):
+def level_of(token):
+    """Returns the level of an operator between two operands, or -1 for what is none."""
+    if token is None or token.kind not in (Kind.SYMBOL, Kind.WORD):
+        return -1
+    return LEVEL_OF.get(token.text, -1)
+
+
+def about_chain(cursor, start, middle):
     """Returns how two comparisons in a row are written; the first one's operands begin at two places of the tokens."""
     last = cursor.at
     cursor.at += 1
     try:
-        level(cursor, [], depth + 1)
+        level(cursor, [], level_of(cursor.tokens[last]) + 1)
         chain = f"`{spelled(cursor.tokens[start:last])} and {spelled(cursor.tokens[middle : cursor.at])}`"
     except LeavesForm:
         chain = "`A < B and B < C`"
@@ -137,6 +133,8 @@ def about_rest(cursor):
         return in_lower_case(before, RESERVED)
     if here.says("="):
         return "equal is `==`"
+    if here.says("if"):
+        return OF_IF
     if here.says(")"):
         return "no parenthesis is open"
     if here.says("(") and before.kind is Kind.NAME:

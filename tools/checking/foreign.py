@@ -99,6 +99,20 @@ LINE_WORDS = {
     **dict.fromkeys(("function", "fn", "proc", "sub"), "there are no functions: a `let` names a value"),
     **dict.fromkeys(("import", "include", "use"), "a document stands alone"),
 }
+# Words of others for those that stand in lines here.
+MEANT = {
+    "period": "every",
+    "offset": "from",
+    "phase": "from",
+    "delay": "from",
+    "priority": "prio",
+    "wcet": "cost",
+    "budget": "cost",
+    "rm": "fp",
+    "rms": "fp",
+    "dm": "fp",
+    "dms": "fp",
+}
 GOING_ON = frozenset("then else and or + - * / % == != < <= > >= ( ) ,".split())
 
 NUMBER_BASES = {"x": 16, "b": 2, "o": 8}
@@ -173,7 +187,8 @@ def about_word(token, words):
     """Returns which of the words that may stand at a place a token may be meant for, or nothing."""
     if token.kind is not Kind.NAME or in_lower_case(token, words):
         return in_lower_case(token, words)
-    meant = nearest(token.text, words)
+    meant = MEANT.get(token.text.lower())
+    meant = meant if meant in words else nearest(token.text, words)
     return f"did you mean `{meant}`?" if meant else None
 
 

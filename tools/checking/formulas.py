@@ -4,11 +4,12 @@ from checking.expressions import COMPARISONS
 from checking.messages import warning_over
 from checking.tokens import Kind, spelled
 from checking.trees import tree_of
-from program import read_as_answer, table_lines
+from program import table_lines
 
 TRUTHS = (*COMPARISONS, "and", "or", "not")
 DIVISIONS = ("/", "%")
 ASKED = 8 * 32  # expressions that one document can ask: the outs of a task times the tasks
+MOST_ASKED = 4 * ASKED
 
 
 def formula_warnings(run, document):
@@ -21,10 +22,27 @@ def formula_warnings(run, document):
 
 
 def is_asked(statement):
-    """Whether an expression may have a part that is warned of: a division, or a comparison beside another truth."""
-    texts = [token.text for token in statement.tokens]
-    truths = sum(text in TRUTHS for text in texts)
-    return "/" in texts or "%" in texts or truths > 1 and any(text in COMPARISONS for text in texts)
+    """Whether an expression may have a part that is warned of, by the tokens beside each operator."""
+    tokens = statement.tokens
+    has_not = any(token.text == "not" for token in tokens)
+    for before, token, after in zip(tokens, tokens[1:], tokens[2:]):
+        if token.text in DIVISIONS and may_be_constant(before, after):
+            return True
+        if token.text in COMPARISONS and (has_not or may_be_truth(before, after) or may_be_truth(after, before)):
+            return True
+    return False
+
+
+def may_be_constant(before, after):
+    """Whether a division between two tokens may be by 0, or of one constant by another."""
+    if after.kind is Kind.NUMBER:
+        return after.value == 0 or before.kind is not Kind.NAME
+    return after.kind is not Kind.NAME
+
+
+def may_be_truth(side, other):
+    """Whether a comparison may have a truth in parentheses on one side, and a number other than 0 and 1 on the other."""
+    return side.text in ("(", ")") and (other.text == "-" or other.kind is Kind.NUMBER and other.value not in (0, 1))
 
 
 def constants_of(part):
@@ -37,7 +55,7 @@ def constants_of(part):
 def values_of(run, constants):
     """Returns the values of constant parts by their texts; numbers are their own values, the program tells the others."""
     values = {key_of(it): it.head.value for it in constants if it.head.kind is Kind.NUMBER}
-    left = list(dict.fromkeys(key_of(it) for it in constants if key_of(it) not in values))
+    left = list(dict.fromkeys(key_of(it) for it in constants if key_of(it) not in values))[:MOST_ASKED]
     for first in range(0, len(left), ASKED):
         asked = left[first : first + ASKED]
         values.update(zip(asked, answers(run, asked)))
@@ -57,8 +75,7 @@ def answers(run, expressions):
             lines.append(f"task t{place} every 1 prio 0 cost 1")
         lines.append(f"out o{place} = 0 then {expression}")
     table = run(["mean"], "\n".join([*lines, "done", ""]).encode())
-    with read_as_answer("the program"):
-        return [int(value) for line in table_lines(table) for value in line.split(",")[3:]]
+    return [int(value) for line in table_lines(table) for value in line.split(",")[3:]]
 
 
 def divided(line, part, values):

@@ -3,19 +3,20 @@
 from checking.language import MOST_OCCURRENCES
 from checking.messages import error_at
 from checking.text import listed
-from checking.trace import row_of
+from checking.trace import number, row_of
 
 
 def times_of_events(document):
     """Returns the times at which each event occurs, by a trace without faults."""
-    rows = [row_of(line) for line in document.rows]
-    header = rows[0].cells if rows else ()
-    events = document.declared("event")
-    return {
-        column.text: [row.time for row in rows[1:] if row.cells[place].text == "1"]
-        for place, column in enumerate(header)
-        if place > 0 and column.text in events
-    }
+    events, header = document.declared("event"), row_of(document.rows[0]).cells if document.rows else ()
+    places = {place: column.text for place, column in enumerate(header) if place > 0 and column.text in events}
+    found = {name: [] for name in places.values()}
+    for line in document.rows[1:] if places else ():
+        cells = line.text.split(b",")
+        for place, name in places.items():
+            if cells[place].strip(b" \t") == b"1":
+                found[name].append(number(cells[0].strip(b" \t").decode()))
+    return found
 
 
 def occurrence_faults(document):

@@ -71,6 +71,8 @@ def with_value(cursor, statement):
     if cursor.here is None:
         cursor.leave("`=`", f"it has a first value, as `{statement.word} {statement.name.text} = 0`")
     cursor.word("=")
+    if cursor.here is not None and cursor.here.kind is Kind.NAME:
+        cursor.leave("a number", "the first value is one number, and no expression")
     statement.value = cursor.number("a number")
     if cursor.here is not None:
         more = cursor.advice("the line's end") or "the first value is one number, and no expression"
@@ -146,6 +148,8 @@ def read(cursor, statement):
         cursor.leave("`=`", f"the value has a name, as `read NAME = {statement.name.text}.OUT`")
     cursor.word("=")
     statement.is_delayed = bool(cursor.takes("pre"))
+    if statement.is_delayed and cursor.says("("):
+        cursor.leave("the name of a task", "`pre` has no parentheses, as in `pre TASK.OUT`")
     if statement.is_delayed and cursor.here is not None and cursor.here.kind is Kind.NUMBER:
         statement.numbers["pre"] = cursor.number("a number")
     statement.source = cursor.name("the name of a task" if statement.is_delayed else "`pre` or the name of a task")
@@ -180,6 +184,8 @@ def out(cursor, statement):
     """Takes a name, its first value and its expression."""
     statement.name = cursor.name("a name")
     cursor.word("=")
+    if cursor.here is not None and cursor.here.kind is Kind.NAME:
+        cursor.leave("the first value, a number,", f"as in `out {statement.name.text} = 0 then E`")
     statement.value = cursor.number("the first value, a number,")
     if not cursor.takes("then"):
         cursor.leave("`then`", cursor.advice("") or "the first value, before `then`, is one number")

@@ -4,39 +4,38 @@ States and lets stand in no table. So the table is that of a copy in which the g
 if one of these is an end, further copies tell which state or let it is.
 """
 
+from checking.bounds import bounded_names
 from checking.copies import Column, columns_of_copy, copy_of
 from checking.language import GREATEST_VALUE, LEAST_VALUE
 from checking.messages import warning
 from checking.occurrences import times_of_events
-from checking.timing import overrun_warnings
+from checking.timing import is_surely_in_time, overrun_warnings
 from checking.tokens import Kind
 from checking.trees import expression_of, tree_of
 from ending import Status
-from program import read_as_answer, table_lines
+from program import table_lines
 
 ENDS = {str(LEAST_VALUE): LEAST_VALUE, str(GREATEST_VALUE): GREATEST_VALUE}
 START_OF_ENDS = str(GREATEST_VALUE)[:-1]
 ARITHMETIC = ("+", "-", "*", "/")
+MOST_COPIES = 4
 MOST_NAMES = 32  # an expression with 64 nodes has this many names, and a `min` or `max` between each two
 
 
 def table_warnings(run, text, document):
-    """Returns the warnings of a document's table and of its simulation, which gives the table if nothing overruns."""
-    with read_as_answer("the program"):
-        return list(warnings_in_table(run, text, document))
-
-
-def warnings_in_table(run, text, document):
-    """Yields those warnings."""
-    asked = [column for task in document.tasks for column in joined_columns(task)]
+    """Yields the warnings of a document's table, and of its simulation, which gives the same table or an overrun."""
+    bounded = bounded_names(document)
+    asked = [column for task in document.tasks for column in joined_columns(task, bounded)]
     columns, left = columns_of_copy(document, asked, keeps_all=True)
     copy = copy_of(document, columns)
-    simulated = run(["sim"], copy)
-    if simulated.status not in (Status.DONE, Status.OVERRUN):  # the copy may be too large
+    command = ["mean"] if is_surely_in_time(document) else ["sim"]
+    table = run(command, copy)
+    if table.status not in (Status.DONE, Status.OVERRUN):  # the copy may be too large
         columns, left = columns_of_copy(document, [], keeps_all=True)
-        copy, simulated = text, run(["sim"], text)
-    yield from overrun_warnings(document, simulated)
-    table = simulated if simulated.status == Status.DONE else run(["mean"], copy)
+        copy, table = text, run(command, text)
+    if table.status == Status.OVERRUN:
+        yield from overrun_warnings(document, table)
+        table = run(["mean"], copy)
     if table.status == Status.DONE:
         lines = table_lines(table)
         yield from never_occurs(document, lines)
@@ -46,9 +45,9 @@ def warnings_in_table(run, text, document):
         yield from ends_of_names(run, document, found)
 
 
-def joined_columns(task):
-    """Returns columns that have an end if a state or a let of a task has one: the greatest and the least of them."""
-    names = may_stop(task)
+def joined_columns(task, bounded):
+    """Yields columns that have an end if a state or a let of a task has one: the greatest and the least of them."""
+    names = [it for it in may_stop(task) if (task.name, it.name.text) not in bounded]
     for first in range(0, len(names), MOST_NAMES):
         part = tuple(names[first : first + MOST_NAMES])
         for word in ("max", "min") if len(part) > 1 else ("",):
@@ -88,9 +87,9 @@ def first_ends(columns, lines):
 
 
 def ends_in_copies(run, document, asked):
-    """Returns the first ends of columns, from as many copies as they need."""
+    """Returns the first ends of columns, from as many copies as they need, or from a few if they need many."""
     found = {}
-    while asked:
+    for _ in range(MOST_COPIES):
         columns, left = columns_of_copy(document, asked, keeps_all=False)
         if len(left) == len(asked):
             break

@@ -9,17 +9,17 @@ from checking.ranks import CODES, key_of
 from checking.tabled import table_warnings
 from checking.timing import late_warnings
 from checking.trace import row_of
+from program import read_as_answer
 
 VALUES = ("state", "sense", "read", "let")
 
 
 def warnings_of(run, text, document):
     """Returns the warnings of a document whose diagram and trace the program accepts."""
-    found = []
-    for warned_of in (trace_after_script, unused, kept_inputs, delayed_downward, equal_ranks, long_costs, load):
-        found += warned_of(document)
-    found += formula_warnings(run, document)
-    return [*found, *table_warnings(run, text, document), *late_warnings(run, text, document)]
+    with read_as_answer("the program"):
+        found = [it for warned_of in OF_DOCUMENT for it in warned_of(document)]
+        found += formula_warnings(run, document)
+        return [*found, *table_warnings(run, text, document), *late_warnings(run, text, document)]
 
 
 def trace_after_script(document):
@@ -145,3 +145,6 @@ def decimal(value):
     """Returns a fraction with three digits after the point, rounded up."""
     thousandths = -(-value.numerator * 1000 // value.denominator)
     return f"{thousandths // 1000}.{thousandths % 1000:03}"
+
+
+OF_DOCUMENT = (trace_after_script, unused, kept_inputs, delayed_downward, equal_ranks, long_costs, load)

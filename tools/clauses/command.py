@@ -13,12 +13,12 @@ page can't be written."""
 
 
 def main(words=None):
-    """Serves a call of the command with these words, and returns its status."""
-    return status_of("contracts", partial(run, words))
+    """Makes the page, and returns the exit status."""
+    return status_of("contracts", partial(make_page, words))
 
 
-def run(words):
-    """Makes the page."""
+def make_page(words):
+    """Makes the page; the words may only ask for help."""
     Parser("contracts", description=DESCRIPTION).parse_args(words)
     try:
         page = contracts_page()

@@ -17,6 +17,9 @@ from pictures.timeline import draw_timeline
 from program import add_program_option
 
 
+MOST_DIGITS = 12  # of a tick that is asked for; a document has 10 at most
+
+
 class NoTask(Exception):
     """A word of a command names no task of the document."""
 
@@ -36,7 +39,7 @@ def names(word):
 
 def tick(word):
     """Returns the tick that a word of a command names."""
-    if not (word.isascii() and word.isdigit()):
+    if not (word.isascii() and word.isdigit()) or len(word) > MOST_DIGITS:
         raise argparse.ArgumentTypeError(f"{word} is no tick")
     return int(word)
 

@@ -40,7 +40,7 @@ class Course:
 
 @dataclass(frozen=True)
 class Claim:
-    """A claim: the writer's row, 0 for its first values, and by the time the places of the reads that are made over it."""
+    """A claim: the writer's row, 0 for its first values, and by their times the places of the reads made over it."""
 
     writer: int
     row: int

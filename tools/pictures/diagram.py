@@ -18,11 +18,14 @@ PAD = 12
 
 
 def read_words(document, read):
-    """Returns how a read is named in its box: with its delay, with its tick of service if that isn't the first, and with
-    what it reads if that task isn't drawn."""
-    delay = ["pre"] * (read.delay > 0) + [str(read.delay)] * (read.delay > 1)
-    source = [] if has_task(document, read.writer) else [f"= {read.writer}.{read.port}"]
-    return " ".join([read.name, *source, *([f"({' '.join(delay)})"] if delay else []), *([f"at {read.at}"] if read.at else [])])
+    """Returns how a read is named in its box: with what it reads if that task isn't drawn, with its delay, and with its
+    tick of service if that isn't the first."""
+    parts = [read.name]
+    if not has_task(document, read.writer):
+        parts.append(f"= {read.writer}.{read.port}")
+    if read.delay:
+        parts.append(f"(pre {read.delay})" if read.delay > 1 else "(pre)")
+    return " ".join([*parts, *([f"at {read.at}"] if read.at else [])])
 
 
 def has_task(document, name):
@@ -64,7 +67,9 @@ def edges_of(document):
     names = [task.name for task in document.tasks]
     edges = []
     for target, task in enumerate(document.tasks):
-        for number, read in ((number, read) for number, read in enumerate(task.reads) if read.writer in names):
+        for number, read in enumerate(task.reads):
+            if read.writer not in names:
+                continue
             source = names.index(read.writer)
             port = [out.name for out in document.tasks[source].outs].index(read.port)
             stem = (source, port, read.delay > 0)

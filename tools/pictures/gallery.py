@@ -54,10 +54,8 @@ class Picture:
 
 
 PICTURES = (
-    Picture("examples/preempted.dbp", Kind.DIAGRAM),
     Picture("examples/preempted.dbp", Kind.TIMELINE),
     Picture("examples/two_rates.dbp", Kind.DIAGRAM),
-    Picture("examples/two_rates.dbp", Kind.TIMELINE),
     Picture("examples/cascade.dbp", Kind.DIAGRAM),
     Picture("examples/cascade.dbp", Kind.TIMELINE),
     Picture("examples/filter.dbp", Kind.DIAGRAM),
@@ -65,7 +63,14 @@ PICTURES = (
     Picture("examples/sim/late.dbp", Kind.TIMELINE),
     Picture("examples/sim/mended.dbp", Kind.TIMELINE),
     Picture("examples/feedback.dbp", Kind.DIAGRAM),
+    Picture("examples/feedback.dbp", Kind.TIMELINE),
     Picture("examples/feedback.dbp", Kind.SLOTS, (0, 10), "sensor"),
+    Picture("examples/tutorial/first_task.dbp", Kind.TIMELINE),
+    Picture("examples/tutorial/second_rate.dbp", Kind.TIMELINE),
+    Picture("examples/tutorial/link.dbp", Kind.TIMELINE),
+    Picture("examples/tutorial/delay.dbp", Kind.DIAGRAM),
+    Picture("examples/tutorial/trace.dbp", Kind.DIAGRAM),
+    Picture("examples/tutorial/overrun.dbp", Kind.TIMELINE),
     Picture("docs/pictures/served.dbp", Kind.TIMELINE),
     Picture("docs/pictures/kept.dbp", Kind.SLOTS, (0, 12), "sensor"),
 )
@@ -78,7 +83,7 @@ def main(words=None):
 
 def draw_all(words):
     """Draws all pictures with the program that the words name."""
-    parser = Parser("draw_pictures", description="Draws the pictures of README.md and docs/ into docs/pictures, each anew.")
+    parser = Parser("draw_pictures", description="Draws the pictures of README.md and docs/ anew, into docs/pictures.")
     add_program_option(parser)
     program = parser.parse_args(words).program
     for picture in PICTURES:

@@ -37,12 +37,12 @@ def draw_flag(canvas, mark, x, base, about=""):
     canvas.add(Layer.MARKS, "path", tip(about), d=data, cls=mark.value)
 
 
-def draw_read(canvas, x, y, about="", inside=None):
-    """Draws the mark of a read; inside is a dot if it gets first values, a bar if it gets the same as an arrow before."""
+def draw_read(canvas, x, y, about="", inside=()):
+    """Draws the mark of a read: with a dot for first values, with a bar for what an arrow before has brought."""
     canvas.add(Layer.MARKS, "circle", tip(about), cx=x, cy=y, r=3.4, cls=Mark.READ.value)
-    if inside is Mark.FIRST:
+    if Mark.FIRST in inside:
         canvas.add(Layer.MARKS, "circle", tip(about), cx=x, cy=y, r=1.7, cls=Mark.FIRST.value)
-    elif inside is Mark.AGAIN:
+    if Mark.AGAIN in inside:
         canvas.line(Layer.MARKS, x - 6, y, x + 6, y, Mark.AGAIN.value, about)
 
 
@@ -69,7 +69,7 @@ def sample_of(mark):
         left = 0 if mark is Mark.RELEASE else 8
         return lambda canvas, x, y: draw_flag(canvas, mark, x + left, y - 12), 8
     if mark in (Mark.READ, Mark.FIRST, Mark.AGAIN):
-        return lambda canvas, x, y: draw_read(canvas, x + 4, y, inside=mark), 8
+        return lambda canvas, x, y: draw_read(canvas, x + 4, y, inside={mark}), 8
     if mark is Mark.STEP:
         return lambda canvas, x, y: canvas.text(x, y + 4, "[3]", "label"), 20
     if mark in (Mark.END, Mark.LATE):

@@ -14,6 +14,7 @@ class Reads:
         self.timeline = timeline
         self.document = timeline.document
         self.task_name = task_name  # of the task whose reads and outs alone are drawn, or nothing
+        self.places = {}  # by its coordinates what is read at a place, and what its mark has inside
 
     def draw(self):
         """Draws the reads that are shown, those of one instance together."""
@@ -25,7 +26,9 @@ class Reads:
         for reads in found.values():
             reads.sort(key=lambda it: it[0])
             for number, (time, claim) in enumerate(reads):
-                self.draw_read(claim, time, is_again=number > 0 and len(reads) >= FAN)
+                self.take_read(claim, time, is_again=number > 0 and len(reads) >= FAN)
+        for (x, y), (abouts, inside) in self.places.items():
+            draw_read(self.timeline.canvas, x, y, "\n".join(abouts), inside)
 
     def is_asked(self, claim):
         """Whether the reads over a claim are to be drawn."""
@@ -33,8 +36,8 @@ class Reads:
         names = [self.document.tasks[at].name for at in (reader, claim.writer)]
         return reader in self.timeline.rows and self.task_name in (None, *names)
 
-    def draw_read(self, claim, time, is_again):
-        """Draws the reads over a claim at a time."""
+    def take_read(self, claim, time, is_again):
+        """Draws the arrow of the reads over a claim at a time, if they have one, and keeps their mark."""
         timeline = self.timeline
         is_below = timeline.row_of(claim.reader.instance.task) > timeline.row_of(claim.writer)
         x, y = timeline.scale.x(time), timeline.bar_of(claim.reader.instance.task)[0 if is_below else 1]
@@ -44,7 +47,9 @@ class Reads:
         timeline.used.add(inside or Mark.READ)
         if inside is None and has_writer:
             self.draw_arrow(claim, x, y, about)
-        draw_read(timeline.canvas, x, y, about, inside)
+        abouts, marks = self.places.setdefault((x, y), ([], set()))
+        abouts.append(about)
+        marks.add(inside)
 
     def about(self, claim, time):
         """Returns in words what is read over a claim, with the values."""

@@ -55,7 +55,8 @@ def options_of(words):
     tables = parser.add_mutually_exclusive_group()
     tables.add_argument("--wide", action="store_true", help="for csv: one table of all signals, by tick")
     tables.add_argument("--task", metavar="NAME", help="for csv: the table of this task alone")
-    parser.add_argument("-o", dest="out", metavar="OUT", help="the file; for csv without --wide and --task a folder for a table of each task")
+    about_out = "the file; for csv without --wide and --task a folder for a table of each task"
+    parser.add_argument("-o", dest="out", metavar="OUT", help=about_out)
     add_program_option(parser)
     options = parser.parse_args(words)
     is_one_table = options.wide or options.task is not None
