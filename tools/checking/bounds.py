@@ -14,7 +14,6 @@ from checking.trees import tree_of
 
 TRUTHS = (*COMPARISONS, "and", "or", "not")
 ROUNDS = 20  # after which a bound that still rises is none
-MOST_TOKENS = 4000  # of all lines whose trees are made
 
 
 @dataclass(frozen=True)
@@ -141,10 +140,7 @@ def bounds_of_inputs(document):
 
 
 def bounded_names(document):
-    """Returns the states and lets, by task and name, that can't come to an end of 64 bits; none of a large document."""
-    lines = [it for task in document.tasks for it in task.lines("let", "next", "out")]
-    if sum(len(it.tokens) for it in lines) > MOST_TOKENS:
-        return set()
+    """Returns the states and lets, by task and name, that can't come to an end of 64 bits."""
     bounds, found = Bounds(document), set()
     for task in document.tasks:
         values = Values(bounds, task)

@@ -34,6 +34,12 @@ def occurrence_faults(document):
     return [error_at(document.until.numbers["until"], document.until.line, 25, text)]
 
 
+def count_of_occurrences(document):
+    """Returns how often all tasks of a document occur together, which has no fault."""
+    end, events = document.until.number("until"), times_of_events(document)
+    return sum(occurrences(task, end, events) for task in document.tasks)
+
+
 def occurrences(task, end, events):
     """Returns how often a task occurs."""
     if task.head.source is not None:

@@ -8,7 +8,7 @@ from checking.bounds import bounded_names
 from checking.copies import Column, columns_of_copy, copy_of
 from checking.language import GREATEST_VALUE, LEAST_VALUE
 from checking.messages import warning
-from checking.occurrences import times_of_events
+from checking.occurrences import count_of_occurrences, times_of_events
 from checking.timing import is_surely_in_time, overrun_warnings
 from checking.tokens import Kind
 from checking.trees import expression_of, tree_of
@@ -18,14 +18,15 @@ from program import table_lines
 ENDS = {str(LEAST_VALUE): LEAST_VALUE, str(GREATEST_VALUE): GREATEST_VALUE}
 START_OF_ENDS = str(GREATEST_VALUE)[:-1]
 ARITHMETIC = ("+", "-", "*", "/")
+MOST_ASKED = 40_000  # tokens of all expressions
+QUICK = 4000  # tokens
 MOST_COPIES = 4
 MOST_NAMES = 32  # an expression with 64 nodes has this many names, and a `min` or `max` between each two
 
 
 def table_warnings(run, text, document):
     """Yields the warnings of a document's table, and of its simulation, which gives the same table or an overrun."""
-    bounded = bounded_names(document)
-    asked = [column for task in document.tasks for column in joined_columns(task, bounded)]
+    asked = asked_columns(document)
     columns, left = columns_of_copy(document, asked, keeps_all=True)
     copy = copy_of(document, columns)
     command = ["mean"] if is_surely_in_time(document) else ["sim"]
@@ -43,6 +44,19 @@ def table_warnings(run, text, document):
         yield from ends_of_outs(found)
         found.update(ends_in_copies(run, document, left))
         yield from ends_of_names(run, document, found)
+
+
+def asked_columns(document):
+    """Returns the columns that are asked for beside the outs; none of a very large document, whose copies take long.
+
+    Bounds are searched if that is quicker than what the program takes for more columns.
+    """
+    size = sum(len(it.tokens) for task in document.tasks for it in task.lines("let", "next", "out"))
+    if size > MOST_ASKED:
+        return []
+    is_quick = size <= max(QUICK, count_of_occurrences(document) // 5)
+    bounded = bounded_names(document) if is_quick else ()
+    return [column for task in document.tasks for column in joined_columns(task, bounded)]
 
 
 def joined_columns(task, bounded):
