@@ -1,9 +1,10 @@
 // Clocks that tick only while an input isn't 0: how often, and when.
 
-ghost use Rattle.std.specs.Prelude.{◌≡◌, ◌×◌, ℕ, ◌<◌, IfOk, [], ◌∷◌, length};
+ghost use Rattle.std.specs.Prelude.{◌≡◌, IfOk, [], ◌∷◌, length};
+ghost use Rattle.std.specs.List.Sorted.{IsNonDecreasingBy};
 ghost use Rattle.trace_io.specs.Counts.{IsClockOf, IsTimetable};
 
-use dbp_plan::{Clock, List, MAX_TIME, Plan, samples_by_input};
+use dbp_plan::{Clock, List, MAX_TIME, Plan, Sample, samples_by_input};
 use std::alloc::Global;
 use std::fmt::Write;
 use std::process::Abort;
@@ -30,19 +31,17 @@ fn event_at(alloc: Global, until: u64, times: &[u64]) -> Result<List<u64>, Fail>
     Ok(event)
 }
 
-// The clock, if its numbers are in range and it is none of any other event than the first.
-fn in_range(clock: Clock) -> Result<Clock, Fail>
-    ensures { IfOk result (λ same. (same ≡ clock) × IsClockOf 1 same) }
+// A periodic clock with this period and offset, if they are in range; without them the first event's.
+fn clock_of(periodic: Option<(u64, u64)>) -> Result<Clock, Fail>
+    ensures { IfOk result (IsClockOf 1) }
 {
-    let fits = match clock {
-        Clock::Every { period, offset } => 1 <= period && period <= MAX_TIME && offset <= MAX_TIME,
-        Clock::On { event } => event == 0,
+    let Some((period, offset)) = periodic else {
+        return Ok(Clock::On { event: 0 });
     };
-    if fits {
-        Ok(clock)
-    } else {
-        Err(Fail::new("a clock out of range"))
+    if period == 0 || period > MAX_TIME || offset > MAX_TIME {
+        return Err(Fail::new("a clock out of range"));
     }
+    Ok(Clock::Every { period, offset })
 }
 
 // The count and the times as a text.
@@ -54,20 +53,40 @@ fn shown(alloc: Global, count: u64, times: &List<u64>) -> Result<String, Fail> {
     Ok(text)
 }
 
-// How often, and when, the clock ticks while the plan's first input isn't 0.
-fn ticks(alloc: Global, plan: &Plan, times: &[u64], clock: Clock) -> Result<String, Fail> {
-    let until = plan.diagram.until;
-    let clock = in_range(clock)?;
+// The table of one event with these times.
+fn table_of(alloc: Global, until: u64, times: &[u64]) -> Result<Vec<List<u64>>, Fail>
+    ensures table { IfOk result (λ events. IsTimetable until events.items) }
+    ensures one { IfOk result (λ events. length events.items ≡ 1) }
+{
+    let event = event_at(alloc, until, times)?;
     let mut events = Vec::new(alloc);
-    events.push(event_at(alloc, until, times)?)?;
-    let inputs = plan.diagram.inputs.items();
-    let own = samples_by_input(alloc, plan.diagram.inputs.len(), &plan.samples)?;
-    if inputs.is_empty() || own.is_empty() {
-        return Err(Fail::new("no input"));
+    events.push(event)?;
+    Ok(events)
+}
+
+// The samples of the plan's first input.
+fn own_samples(alloc: Global, plan: &Plan) -> Result<List<Sample>, Fail>
+    ensures { IfOk result (λ own. IsNonDecreasingBy (λ s. s.time) own) }
+{
+    let by_input = samples_by_input(alloc, plan.diagram.inputs.len(), &plan.samples)?;
+    match by_input.get(0) {
+        Some(own) => Ok(own.copied()?),
+        None => Err(Fail::new("no input")),
     }
-    let first = inputs[0].first;
-    let count = count_on(until, &events, clock, first, own.items()[0].items());
-    let made = times_on(alloc, until, &events, clock, first, own.items()[0].items())?;
+}
+
+// How often, and when, the clock ticks while the plan's first input isn't 0.
+fn ticks(alloc: Global, plan: &Plan, times: &[u64], clock: Clock) -> Result<String, Fail>
+    requires { IsClockOf 1 clock }
+{
+    let until = plan.diagram.until;
+    let events = table_of(alloc, until, times)?;
+    let own = own_samples(alloc, plan)?;
+    let Some(input) = plan.diagram.inputs.get(0) else {
+        return Err(Fail::new("no input"));
+    };
+    let count = count_on(until, &events, clock, input.first, own.items());
+    let made = times_on(alloc, until, &events, clock, input.first, own.items())?;
     shown(alloc, count, &made)
 }
 
@@ -139,13 +158,6 @@ static CASES: [(&str, &[u64], Option<(u64, u64)>, &str); 13] = [
     (STEADY, &[], Some((4, 1)), "3: 1 5 9"),
 ];
 
-fn clock_of(periodic: Option<(u64, u64)>) -> Clock {
-    match periodic {
-        Some((period, offset)) => Clock::Every { period, offset },
-        None => Clock::On { event: 0 },
-    }
-}
-
 fn compare(
     rt: &impl Abort,
     alloc: Global,
@@ -153,10 +165,8 @@ fn compare(
 ) -> Result<(), Fail> {
     let (text, times, periodic, want) = *case;
     let plan = plan_in(alloc, text)?;
-    assert_eq!(rt;
-        ticks(alloc, &plan, times, clock_of(periodic))?.as_str(),
-        want
-    );
+    let clock = clock_of(periodic)?;
+    assert_eq!(rt; ticks(alloc, &plan, times, clock)?.as_str(), want);
     Ok(())
 }
 
