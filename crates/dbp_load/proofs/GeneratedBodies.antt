@@ -1,5 +1,5 @@
 -- A generated document can be printed.
-use Rattle.std.proofs.Common.{ℕ, pos, ◌+◌, ◌*◌, ◌<◌, ◌≤◌, [], map, arith}
+use Rattle.std.proofs.Common.{ℕ, pos, ◌+◌, ◌*◌, ◌<◌, ◌≤◌, [], map, refl, arith}
 use Rattle.std.specs.Prelude.{codes, count_by}
 use Rattle.std.proofs.lemmas.Bool.{ltb-true}
 use Rattle.dia_lines.specs.declared.item.Decl.TheVariants.{Input}

@@ -16,7 +16,7 @@ use Rattle.dbp_plan.specs.Plan.{IsPlan}
 use Rattle.dbp_plan.specs.Table.{HasRow, HasRows}
 use Rattle.trace_io.specs.Lines.{line_of, number_of, numbered_line}
 use Rattle.trace_io.specs.Printing.{CanPrint, Counts, numbered_lines}
-use Rattle.trace_io.proofs.BatchLines.{same-all}
+use Rattle.dbp_plan.proofs.ListMaps.{same-flat_map}
 use Rattle.std.proofs.Math.Bool.{or-true}
 use Rattle.dbp_plan.proofs.Numbers.{Rise, rise, number-is}
 use Rattle.dbp_plan.proofs.TaskTimes.{more-named, more-other, some-of, times_few}
@@ -76,7 +76,7 @@ printed-more d samples batches table k counts next text b plan p fits same c =
     All-from_get_or (λ i. line_of d.tasks batches table b.time i ≡ numbered_line d.tasks table b.time i (get_or counts i 0 + 1)) b.tasks 0
     (λ j less. ap (numbered_line d.tasks table b.time (get_or b.tasks j 0)) (next-is d samples batches table k counts text b j plan p fits same named less).number) in
     let here : batch_lines (get_or batches k b) ≡ numbered_lines d.tasks table b.time counts b.tasks =
-    ap batch_lines same ∙ same-all (line_of d.tasks batches table b.time) (λ i. numbered_line d.tasks table b.time i (get_or counts i 0 + 1)) b.tasks each in
+    ap batch_lines same ∙ same-flat_map (line_of d.tasks batches table b.time) (λ i. numbered_line d.tasks table b.time i (get_or counts i 0 + 1)) b.tasks each in
     record {
       places = c.places ∙ p.places;
       counted = λ i less.

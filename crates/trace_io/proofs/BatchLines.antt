@@ -33,11 +33,6 @@ counts-more before after named i c fits new = record {
 pub not-counted : (before after named : List ℕ) (i : ℕ) → Counts before after named → i < length before → list_any (λ n. n == i) named ≡ false → get_or after i 0 ≡ get_or before i 0
 not-counted before after named i c fits new = omega (arith, rw new at (c.each i fits))
 
--- of equal items come equal lists
-pub same-all : {X A : Type 0} (f g : X → List A) (xs : List X) → All (λ x. f x ≡ g x) xs → flat_map f xs ≡ flat_map g xs
-same-all f g [] same = refl
-same-all f g (x ∷ xs) same = rw (same 0 x (omega arith), same-all f g xs (λ k d fits. same (suc k) d (omega arith))) refl
-
 -- the first k of the batch's tasks have their lines, and are counted
 pub record LinesTo (tasks : List Task) (table : Table) (time : ℕ) (before named start text after : List ℕ) (k : ℕ) : Type 0 where
   pub lines : text ≡ start ++ numbered_lines tasks table time before (take k named)

@@ -1,16 +1,16 @@
 -- What is handed to the merge: the clocks of tasks without a `when`, and for each task with one an event that has the task's times.
-use Rattle.std.proofs.Common.{◌≡◌, ℕ, zero, suc, ◌+◌, ◌<◌, ◌≤◌, true, List, [], ◌∷◌, ◌++◌, length, take, get_or, map, slice_get, Option, Some, None, refl, sym, ap, subst, ◌∙◌, arith, inl, inr}
+use Rattle.std.proofs.Common.{◌≡◌, ℕ, suc, ◌+◌, ◌<◌, ◌≤◌, List, [], ◌∷◌, ◌++◌, length, take, get_or, map, slice_get, Option, Some, None, refl, sym, ap, subst, ◌∙◌, arith, inl, inr}
 use Rattle.std.specs.Prelude.{All, filter, not, pos, sum_by}
 use Rattle.std.specs.Ordering.{int_eq}
 use Rattle.std.specs.Option.{option_map}
 use Rattle.std.specs.List.Sorted.{IsNonDecreasingBy, IsStrictlyIncreasing}
 use Rattle.std.proofs.lemmas.Bool.{cases_lt}
 use Rattle.std.proofs.lemmas.Grind.{common_steps}
-use Rattle.std.proofs.lemmas.List.{get_or_default, get_or_past, length-map, length_push, map-append}
+use Rattle.std.proofs.lemmas.List.{get_or_past, length-map, length_push, map-append}
 use Rattle.std.proofs.lemmas.List.Elements.{All-filter, All-get_or, All-push}
 use Rattle.std.proofs.lemmas.List.Kept.{IsStrictlyIncreasing-filter}
 use Rattle.std.proofs.lemmas.List.Sums.{sum_by-cons}
-use Rattle.std.proofs.lemmas.Option.{none-some, same_Some, slice_get-get_or, slice_get-map, slice_get_within}
+use Rattle.std.proofs.lemmas.Option.{same_Some, slice_get-get_or, slice_get-map, slice_get_within}
 use Rattle.dbp_plan.specs.declared.diagram.Clock.{Clock}
 use Rattle.dbp_plan.specs.declared.diagram.Clock.TheVariants.{Every, On}
 use Rattle.dbp_plan.specs.declared.diagram.Diagram.{Diagram}
@@ -21,9 +21,9 @@ use Rattle.dbp_plan.specs.declared.schedule.Sample.{Sample}
 use Rattle.dbp_plan.specs.Clocks.{base_times, is_on, periodic_times}
 use Rattle.dbp_plan.specs.ListItems.{at_place, read_place}
 use Rattle.dbp_plan.specs.Occurrences.{times_of}
-use Rattle.dbp_plan.specs.Samples.{own_samples}
 use Rattle.dbp_plan.proofs.ClockTimes.{periodic_place, periodic_rises}
 use Rattle.dbp_plan.proofs.InputValues.{input_until}
+use Rattle.dbp_plan.proofs.ListMaps.{filter-all}
 use Rattle.dbp_plan.proofs.ListParts.{take_push}
 use Rattle.trace_io.specs.Batches.{AreBatches, times_in, total_of}
 use Rattle.trace_io.specs.Counts.{HasNumbersInRange, IsClockOf, IsTimetable, count_of}
@@ -32,14 +32,13 @@ use Rattle.trace_io.specs.Merging.{AreMerged, ticks_of}
 use Rattle.trace_io.specs.Spans.{is_on_by}
 use Rattle.trace_io.proofs.Counting.{base-count, base-place, time-is}
 use Rattle.trace_io.proofs.Merges.{in-range}
-use Rattle.trace_io.proofs.Spans.{filter-all}
 
 -- ---- the times of one task
 
 -- a task without a `when` has all base times of its clock
 pub plain-times : (d : Diagram) (samples : List Sample) (events : List (List ℕ)) (t : Task) → t.when ≡ None → times_in d samples events t ≡ base_times d.until events t.clock
 plain-times d samples events t none =
-    ap (λ (w : Option ℕ). filter (is_on d.inputs samples w) (base_times d.until events t.clock)) none ∙ filter-all (is_on d.inputs samples None) (base_times d.until events t.clock) (λ k time at. refl)
+    ap (λ (w : Option ℕ). filter (is_on d.inputs samples w) (base_times d.until events t.clock)) none ∙ filter-all (is_on d.inputs samples None) (base_times d.until events t.clock) (λ k e below. refl)
 
 pub plain-clocks : (d : Diagram) (samples : List Sample) (events : List (List ℕ)) (tasks : List Task) → All (λ t. t.when ≡ None) tasks
     → map (base_times d.until events) (map (λ t. t.clock) tasks) ≡ map (times_in d samples events) tasks
@@ -141,6 +140,10 @@ event-times until events times = grind (arith, common_steps)
 
 -- ---- all tasks
 
+-- as many clocks as tasks
+pub same-count : (d : Diagram) (samples : List Sample) (events more : List (List ℕ)) (clocks : List Clock) → map (base_times d.until more) clocks ≡ map (times_in d samples events) d.tasks → length clocks ≡ length d.tasks
+same-count d samples events more clocks same = sym (length-map clocks (base_times d.until more)) ∙ ap (λ (ts : List (List ℕ)). length ts) same ∙ length-map d.tasks (times_in d samples events)
+
 -- as many base times as all tasks together have times
 pub same-total : (d : Diagram) (samples : List Sample) (events more : List (List ℕ)) (clocks : List Clock) → All (IsClockOf (length more)) clocks
     → map (base_times d.until more) clocks ≡ map (times_in d samples events) d.tasks → ticks_of d.until more clocks ≡ total_of d samples events
@@ -186,7 +189,7 @@ merged-tasks d samples events more clocks batches are same merged = record {
 }
   where
     count : length clocks ≡ length d.tasks
-    count = sym (length-map clocks (base_times d.until more)) ∙ ap (λ (ts : List (List ℕ)). length ts) same ∙ length-map d.tasks (times_in d samples events)
+    count = same-count d samples events more clocks same
 
     all-at : (clock : Clock) (i : ℕ) → slice_get clocks i ≡ Some clock → IsClockOf (length more) clock
     all-at clock i is =

@@ -1,10 +1,10 @@
 -- The lists of each input's samples, if a task has a `when`, and none if no task has one.
-use Rattle.std.proofs.Common.{◌≡◌, ℕ, ◌<◌, All, AllPairs, List, [], length, get_or, map, slice_get, Option, Some, None, refl, sym, ap, subst, ◌∙◌, arith}
-use Rattle.std.specs.Prelude.{IsTrue}
-use Rattle.std.specs.List.{range_with_len}
-use Rattle.std.specs.List.Sorted.{IsNonDecreasingBy}
+use Rattle.std.proofs.Common.{◌≡◌, zero, suc, ◌∷◌, false, ◌<◌, All, AllPairs, List, [], length, get_or, map, refl, ap, arith}
+use Rattle.std.specs.Prelude.{IsTrue, is_some}
+use Rattle.std.specs.List.{list_any, range_with_len}
+use Rattle.std.proofs.lemmas.Bool.{both_ways, or_parts}
 use Rattle.std.proofs.lemmas.List.FromFn.{get_or-map-range_with_len, length-map-range_with_len}
-use Rattle.std.proofs.lemmas.Option.{none-some, slice_get-get_or}
+use Rattle.std.proofs.lemmas.Option.{slice_get-get_or}
 use Rattle.dbp_plan.specs.declared.diagram.Diagram.{Diagram}
 use Rattle.dbp_plan.specs.declared.diagram.Task.{Task}
 use Rattle.dbp_plan.specs.declared.schedule.Sample.{Sample}
@@ -30,8 +30,11 @@ module _ (d : Diagram) (closed : IsClosed d) (samples : List Sample) where
       rw here (input_rising k samples order)
 
 -- without a `when` no list is wanted
-pub no-guards : (tasks : List Task) (samples : List Sample) → All (λ t. t.when ≡ None) tasks → All (HasItsSamples samples []) tasks
-no-guards tasks samples none k t below input is = absurd (none-some input (sym (none k t below) ∙ is))
+pub no-guards : (tasks : List Task) (samples : List Sample) → list_any (λ t. is_some t.when) tasks ≡ false → All (HasItsSamples samples []) tasks
+no-guards [] samples none k t below input is = absurd (omega (arith, below))
+no-guards (u ∷ tasks) samples none zero t below input is = absurd (both_ways (is_some u.when) (or_parts (is_some u.when) (list_any (λ t. is_some t.when) tasks) none).0 (ap is_some is))
+no-guards (u ∷ tasks) samples none (suc k) t below input is =
+    no-guards tasks samples (or_parts (is_some u.when) (list_any (λ t. is_some t.when) tasks) none).1 k t (omega (arith, below)) input is
 
 pub none-rise : RiseInTime []
 none-rise k e below = absurd (omega (arith, below))

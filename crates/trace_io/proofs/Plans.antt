@@ -1,5 +1,5 @@
 -- What makes a document's ranked diagram, the samples of its trace and its batches a plan.
-use Rattle.std.proofs.Common.{◌≡◌, ◌≤◌, ◌<◌, ℕ, All, AllPairs, List, Some, length, get_or, map, slice_get, refl, ◌∙◌, ap, arith}
+use Rattle.std.proofs.Common.{◌≡◌, ◌≤◌, ◌<◌, ℕ, All, AllPairs, List, Some, length, get_or, map, slice_get, refl, ◌∙◌, ap}
 use Rattle.std.specs.Prelude.{IsTrue, filter}
 use Rattle.std.proofs.lemmas.List.Elements.{All-map}
 use Rattle.std.proofs.lemmas.Option.{slice_get-get_or}

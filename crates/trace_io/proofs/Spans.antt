@@ -1,28 +1,20 @@
 -- In the span between two samples of an input its value stays, so a clock has there all of its base times that are asked for, or none.
-use Rattle.std.proofs.Common.{◌≡◌, ◌≢◌, ℕ, zero, suc, ℤ, pos, ◌+◌, ◌-◌, ◌<◌, ◌≤◌, Bool, true, false, cond, List, [], ◌∷◌, ◌++◌, length, take, drop, get_or, map, slice_get, Option, Some, None, refl, sym, ap, subst, ◌∙◌, arith, inl, inr}
-use Rattle.std.specs.Prelude.{All, filter, not}
+use Rattle.std.proofs.Common.{◌≡◌, ℕ, suc, ℤ, pos, ◌+◌, ◌-◌, ◌<◌, ◌≤◌, Bool, true, false, List, [], ◌∷◌, ◌++◌, length, take, drop, get_or, map, slice_get, Some, refl, sym, ap, subst, ◌∙◌, arith, inl, inr}
+use Rattle.std.specs.Prelude.{filter, not}
 use Rattle.std.specs.List.Sorted.{IsNonDecreasingBy}
 use Rattle.std.specs.Ordering.{int_eq}
 use Rattle.std.proofs.lemmas.Bool.{cases_eq, cases_lt}
 use Rattle.std.proofs.lemmas.List.{append-nil, drop-append-le, length-take-le, take-append-drop, take-take, take_all}
 use Rattle.std.proofs.lemmas.List.Elements.{filter-append}
 use Rattle.std.proofs.lemmas.List.Sums.{count_by-le-length, length-filter}
-use Rattle.std.proofs.lemmas.Option.{get_or_from_slice_get, none-some, same_Some, slice_get-get_or, slice_get_past, slice_get_within}
+use Rattle.std.proofs.lemmas.Option.{get_or_from_slice_get, slice_get-get_or, slice_get_past, slice_get_within}
 use Rattle.dbp_plan.specs.declared.schedule.Sample.{Sample}
-use Rattle.dbp_plan.specs.ListItems.{at_place, drop_place, take_inside, take_place}
+use Rattle.dbp_plan.specs.ListItems.{at_place, drop_place, take_inside}
 use Rattle.dbp_plan.specs.Samples.{last_value, value_until}
 use Rattle.dbp_plan.proofs.InputValues.{value_in_front}
+use Rattle.dbp_plan.proofs.ListMaps.{filter-all, filter-none}
 use Rattle.dbp_plan.proofs.ListParts.{take_push}
 use Rattle.trace_io.specs.Spans.{IsCountBefore, IsSpanEnd, IsSpanStart, is_on_by}
-
--- a filter by a test that all items pass, or none
-pub filter-all : {X : Type 0} (p : X → Bool) (xs : List X) → ((k : ℕ) (x : X) → slice_get xs k ≡ Some x → p x ≡ true) → filter p xs ≡ xs
-filter-all p [] each = refl
-filter-all p (x ∷ xs) each = rw (each 0 x refl) (ap (λ (ys : List _). x ∷ ys) (filter-all p xs (λ k y at. each (suc k) y at)))
-
-pub filter-no : {X : Type 0} (p : X → Bool) (xs : List X) → ((k : ℕ) (x : X) → slice_get xs k ≡ Some x → p x ≡ false) → filter p xs ≡ []
-filter-no p [] each = refl
-filter-no p (x ∷ xs) each = rw (each 0 x refl) (filter-no p xs (λ k y at. each (suc k) y at))
 
 -- the end of a span, if its sample is there and if it isn't
 end-at : (times : List ℕ) (own : List Sample) (k n : ℕ) (s : Sample) → IsSpanEnd times own k n → slice_get own k ≡ Some s → IsCountBefore times s.time n
@@ -118,13 +110,13 @@ module _ (times : List ℕ) (own : List Sample) (k from to : ℕ) (start : IsSpa
     pub span-on : on-before ≡ true → filter on (take to times) ≡ filter on (take from times) ++ span
     span-on passes =
         ap (filter on) front-and-span ∙ filter-append on (take from times) span
-        ∙ ap (λ more. filter on (take from times) ++ more) (filter-all on span (λ j t at. on-in-span j t at ∙ passes))
+        ∙ ap (λ more. filter on (take from times) ++ more) (filter-all on span (λ j d below. on-in-span j (get_or span j d) (slice_get-get_or span j d below) ∙ passes))
 
     -- and none of it if it is
     pub span-off : on-before ≡ false → filter on (take to times) ≡ filter on (take from times)
     span-off fails =
         ap (filter on) front-and-span ∙ filter-append on (take from times) span
-        ∙ ap (λ more. filter on (take from times) ++ more) (filter-no on span (λ j t at. on-in-span j t at ∙ fails))
+        ∙ ap (λ more. filter on (take from times) ++ more) (filter-none on span (λ j d below. on-in-span j (get_or span j d) (slice_get-get_or span j d below) ∙ fails))
         ∙ append-nil (filter on (take from times))
 
   -- the span after it begins where it ends

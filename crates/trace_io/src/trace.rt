@@ -1,6 +1,7 @@
 // The plan of a document.
 
-ghost use Rattle.std.specs.Prelude.{◌≡◌, ◌<◌, ◌≤◌, [], All, AllPairs, IsTrue, length, IfErr, IfOk, List as Items, OnOk, None, Some, replicate};
+ghost use Rattle.std.specs.Prelude.{◌≡◌, ◌<◌, ◌≤◌, [], All, AllPairs, IsTrue, length, IfErr, IfOk, List as Items, OnOk, None, Some, is_some, replicate};
+ghost use Rattle.std.specs.List.{list_any};
 ghost use Rattle.dbp_plan.specs.Ranked.{IsRanked};
 ghost use Rattle.dbp_plan.specs.Samples.{is_before};
 ghost use Rattle.dia_check.specs.Checks.{IsCheckedOf};
@@ -15,10 +16,12 @@ ghost use Rattle.trace_rows.specs.declared.fail.TraceFail.TheVariants.{Refused};
 use crate::batches::merged;
 use crate::guards::{merge_clocks, total};
 use csv::ByteRecord;
-use dbp_plan::{Diagram, List, MAX_OCCURRENCES, NoMemory, Plan, Sample, samples_by_input};
+use dbp_plan::{Diagram, List, MAX_OCCURRENCES, NoMemory, Plan, Sample, Task, samples_by_input};
 use dia_read::Doc;
 use std::alloc::Global;
-use trace_rows::{Records, TraceCode, TraceFail, TraceFault, is_header, no_times, row_values};
+use trace_rows::{
+    Records, RowValues, TraceCode, TraceFail, TraceFault, is_header, no_times, row_values,
+};
 
 /// What a document's trace gives.
 #[derive(Drop)]
@@ -84,6 +87,13 @@ fn empty_trace(alloc: Global, diagram: &Diagram, doc: &Doc) -> Result<Trace, Tra
     })
 }
 
+// Whether a task has a `when`.
+fn has_guard(tasks: &[Task]) -> bool
+    ensures { result ≡ list_any (λ t. is_some t.when) tasks.now }
+{
+    tasks.iter().any(|task| task.when.is_some())
+}
+
 /// The samples of each input, if a task has a `when`; else nothing.
 fn own_samples(
     alloc: Global,
@@ -96,27 +106,26 @@ fn own_samples(
     ensures own { IfOk result (λ own. All (HasItsSamples samples.now own) diagram.now.tasks) }
     ensures rising { IfOk result RiseInTime }
 {
-    if diagram.tasks.items().iter().any(|task| task.when.is_some()) {
-        samples_by_input(alloc, diagram.inputs.len(), samples)
-    } else {
-        Ok(List::new(alloc))
+    let mut own = List::new(alloc);
+    if has_guard(diagram.tasks.items()) {
+        own = samples_by_input(alloc, diagram.inputs.len(), samples)?;
     }
+    Ok(own)
 }
 
 /// What the lines of the document's trace section give to the inputs and events of its diagram, or their first fault.
-/// The samples of each input by itself aren't made yet.
 fn lines_of_section(
     alloc: Global,
     diagram: &Diagram,
     doc: &Doc,
     text: &[u8],
-) -> Result<Trace, TraceFail>
+) -> Result<RowValues, TraceFail>
     requires section { doc.now.body.trace ≡ Some text.now }
     requires printable { IsPrintable doc.now.body }
     requires lines { HasItemLines doc.now }
     requires ranked { IsRanked diagram.now }
     ensures trace { IfOk result
-        (λ trace. IsTraceOf doc.now diagram.now trace.events.items trace.samples) }
+        (λ said. IsTraceOf doc.now diagram.now said.events.items said.samples) }
     ensures fault { IfErr result (λ fail. IsTraceRefusal doc.now diagram.now fail) }
 {
     let inputs = diagram.inputs.items();
@@ -140,11 +149,7 @@ fn lines_of_section(
         &mut records,
         rest,
     )?;
-    Ok(Trace {
-        events: said.events,
-        samples: said.samples,
-        own: List::new(alloc),
-    })
+    Ok(said)
 }
 
 fn bad_header(line: u32) -> TraceFail
@@ -181,10 +186,14 @@ fn section_trace(
     if text.is_empty() {
         return Err(bad_header(doc.lines.trace_at));
     }
-    let mut trace = lines_of_section(alloc, diagram, doc, text)?;
-    trace.own = own_samples(alloc, diagram, &trace.samples)?;
-    few_occurrences(diagram, doc, &trace.events, trace.own.items())?;
-    Ok(trace)
+    let said = lines_of_section(alloc, diagram, doc, text)?;
+    let own = own_samples(alloc, diagram, &said.samples)?;
+    few_occurrences(diagram, doc, &said.events, own.items())?;
+    Ok(Trace {
+        events: said.events,
+        samples: said.samples,
+        own,
+    })
 }
 
 /// What the document's trace gives to the inputs and events of its diagram, or its first fault.
@@ -238,12 +247,16 @@ pub fn read_trace(alloc: Global, diagram: Diagram, doc: &Doc) -> Result<Plan, Tr
     ensures no_line { doc.now.body.trace ≡ Some []
         → result ≡ Err (Refused doc.now.lines.trace_at BadHeader) }
 {
-    let mut trace = trace_of(alloc, &diagram, doc)?;
-    let clocks = merge_clocks(alloc, &diagram, &mut trace.events, trace.own.items())?;
-    let batches = merged(alloc, diagram.until, &trace.events, &clocks)?;
+    let Trace {
+        mut events,
+        samples,
+        own,
+    } = trace_of(alloc, &diagram, doc)?;
+    let clocks = merge_clocks(alloc, &diagram, &mut events, own.items())?;
+    let batches = merged(alloc, diagram.until, &events, &clocks)?;
     Ok(Plan {
         diagram,
-        samples: trace.samples,
+        samples,
         batches,
     })
 }

@@ -1,12 +1,7 @@
-use Rattle.std.proofs.Common.{rules, ◌≡◌, ◌<◌, ◌≤◌, ℕ, List, [], length, get_or, sym, ap, subst, ◌∙◌, arith}
-use Rattle.std.specs.Prelude.{min, nat_lt}
+use Rattle.std.proofs.Common.{rules, ◌≡◌, ℕ, [], get_or, sym, ap, ◌∙◌, arith}
 use Rattle.std.specs.List.Sorted.{IsStrictlyIncreasing}
 use Rattle.std.proofs.lemmas.List.Elements.{All-get_or}
-use Rattle.dbp_plan.specs.declared.diagram.Clock.{Clock}
-use Rattle.dbp_plan.specs.declared.diagram.Clock.TheVariants.{Every, On}
-use Rattle.dbp_plan.specs.Clocks.{base_times, periodic_times}
-use Rattle.trace_io.specs.Counts.{HasNumbersInRange, count_of}
-use Rattle.trace_io.specs.Spans.{IsCountBefore}
+use Rattle.trace_io.specs.Counts.{count_of}
 use Rattle.trace_io.proofs.Counting.{clock-before, event-before}
 use Rattle.trace_io.proofs.clocks.count_before.Goals as goal
 

@@ -1,10 +1,10 @@
-use Rattle.std.proofs.Common.{rules, ◌≡◌, ◌+◌, ◌-◌, ◌≤◌, ◌++◌, List, ℕ, length, take, drop, sym, ap, subst, ◌∙◌, arith, pos, w64, length-append, length-drop}
+use Rattle.std.proofs.Common.{rules, ◌≡◌, ◌+◌, ◌≤◌, List, ℕ, length, take, drop, sym, ap, ◌∙◌, arith, w64, length-append, length-drop}
 use Rattle.std.specs.Prelude.{filter}
 use Rattle.std.proofs.lemmas.Int.{to_z-of_z}
 use Rattle.std.proofs.lemmas.List.{length-take-le}
 use Rattle.dbp_plan.specs.Clocks.{base_times}
 use Rattle.trace_io.specs.Spans.{is_on_by}
-use Rattle.trace_io.proofs.Spans.{end-within, few-on, first-start, last-start, next-start, span-off, span-on, span-order}
+use Rattle.trace_io.proofs.Spans.{end-within, last-start, next-start, span-off, span-on, span-order}
 use Rattle.trace_io.proofs.guards.count_on.Goals as goal
 use Rattle.trace_io.proofs.guards.count_on.Goals.{then-is_on_before, else-is_on_before}
 use mir.Val.{to_z, of_z}

@@ -1,12 +1,10 @@
-use Rattle.std.proofs.Common.{rules, ◌≡◌, ◌+◌, ◌<◌, ◌≤◌, ◌++◌, ◌∷◌, [], ℕ, All, List, length, get_or, map, take, slice_get, Some, sym, ap, ◌∙◌, arith}
-use Rattle.std.proofs.lemmas.List.{take_all}
+use Rattle.std.proofs.Common.{◌≡◌, ◌<◌, length, get_or, slice_get, Some, arith}
 use Rattle.std.proofs.lemmas.List.Elements.{All-push}
 use Rattle.std.proofs.lemmas.Option.{slice_get-get_or}
 use Rattle.dbp_plan.specs.declared.diagram.Task.{Task}
 use Rattle.dbp_plan.specs.Lookups.{no_declared_task}
-use Rattle.trace_io.specs.Batches.{times_in}
 use Rattle.trace_io.specs.Counts.{IsClockOf}
-use Rattle.trace_io.proofs.MergeClocks.{clocks-more, merge-more, more-again, no-more}
+use Rattle.trace_io.proofs.MergeClocks.{clocks-more, merge-more, more-again}
 use Rattle.trace_io.proofs.Plans.{clock_fits_at}
 use Rattle.trace_io.proofs.guards.merge_clocks.Goals as goal
 

@@ -1,17 +1,13 @@
-use Rattle.std.proofs.Common.{rules, ◌≡◌, ◌<◌, ◌≤◌, ℕ, All, List, [], length, get_or, slice_get, Option, Some, None, sym, ap, subst, ◌∙◌, arith, w64}
+use Rattle.std.proofs.Common.{rules, ◌≡◌, ◌<◌, ℕ, List, length, get_or, slice_get, Some, sym, ap, ◌∙◌, w64}
 use Rattle.std.specs.Prelude.{filter}
 use Rattle.std.proofs.lemmas.Int.{to_z-of_z}
 use mir.Val.{to_z, of_z}
-use Rattle.std.specs.List.Sorted.{IsNonDecreasingBy}
 use Rattle.dbp_plan.specs.declared.diagram.Input.{Input}
 use Rattle.dbp_plan.specs.declared.diagram.Task.{Task}
-use Rattle.dbp_plan.specs.declared.schedule.Sample.{Sample}
 use Rattle.dbp_plan.specs.Clocks.{base_times}
 use Rattle.dbp_plan.specs.ListItems.{read_place}
-use Rattle.trace_io.specs.Batches.{times_in}
 use Rattle.trace_io.specs.Counts.{HasNumbersInRange, count_of}
 use Rattle.trace_io.specs.Spans.{is_on_by}
-use Rattle.trace_io.specs.Guards.{HasItsSamples}
 use Rattle.trace_io.proofs.Counting.{base-count}
 use Rattle.trace_io.proofs.MergeClocks.{guarded-times, plain-times, rising-at, same-task}
 use Rattle.trace_io.proofs.Merges.{in-range}

@@ -1,12 +1,10 @@
-use Rattle.std.proofs.Common.{◌≡◌, ◌+◌, ◌*◌, ◌<◌, ◌≤◌, ℕ, All, List, length, get_or, take, slice_get, sum_by, Some, sym, ap, ◌∙◌, arith}
+use Rattle.std.proofs.Common.{◌≡◌, ◌<◌, ℕ, length, get_or, take, sum_by, ap, ◌∙◌, arith}
 use Rattle.std.proofs.lemmas.List.{take_all}
 use Rattle.std.proofs.lemmas.List.Sums.{sum_by_more}
 use Rattle.std.proofs.lemmas.Option.{slice_get-get_or}
-use Rattle.dbp_plan.specs.declared.schedule.Sample.{Sample}
 use Rattle.dbp_plan.specs.declared.diagram.Task.{Task}
 use Rattle.dbp_plan.specs.Lookups.{no_declared_task}
 use Rattle.trace_io.specs.Batches.{times_in}
-use Rattle.trace_io.specs.Guards.{HasItsSamples}
 use Rattle.trace_io.proofs.guards.total.Goals as goal
 
 pub loop-i-preserved : goal.loop-i-preserved

@@ -1,4 +1,4 @@
-use Rattle.std.proofs.Common.{◌≡◌, ◌≤◌, ◌*◌, ℕ, All, List, length, sum_by, take}
+use Rattle.std.proofs.Common.{◌≡◌, ◌≤◌, ◌*◌, All, List, length, sum_by, take}
 use Rattle.dbp_plan.specs.declared.schedule.Sample.{Sample}
 use Rattle.trace_io.specs.Batches.{times_in}
 use Rattle.trace_io.specs.Guards.{HasItsSamples}

@@ -1,7 +1,6 @@
-use Rattle.std.proofs.Common.{◌≡◌, ◌∙◌, Err, ℕ, All, List, [], length, ap, arith}
+use Rattle.std.proofs.Common.{◌≡◌, ◌∙◌, Err, ℕ, List, [], length, ap, arith}
 use Rattle.std.specs.Prelude.{replicate}
 use Rattle.std.proofs.lemmas.Result.{err_from_is_err_and}
-use Rattle.trace_io.specs.Guards.{HasItsSamples, RiseInTime}
 use Rattle.trace_rows.specs.declared.fail.TraceFail.TheVariants.{Refused}
 use Rattle.trace_io.proofs.OwnSamples.{none-given, none-rise}
 use Rattle.trace_io.proofs.TraceFaults.{empty-refused, empty-total, no-section}
