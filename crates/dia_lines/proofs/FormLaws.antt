@@ -76,7 +76,7 @@ cost-found : (cost : ℤ) (us : List Token) (cpu : Option ℤ) → SpellsOption 
 cost-found cost us cpu st.left_out = refl
 cost-found cost us cpu (st.given value) = refl
 
-in_five : (a b c d e : List Token) → a ++ (b ++ (c ++ (d ++ e))) ≡ a ++ b ++ c ++ d ++ e
+pub in_five : (a b c d e : List Token) → a ++ (b ++ (c ++ (d ++ e))) ≡ a ++ b ++ c ++ d ++ e
 in_five a b c d e = simp append_assoc
 
 task-found : (h : TaskHeader) (cs ws ps ds us : List Token) → SpellsClock cs h.clock → SpellsWhen ws h.when → SpellsOption word.Prio ps h.prio → SpellsOption word.Deadline ds h.deadline
@@ -94,7 +94,8 @@ task-found h cs ws ps ds us c w p d u =
 pub Inverts-shape : (ts : List Token) (s : Statement) → IsStatement ts s → Inverts s (shape_at ts)
 unfolding shape_at line_at declared_at header_at until_at input_at event_at options_at task_at state_at sense_at port_read_at read_at let_at next_at out_at
 Inverts-shape ts s st.a_blank_line = refl
-Inverts-shape ts s st.a_header = refl
+Inverts-shape ts s st.in_version_1 = refl
+Inverts-shape ts s st.in_version_2 = refl
 Inverts-shape ts s st.fixed_priorities = refl
 Inverts-shape ts s st.earliest_deadline = refl
 Inverts-shape ts s (st.an_until end) = refl
@@ -132,11 +133,13 @@ Builds ts (Some (of_out name first us)) = ts ≡ Word word.Out ∷ Name name ∷
 
 Builds-header : (ts : List Token) → Builds (Word word.Dbp ∷ ts) (header_at ts)
 unfolding header_at
-Builds-header (Number value ∷ []) = by_value (int_eq value (pos 1)) refl
+Builds-header (Number value ∷ []) = by_value (int_eq value (pos 1)) (int_eq value (pos 2)) refl refl
   where
-    by_value : (b : Bool) → int_eq value (pos 1) ≡ b → Builds (Word word.Dbp ∷ Number value ∷ []) (cond b (Some (plain (st.header 1))) None)
-    by_value true e = subst (λ (v : ℤ). IsStatement (Word word.Dbp ∷ Number v ∷ []) (st.header 1)) (sym ((Decides-int_eq value (pos 1)).0 e)) st.a_header
-    by_value false e = tt
+    by_value : (one two : Bool) → int_eq value (pos 1) ≡ one → int_eq value (pos 2) ≡ two
+        → Builds (Word word.Dbp ∷ Number value ∷ []) (option_map (λ version. plain (st.header version)) (cond one (Some 1) (cond two (Some 2) None)))
+    by_value true two e f = subst (λ (v : ℤ). IsStatement (Word word.Dbp ∷ Number v ∷ []) (st.header 1)) (sym ((Decides-int_eq value (pos 1)).0 e)) st.in_version_1
+    by_value false true e f = subst (λ (v : ℤ). IsStatement (Word word.Dbp ∷ Number v ∷ []) (st.header 2)) (sym ((Decides-int_eq value (pos 2)).0 f)) st.in_version_2
+    by_value false false e f = tt
 Builds-header _ = tt
 
 Builds-policy : (ts : List Token) → Builds (Word word.Policy ∷ ts) (policy_at ts)

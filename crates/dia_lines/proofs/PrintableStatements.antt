@@ -42,7 +42,8 @@ printable-when ws when (st.guarded n) f = f.1.0
 
 printable-form : (ts : List Token) (s : Statement) → IsStatement ts s → AllByRecursion IsPrintableToken ts → IsPrintableStatement s
 printable-form ts s st.a_blank_line f = tt
-printable-form ts s st.a_header f = tt
+printable-form ts s st.in_version_1 f = tt
+printable-form ts s st.in_version_2 f = tt
 printable-form ts s st.fixed_priorities f = tt
 printable-form ts s st.earliest_deadline f = tt
 printable-form ts s (st.an_until end) f = tt

@@ -35,7 +35,9 @@ use Rattle.dia_lines.specs.Sections.{is_trace_byte}
 use Rattle.dia_lines.proofs.CountLaws.{counted-line}
 use Rattle.dia_lines.proofs.PlaceLaws.{leads-line}
 use Rattle.dia_lines.specs.Held.{IsHeld, IsKept}
-use Rattle.dia_lines.specs.Moves.{place_after_line, version_after_line}
+use Rattle.dia_lines.specs.Moves.{kept_in_trace, place_after_line, version_after_line}
+use Rattle.dia_lines.specs.declared.trace.TraceLine.{TraceLine}
+use Rattle.dia_lines.specs.declared.trace.TraceLine.TheVariants as trace_line
 
 -- ---- refusals of other types
 
@@ -124,6 +126,13 @@ version-kept before (says (header v)) (line.Header w) k = sym k
 version-kept before (says (header v)) l k = absurd k
 version-kept before said (line.Header w) k = absurd k
 version-kept before said l k = refl
+
+-- no line of the trace section names one
+pub trace-version : (l : TraceLine) (version : ℕ) → version ≡ version_after_line version (kept_in_trace l)
+trace-version trace_line.Blank version = refl
+trace-version trace_line.Row version = refl
+trace-version trace_line.Script version = refl
+trace-version trace_line.Done version = refl
 
 -- a statement that passes no count leaves the counts
 kept-counts : (before : List Said) (s : Statement) (l : Line) (counts : Counts) → AreCounts (statements before) counts → IsKept s l → with_line counts l ≡ Ok counts → AreCounts (s ∷ statements before) counts

@@ -1,7 +1,6 @@
 -- The form of a line's tokens, before an expression is read.
-use Rattle.std.specs.Prelude.{◌≡◌, ℕ, ℤ, pos, List, [], ◌∷◌, Option, Some, None, if◌then◌else◌}
+use Rattle.std.specs.Prelude.{◌≡◌, ℕ, ℤ, pos, List, [], ◌∷◌, Option, Some, None}
 use Rattle.std.specs.Option.{option_and_then, option_map}
-use Rattle.std.specs.Ordering.{int_eq}
 use Rattle.dbp_plan.specs.declared.diagram.Policy.TheVariants.{Fp, Edf}
 use Rattle.dbp_plan.specs.Tree.{Tree, number}
 use Rattle.dia_tokens.specs.declared.token.Token.{Token}
@@ -12,6 +11,7 @@ use Rattle.dia_tokens.specs.declared.token.Word.TheVariants as word
 use Rattle.dia_exprs.specs.declared.level.Level.TheVariants.{Whole}
 use Rattle.dia_exprs.specs.Grammar.{Spells}
 use Rattle.dia_lines.specs.Delays.{delay_at}
+use Rattle.dia_lines.specs.Places.{version_of}
 use Rattle.dia_lines.specs.Statements.{Statement, Clock, every, on, nothing, header, policy, until, input, event, task, state, sense, read, a_let, a_next, out, trace, script, done}
 
 -- a statement, except for the tokens of its expression
@@ -110,7 +110,7 @@ tick_alone _ = None
 -- ---- after the first word of a line
 
 unfoldable pub header_at : List Token → Option Shape
-header_at ts = option_and_then (λ value. if int_eq value (pos 1) then Some (plain (header 1)) else None) (number_alone ts)
+header_at ts = option_map (λ version. plain (header version)) (option_and_then version_of (number_alone ts))
 
 abbrev pub policy_at : List Token → Option Shape
 policy_at (Word word.Fp ∷ []) = Some (plain (policy Fp))

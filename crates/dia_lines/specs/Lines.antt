@@ -1,8 +1,7 @@
 -- What a line says after the lines before it, and its first fault.
-use Rattle.std.specs.Prelude.{◌≡◌, ◌≢◌, ℕ, pos, codes, Bool, true, false, nat_lt, not, List, [], ◌∷◌, Option, Some, None, if◌then◌else◌}
+use Rattle.std.specs.Prelude.{◌≡◌, ◌≢◌, ℕ, codes, Bool, true, false, nat_lt, not, List, [], ◌∷◌, Option, Some, None, if◌then◌else◌}
 use Rattle.std.specs.List.{list_all}
-use Rattle.std.specs.Option.{option_map}
-use Rattle.std.specs.Ordering.{int_eq}
+use Rattle.std.specs.Option.{option_map, is_some}
 use Rattle.dbp_plan.specs.declared.limits.TheConstants.{MAX_NODES}
 use Rattle.dia_tokens.specs.declared.token.Token.{Token}
 use Rattle.dia_tokens.specs.declared.token.Token.TheVariants as token
@@ -20,7 +19,7 @@ use Rattle.dia_lines.specs.declared.fault.ReadCode.{ReadCode}
 use Rattle.dia_lines.specs.declared.fault.ReadCode.TheVariants.{BadByte, BadToken, BadLine, NumberTooWide, NameTooLong, LimitHit, MissingHeader, DepthHit}
 use Rattle.dia_lines.specs.declared.fault.Limit.TheVariants.{Nodes, Number as NumberLimit}
 use Rattle.dia_lines.specs.Statements.{Statement, nothing, header, script, done, IsStatement}
-use Rattle.dia_lines.specs.Places.{leads, is_of_version}
+use Rattle.dia_lines.specs.Places.{leads, version_of, is_of_version}
 use Rattle.dia_lines.specs.Limits.{numbers_fit, passed_count}
 use Rattle.dia_lines.specs.Sections.{is_space, is_trace_byte, IsAlone, IsKeptRow}
 
@@ -60,7 +59,7 @@ keeps_lines Script = true
 keeps_lines _ = false
 
 abbrev pub is_header : List Token → Bool
-is_header (token.Word word.Dbp ∷ token.Number value ∷ []) = int_eq value (pos 1)
+is_header (token.Word word.Dbp ∷ token.Number value ∷ []) = is_some (version_of value)
 is_header _ = false
 
 -- the first line with tokens, and no header

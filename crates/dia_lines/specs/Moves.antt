@@ -3,6 +3,8 @@ use Rattle.std.specs.Prelude.{ℕ}
 use Rattle.dia_lines.specs.declared.item.Line.{Line}
 use Rattle.dia_lines.specs.declared.item.Line.TheVariants as line
 use Rattle.dia_lines.specs.declared.place.Place.{Place}
+use Rattle.dia_lines.specs.declared.trace.TraceLine.{TraceLine}
+use Rattle.dia_lines.specs.declared.trace.TraceLine.TheVariants as trace_line
 use Rattle.dia_lines.specs.declared.place.Place.TheVariants.{Policy, Until, Declarations, Body, Trace, Script, Ended}
 
 -- the place after a line that may stand at the place
@@ -17,6 +19,13 @@ place_after_line place line.Trace = Trace
 place_after_line place line.Script = Script
 place_after_line place line.Done = Ended
 place_after_line place _ = place
+
+-- what is kept of a line of the trace section
+abbrev pub kept_in_trace : TraceLine → Line
+kept_in_trace trace_line.Blank = line.Nothing
+kept_in_trace trace_line.Row = line.Row
+kept_in_trace trace_line.Script = line.Script
+kept_in_trace trace_line.Done = line.Done
 
 -- the version after a line: the header names it
 abbrev pub version_after_line : ℕ → Line → ℕ

@@ -1,6 +1,7 @@
 -- How far the lines before a line have come, and what it may say there, in documents of a version.
-use Rattle.std.specs.Prelude.{ℕ, ◌==◌, ◌&&◌, ◌||◌, Bool, true, false, Option, Some, None, if◌then◌else◌}
+use Rattle.std.specs.Prelude.{ℕ, ℤ, pos, ◌==◌, ◌&&◌, ◌||◌, Bool, true, false, Option, Some, None, if◌then◌else◌}
 use Rattle.std.specs.Option.{is_none}
+use Rattle.std.specs.Ordering.{int_eq}
 use Rattle.dia_lines.specs.declared.place.Place.{Place}
 use Rattle.dia_lines.specs.declared.place.Place.TheVariants.{Header, Policy, Until, Declarations, Body, Trace, Script, Ended}
 use Rattle.dia_lines.specs.Statements.{Statement, nothing, header, policy, until, input, event, task, state, sense, read, a_let, a_next, out, trace, script, done}
@@ -41,6 +42,10 @@ leads Trace script = Some Script
 leads Trace done = Some Ended
 leads Script done = Some Ended
 leads _ _ = None
+
+-- the version of the language that has the number
+abbrev pub version_of : ℤ → Option ℕ
+version_of value = if int_eq value (pos 1) then Some 1 else if int_eq value (pos 2) then Some 2 else None
 
 -- whether documents of the version have such a line: those of version 1 have no `when` and no `cpu`
 abbrev pub is_of_version : ℕ → Statement → Bool

@@ -74,7 +74,8 @@ pub data SpellsAt : List Token → ℤ → Type 0 where
 -- the tokens of a line are the statement, in whatever version it may stand
 pub data IsStatement : List Token → Statement → Type 0 where
   a_blank_line : IsStatement [] nothing
-  a_header : IsStatement (Word Dbp ∷ Number (pos 1) ∷ []) (header 1)
+  in_version_1 : IsStatement (Word Dbp ∷ Number (pos 1) ∷ []) (header 1)
+  in_version_2 : IsStatement (Word Dbp ∷ Number (pos 2) ∷ []) (header 2)
   fixed_priorities : IsStatement (Word PolicyWord ∷ Word FpWord ∷ []) (policy Fp)
   earliest_deadline : IsStatement (Word PolicyWord ∷ Word EdfWord ∷ []) (policy Edf)
   an_until : (end : ℤ) → IsStatement (Word Until ∷ Number end ∷ []) (until end)

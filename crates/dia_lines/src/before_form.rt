@@ -3,6 +3,7 @@
 ghost use Rattle.std.specs.Prelude.{◌≡◌, ◌≤◌, length};
 ghost use Rattle.dia_lines.specs.Lines.{is_header, lacks_header, after_assign as expression_after_assign, after_then as expression_after_then, expression_of, token_fault};
 
+use crate::fronts::version;
 use crate::{Limit, Place, ReadCode};
 use dbp_plan::MAX_NODES;
 use dia_exprs::{MAX_DEPTH, depth, node_tokens};
@@ -13,7 +14,7 @@ fn is_header_line(tokens: &[Token]) -> bool
     ensures { result ≡ is_header tokens.now }
 {
     match tokens {
-        [Token::Word(Word::Dbp), Token::Number(version)] => *version == 1,
+        [Token::Word(Word::Dbp), Token::Number(value)] => version(*value).is_some(),
         _ => false,
     }
 }

@@ -44,7 +44,7 @@ pub enum ReadCode {
     LimitHit(Limit),
     /// 7: the text ends without `done`.
     MissingDone,
-    /// 8: the first line with tokens isn't `dbp 1`.
+    /// 8: the first line with tokens is neither `dbp 1` nor `dbp 2`.
     MissingHeader,
     /// 9: more than 64 parentheses of a line open at once.
     DepthHit,

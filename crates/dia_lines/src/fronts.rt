@@ -5,10 +5,22 @@ ghost use Rattle.std.specs.Option.{option_map};
 ghost use Rattle.dia_lines.specs.Forms.{assigned_at, first_at, offset_at, clock_at, when_at, prio_at, deadline_at, port_at, name_alone as is_name_alone, number_alone as is_number_alone, cost_end as is_cost_end, tick_alone as is_tick_alone};
 ghost use Rattle.dia_lines.specs.Delays.{delay_at};
 ghost use Rattle.dia_lines.specs.FormShapes.{clock_of};
+ghost use Rattle.dia_lines.specs.Places.{version_of};
 
 use crate::form::ClockForm;
 use dbp_plan::Name;
 use dia_tokens::{Symbol, Token, Word};
+
+/// The version of the language that has the number.
+pub(crate) fn version(value: i64) -> Option<u32>
+    ensures { result ≡ version_of value }
+{
+    match value {
+        1 => Some(1),
+        2 => Some(2),
+        _ => None,
+    }
+}
 
 /// `NAME =` at the front.
 pub(crate) fn assigned(tokens: &[Token]) -> Option<(Name, &[Token])>

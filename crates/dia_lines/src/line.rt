@@ -7,7 +7,7 @@ ghost use Rattle.dia_tokens.specs.Line.{Spells as SpellsTokens, HasBadStart};
 ghost use Rattle.dia_lines.specs.Answers.{Refuses, RefusesText, RefusesInDiagram, IsNextLine, RefusesAfter};
 ghost use Rattle.dia_lines.specs.Held.{IsHeld, IsKept};
 ghost use Rattle.dia_lines.specs.Lines.{Said, SaysStatement, SaysInScript, Reads, statements};
-ghost use Rattle.dia_lines.specs.Moves.{place_after_line, version_after_line};
+ghost use Rattle.dia_lines.specs.Moves.{kept_in_trace, place_after_line, version_after_line};
 ghost use Rattle.dia_lines.specs.Positions.{AreCounts, IsAfter};
 ghost use Rattle.dia_lines.specs.Statements.{Statement};
 ghost use Rattle.dia_lines.specs.declared.fault.LineError.TheVariants.{Refused, NoMemory as OutOfMemory};
@@ -16,7 +16,7 @@ ghost use Rattle.dia_lines.specs.declared.place.Place.TheVariants.{Script, Trace
 
 use crate::before_form::token_code;
 use crate::statement::statement;
-use crate::trace::trace_line;
+use crate::trace::{TraceLine, trace_line};
 use crate::{Counts, Line, LineError, Place, Position};
 use dia_tokens::{Token, Word, line_spelling, tokens_into};
 use std::alloc::Global;
@@ -99,31 +99,72 @@ fn version_after(version: u32, line: &Line) -> u32
     }
 }
 
-/// What the line says after those before it, and the counts after it.
+/// What is kept of a line of the trace section, and the position after it.
+fn after_trace_line(position: Position, line: TraceLine) -> (Line, Position)
+    ensures kept { result.0 ≡ kept_in_trace line }
+    ensures next { result.1
+        ≡ record position { place = place_after_line position.place (kept_in_trace line) } }
+{
+    match line {
+        TraceLine::Blank => (Line::Nothing, position),
+        TraceLine::Row => (Line::Row, position),
+        TraceLine::Script => {
+            let place = Place::Script;
+            (Line::Script, Position { place, ..position })
+        }
+        TraceLine::Done => {
+            let place = Place::Ended;
+            (Line::Done, Position { place, ..position })
+        }
+    }
+}
+
+/// What the line says after those before it, which aren't in the trace section, and the counts after it.
 fn counted_line(
     alloc: Global,
     position: Position,
     line: &[u8],
     tokens: &mut Vec<Token>,
 ) -> Result<(Line, Counts), LineError>
+    requires { position.place ≢ Trace }
     ensures found { (before : List Said) → IsAfter before position
         → IfOk result (λ r. (said : Said) × Reads before line.now said × IsHeld said r.0
         × AreCounts (statements (said ∷ before)) r.1) }
     ensures fault { (before : List Said) → IsAfter before position
         → IfErr result (λ e. Refuses before line.now e) }
-    ensures memory { position.place ≡ Trace → IfErr result (λ e. e ≢ OutOfMemory) }
     ensures bad_byte { list_all is_allowed line.now ≡ false → result ≡ Err (Refused BadByte) }
-    ensures bad_token { position.place ≢ Trace → position.place ≢ Script → HasBadStart line.now
+    ensures bad_token { position.place ≢ Script → HasBadStart line.now
         → result ≡ Err (Refused BadToken) }
 {
     match position.place {
-        Place::Trace => match trace_line(line) {
-            Ok(line) => Ok((line, position.counts)),
-            Err(code) => Err(LineError::from(code)),
-        },
         Place::Script => Ok((script_line(alloc, line)?, position.counts)),
         _ => diagram_line(alloc, position, line, tokens),
     }
+}
+
+/// What a line that isn't in the trace section says after those before it, and the position after it.
+fn line_outside_trace(
+    alloc: Global,
+    position: Position,
+    line: &[u8],
+    tokens: &mut Vec<Token>,
+) -> Result<(Line, Position), LineError>
+    requires { position.place ≢ Trace }
+    ensures found { IfOk result (λ r. IsNextLine position line.now r.0 r.1) }
+    ensures fault { IfErr result (λ e. RefusesAfter position line.now e) }
+    ensures bad_byte { list_all is_allowed line.now ≡ false → result ≡ Err (Refused BadByte) }
+    ensures bad_token { position.place ≢ Script → HasBadStart line.now
+        → result ≡ Err (Refused BadToken) }
+{
+    let (line, counts) = counted_line(alloc, position, line, tokens)?;
+    let version = version_after(position.version, &line);
+    let place = place_after(position.place, &line);
+    let next = Position {
+        version,
+        place,
+        counts,
+    };
+    Ok((line, next))
 }
 
 /// What the line says after those before it, and the position after it; or its first fault.
@@ -163,13 +204,9 @@ pub fn read_line_with(
     ensures bad_token { position.place ≢ Trace → position.place ≢ Script → HasBadStart line.now
         → result ≡ Err (Refused BadToken) }
 {
-    let (line, counts) = counted_line(alloc, position, line, tokens)?;
-    let version = version_after(position.version, &line);
-    let place = place_after(position.place, &line);
-    let next = Position {
-        version,
-        place,
-        counts,
-    };
-    Ok((line, next))
+    match position.place {
+        // A row has a way of its own, since a line is large and is moved at each return.
+        Place::Trace => Ok(after_trace_line(position, trace_line(line)?)),
+        _ => line_outside_trace(alloc, position, line, tokens),
+    }
 }

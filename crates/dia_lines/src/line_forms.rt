@@ -8,7 +8,7 @@ ghost use Rattle.dia_lines.specs.FormShapes.{clock_of, shape_of};
 use crate::form::{ClockForm, Form, ReadForm, TaskForm};
 use crate::fronts::{
     assigned, clock, cost_end, deadline, delay_at, first_value, name_alone, number_alone, port,
-    prio, tick_alone, when_name,
+    prio, tick_alone, version, when_name,
 };
 use dbp_plan::{Name, Policy};
 use dia_tokens::{Token, Word};
@@ -17,11 +17,8 @@ use dia_tokens::{Token, Word};
 fn header<'t>(tokens: &'t [Token]) -> Option<Form<'t>>
     ensures { option_map shape_of result ≡ header_at tokens.now }
 {
-    if number_alone(tokens)? == 1 {
-        Some(Form::Header(1))
-    } else {
-        None
-    }
+    let version = version(number_alone(tokens)?)?;
+    Some(Form::Header(version))
 }
 
 fn policy<'t>(tokens: &'t [Token]) -> Option<Form<'t>>

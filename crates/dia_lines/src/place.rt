@@ -3,7 +3,7 @@
 /// How far a document has been read: what its next line may say.
 #[derive(Clone, Copy, Debug, PartialEq, Eq)]
 pub enum Place {
-    /// `dbp 1` comes next.
+    /// `dbp 1` or `dbp 2` comes next.
     Header,
     /// The policy comes next.
     Policy,

@@ -7,8 +7,20 @@ ghost use Rattle.dia_lines.specs.Sections.{is_space, is_trace_byte};
 ghost use Rattle.dia_lines.specs.Trimmed.{after_spaces, before_spaces, trimmed};
 ghost use Rattle.dia_lines.specs.Lines.{Said, SaysInTrace};
 ghost use Rattle.dia_lines.specs.Held.{IsHeld};
+ghost use Rattle.dia_lines.specs.Moves.{kept_in_trace};
 
-use crate::{Line, ReadCode};
+use crate::ReadCode;
+
+/// What a line of the trace section is.
+#[derive(Clone, Copy)]
+pub(crate) enum TraceLine {
+    Blank,
+    /// A row, which is kept as it is.
+    Row,
+    /// The script section begins.
+    Script,
+    Done,
+}
 
 fn is_space_byte(byte: u8) -> bool
     ensures { result ≡ is_space byte }
@@ -67,8 +79,9 @@ fn trim(line: &[u8]) -> &[u8]
 }
 
 /// What a line of the trace section says, or its fault.
-pub(crate) fn trace_line(line: &[u8]) -> Result<Line, ReadCode>
-    ensures found { IfOk result (λ l. (said : Said) × SaysInTrace line.now said × IsHeld said l) }
+pub(crate) fn trace_line(line: &[u8]) -> Result<TraceLine, ReadCode>
+    ensures found { IfOk result (λ l. (said : Said) × SaysInTrace line.now said
+        × IsHeld said (kept_in_trace l)) }
     ensures fault { IfErr result (λ e. (e ≡ BadByte) × (list_all is_trace_byte line.now ≡ false)) }
 {
     if !all_allowed(line) {
@@ -76,12 +89,12 @@ pub(crate) fn trace_line(line: &[u8]) -> Result<Line, ReadCode>
     }
     let text = trim(line);
     if text.is_empty() {
-        Ok(Line::Nothing)
+        Ok(TraceLine::Blank)
     } else if text == b"done".as_slice() {
-        Ok(Line::Done)
+        Ok(TraceLine::Done)
     } else if text == b"script".as_slice() {
-        Ok(Line::Script)
+        Ok(TraceLine::Script)
     } else {
-        Ok(Line::Row)
+        Ok(TraceLine::Row)
     }
 }

@@ -1,6 +1,6 @@
 -- The canonical lines of a document's items say the items.
-use Rattle.std.proofs.Common.{◌≡◌, ℕ, pos, zero, suc, ◌+◌, ◌<◌, ◌≤◌, ◌^◌, Bool, true, false, All, List, [], ◌∷◌, ◌++◌, length, Option, Some, None, refl, sym, ap, subst, ◌∙◌, arith, append_assoc}
-use Rattle.std.specs.Prelude.{nat_lt}
+use Rattle.std.proofs.Common.{◌≡◌, ℕ, pos, zero, suc, ◌+◌, ◌<◌, ◌≤◌, ◌^◌, Bool, true, false, cond, All, List, [], ◌∷◌, ◌++◌, length, Option, Some, None, refl, sym, ap, subst, ◌∙◌, arith, append_assoc}
+use Rattle.std.specs.Prelude.{nat_lt, ◌==◌}
 use Rattle.std.specs.List.{AllByRecursion}
 use Rattle.std.specs.Option.{option_map, IfSome}
 use Rattle.std.proofs.lemmas.Bool.Decides.{nat_tests}
@@ -9,7 +9,7 @@ use Rattle.std.proofs.lemmas.List.Elements.{All-from_recursion, recursion_from_A
 use Rattle.dbp_plan.specs.declared.diagram.Policy.{Policy}
 use Rattle.dbp_plan.specs.declared.diagram.Policy.TheVariants.{Fp, Edf}
 use Rattle.dbp_plan.specs.declared.expr.Expr.{Expr}
-use Rattle.dbp_plan.specs.declared.limits.TheConstants.{MAX_NODES, MAX_TIME, MAX_PRIO}
+use Rattle.dbp_plan.specs.declared.limits.TheConstants.{MAX_NODES, MAX_TIME, MAX_PRIO, MAX_CPU}
 use Rattle.dbp_plan.specs.Expr.{tree_of}
 use Rattle.dbp_plan.specs.Limits.{max_delay, max_delay-le}
 use Rattle.dbp_plan.specs.Tree.{Tree, number, variable, unary, binary, choice, size_of, root_of, nodes_of}
@@ -39,10 +39,11 @@ use Rattle.dia_lines.specs.declared.place.Place.{Place}
 use Rattle.dia_lines.specs.declared.place.Place.TheVariants.{Header}
 use Rattle.dia_lines.specs.Delays.{delay_tokens}
 use Rattle.dia_lines.proofs.DelayLaws.{given_delay, longer-tokens, delay-spelled, each-delay-token}
+use Rattle.dia_lines.proofs.FormLaws.{in_five}
 use Rattle.dia_lines.specs.Lines.{token_fault, lacks_header, expression_of}
-use Rattle.dia_lines.specs.Statements.{Statement, header, policy, until, trace, script, done, state, sense, fixed_priorities, earliest_deadline, an_until, a_trace, a_script, an_end, a_header, SpellsClock, from_offset, with_event, always, SpellsOption, left_out, given, at_tick, IsStatement, an_input, an_event, a_task, a_state, a_sense, a_read, a_let_line, a_next_line, an_out}
+use Rattle.dia_lines.specs.Statements.{Statement, header, policy, until, trace, script, done, state, sense, fixed_priorities, earliest_deadline, an_until, a_trace, a_script, an_end, in_version_1, in_version_2, SpellsClock, from_offset, with_event, SpellsWhen, always, guarded, SpellsOption, left_out, given, at_tick, IsStatement, an_input, an_event, a_task, a_state, a_sense, a_read, a_let_line, a_next_line, an_out}
 use Rattle.dia_print.specs.ExpressionTokens.{tokens_of}
-use Rattle.dia_print.specs.ItemTokens.{assigned, decl_tokens, clock_tokens, option_tokens, task_tokens, source_tokens, part_tokens, policy_tokens, until_tokens, header_tokens}
+use Rattle.dia_print.specs.ItemTokens.{assigned, decl_tokens, clock_tokens, option_tokens, when_tokens, named_cpu, task_tokens, source_tokens, part_tokens, policy_tokens, until_tokens, header_tokens}
 use Rattle.dia_print.proofs.ItemStatements.{decl_statement, clock_of, header_of, task_statement, part_statement}
 use Rattle.dia_print.specs.Printable.{IsPrintableExpr, IsPrintableDecl, IsPrintableClock, IsPrintablePart, IsPrintableTaskLine}
 use Rattle.dia_print.proofs.ExpressionLaws.{spells-tokens, keeps-tokens, both-parts, each-printable, shallow}
@@ -61,12 +62,15 @@ option-says : (w : words.Word) (o : Option ℕ) → SpellsOption w (option_token
 option-says w None = left_out
 option-says w (Some n) = given (pos n)
 
-pub task-says : (t : TaskLine) → IsStatement (task_tokens t) (task_statement t)
-task-says t =
-    let ps = option_tokens word.Prio t.prio in
-    let ds = option_tokens word.Deadline t.deadline in
-    let all = a_task (header_of t) (clock_tokens t.clock) [] ps ds [] (clock-says t.clock) always (option-says word.Prio t.prio) (option-says word.Deadline t.deadline) left_out in
-    subst (λ (cs : List Token). IsStatement (Word word.Task ∷ Name t.name ∷ (cs ++ ps ++ ds ++ Word word.Cost ∷ Number (pos t.cost) ∷ [])) (task_statement t)) (append-nil (clock_tokens t.clock)) all
+when-says : (o : Option (List ℕ)) → SpellsWhen (when_tokens o) o
+when-says None = always
+when-says (Some n) = guarded n
+
+pub task-says : (version : ℕ) (t : TaskLine) → IsStatement (task_tokens version t) (task_statement version t)
+task-says version t =
+    let us = option_tokens word.Cpu (named_cpu version t.cpu) in
+    a_task (header_of version t) (clock_tokens t.clock) (when_tokens t.when) (option_tokens word.Prio t.prio) (option_tokens word.Deadline t.deadline) us
+    (clock-says t.clock) (when-says t.when) (option-says word.Prio t.prio) (option-says word.Deadline t.deadline) (option-says word.Cpu (named_cpu version t.cpu))
 
 pub part-says : (p : Part) → IsPrintablePart p → IsStatement (part_tokens p) (part_statement p)
 part-says (part.State n v) h = a_state n v
@@ -94,28 +98,37 @@ plain-depth : (k : ℕ) (ts : List Token) → AllByRecursion IsPlain ts → deep
 plain-depth k [] h = omega arith
 plain-depth k (t ∷ ts) h = let rest = plain-depth k ts h.1 in rw (h.0 k) (omega (arith, rest))
 
+-- the clock and the optional parts of a task's line before its cost
+abbrev options_of : TaskLine → List Token
+options_of t = clock_tokens t.clock ++ when_tokens t.when ++ option_tokens word.Prio t.prio ++ option_tokens word.Deadline t.deadline
+
+-- what holds of each token of these parts holds of each token of all
+options-each : (P : Token → Type 0) (t : TaskLine) → AllByRecursion P (clock_tokens t.clock) → AllByRecursion P (when_tokens t.when) → AllByRecursion P (option_tokens word.Prio t.prio)
+    → AllByRecursion P (option_tokens word.Deadline t.deadline) → AllByRecursion P (options_of t)
+options-each P t c w p d =
+    let cs = clock_tokens t.clock in
+    let ws = when_tokens t.when in
+    let ps = option_tokens word.Prio t.prio in
+    both-parts P (cs ++ ws ++ ps) (option_tokens word.Deadline t.deadline) (both-parts P (cs ++ ws) ps (both-parts P cs ws c w) p) d
+
 clock-plain : (c : RawClock) → AllByRecursion IsPlain (clock_tokens c)
 clock-plain (Every p o) = (λ k. refl, (λ k. refl, (λ k. refl, (λ k. refl, tt))))
 clock-plain (On n) = (λ k. refl, (λ k. refl, tt))
 
-prio-plain : (o : Option ℕ) → AllByRecursion IsPlain (option_tokens word.Prio o)
-prio-plain None = tt
-prio-plain (Some n) = (λ k. refl, (λ k. refl, tt))
+when-plain : (o : Option (List ℕ)) → AllByRecursion IsPlain (when_tokens o)
+when-plain None = tt
+when-plain (Some n) = (λ k. refl, (λ k. refl, tt))
 
-deadline-plain : (o : Option ℕ) → AllByRecursion IsPlain (option_tokens word.Deadline o)
-deadline-plain None = tt
-deadline-plain (Some n) = (λ k. refl, (λ k. refl, tt))
+option-plain : (w : words.Word) (o : Option ℕ) → AllByRecursion IsPlain (option_tokens w o)
+option-plain w None = tt
+option-plain w (Some n) = (λ k. refl, (λ k. refl, tt))
 
-task-plain : (t : TaskLine) → AllByRecursion IsPlain (task_tokens t)
-task-plain t = (
-  λ k. refl,
-  (
-    λ k. refl,
-    both-parts IsPlain (clock_tokens t.clock ++ option_tokens word.Prio t.prio ++ option_tokens word.Deadline t.deadline) (Word word.Cost ∷ Number (pos t.cost) ∷ [])
-        (both-parts IsPlain (clock_tokens t.clock ++ option_tokens word.Prio t.prio) (option_tokens word.Deadline t.deadline) (both-parts IsPlain (clock_tokens t.clock) (option_tokens word.Prio t.prio) (clock-plain t.clock) (prio-plain t.prio)) (deadline-plain t.deadline))
-        (λ k. refl, (λ k. refl, tt)),
-  ),
-)
+task-plain : (version : ℕ) (t : TaskLine) → AllByRecursion IsPlain (task_tokens version t)
+task-plain version t =
+    let us = option_tokens word.Cpu (named_cpu version t.cpu) in
+    let parts = options-each IsPlain t (clock-plain t.clock) (when-plain t.when) (option-plain word.Prio t.prio) (option-plain word.Deadline t.deadline) in
+    let end : AllByRecursion IsPlain (Word word.Cost ∷ Number (pos t.cost) ∷ us) = (λ k. refl, (λ k. refl, option-plain word.Cpu (named_cpu version t.cpu))) in
+    (λ k. refl, (λ k. refl, both-parts IsPlain (options_of t) (Word word.Cost ∷ Number (pos t.cost) ∷ us) parts end))
 
 read-plain : (n w p : List ℕ) (d a : ℕ) → AllByRecursion IsPlain (assigned word.Read n ++ (source_tokens d w p ++ Word word.At ∷ Number (pos a) ∷ []))
 read-plain n w p d a = (
@@ -170,15 +183,25 @@ option-keeps : (w : words.Word) (o : Option ℕ) (rest : List Token) → Follows
 option-keeps w None rest f s = f s
 option-keeps w (Some n) rest f s = (λ e. tt, (λ e. tt, f false))
 
-task-keeps : (t : TaskLine) → KeepsSigns true (task_tokens t)
-task-keeps t =
+when-keeps : (o : Option (List ℕ)) (rest : List Token) → Follows rest → Follows (when_tokens o ++ rest)
+when-keeps None rest f s = f s
+when-keeps (Some n) rest f s = (λ e. tt, (λ e. tt, f false))
+
+cpu-keeps : (o : Option ℕ) → Follows (option_tokens word.Cpu o)
+cpu-keeps None s = tt
+cpu-keeps (Some n) s = (λ e. tt, (λ e. tt, tt))
+
+task-keeps : (version : ℕ) (t : TaskLine) → KeepsSigns true (task_tokens version t)
+task-keeps version t =
     let cs = clock_tokens t.clock in
+    let ws = when_tokens t.when in
     let ps = option_tokens word.Prio t.prio in
     let ds = option_tokens word.Deadline t.deadline in
-    let costs : List Token = Word word.Cost ∷ Number (pos t.cost) ∷ [] in
-    let last : Follows costs = λ s. (λ e. tt, (λ e. tt, tt)) in
-    let all : KeepsSigns false (cs ++ (ps ++ (ds ++ costs))) = clock-keeps t.clock (ps ++ (ds ++ costs)) (option-keeps word.Prio t.prio (ds ++ costs) (option-keeps word.Deadline t.deadline costs last)) false in
-    let same : cs ++ (ps ++ (ds ++ costs)) ≡ cs ++ ps ++ ds ++ costs = sym (append_assoc cs ps (ds ++ costs)) ∙ sym (append_assoc (cs ++ ps) ds costs) in
+    let costs : List Token = Word word.Cost ∷ Number (pos t.cost) ∷ option_tokens word.Cpu (named_cpu version t.cpu) in
+    let last : Follows costs = λ s. (λ e. tt, (λ e. tt, cpu-keeps (named_cpu version t.cpu) false)) in
+    let options : Follows (ps ++ (ds ++ costs)) = option-keeps word.Prio t.prio (ds ++ costs) (option-keeps word.Deadline t.deadline costs last) in
+    let all : KeepsSigns false (cs ++ (ws ++ (ps ++ (ds ++ costs)))) = clock-keeps t.clock (ws ++ (ps ++ (ds ++ costs))) (when-keeps t.when (ps ++ (ds ++ costs)) options) false in
+    let same : cs ++ (ws ++ (ps ++ (ds ++ costs))) ≡ cs ++ ws ++ ps ++ ds ++ costs = in_five cs ws ps ds costs in
     (λ e. tt, (λ e. tt, subst (KeepsSigns false) same all))
 
 delay-keeps : (d : ℕ) (rest : List Token) → Follows rest → Follows (delay_tokens d ++ rest)
@@ -204,6 +227,10 @@ clock-tokens : (c : RawClock) → IsPrintableClock c → AllByRecursion IsPrinta
 clock-tokens (Every p o) h = (tt, (small p h.1, (tt, (small o h.2, tt))))
 clock-tokens (On n) h = (tt, (h, tt))
 
+when-tokens : (o : Option (List ℕ)) → IfSome o IsPrintableName → AllByRecursion IsPrintableToken (when_tokens o)
+when-tokens None h = tt
+when-tokens (Some n) h = (tt, (h, tt))
+
 option-tokens : (w : words.Word) (o : Option ℕ) → IfSome o (λ n. n < 2 ^ 63) → AllByRecursion IsPrintableToken (option_tokens w o)
 option-tokens w None h = tt
 option-tokens w (Some n) h = (tt, (h, tt))
@@ -212,23 +239,25 @@ small-prio : (o : Option ℕ) → IfSome o (λ p. p ≤ MAX_PRIO) → IfSome o (
 small-prio None h = tt
 small-prio (Some n) h = omega (arith, h)
 
+small-cpu : (version cpu : ℕ) → cpu ≤ MAX_CPU → IfSome (named_cpu version cpu) (λ n. n < 2 ^ 63)
+small-cpu version cpu h = by_version (version == 2)
+  where
+    by_version : (b : Bool) → IfSome (cond b (Some cpu) None) (λ n. n < 2 ^ 63)
+    by_version true = omega (arith, h)
+    by_version false = tt
+
 small-deadline : (o : Option ℕ) → IfSome o (λ d. (1 ≤ d) × (d ≤ MAX_TIME)) → IfSome o (λ n. n < 2 ^ 63)
 small-deadline None h = tt
 small-deadline (Some n) h = small n h.1
 
-task-printable : (t : TaskLine) → IsPrintableTaskLine t → AllByRecursion IsPrintableToken (task_tokens t)
-task-printable t h =
-    let cs = clock_tokens t.clock in
-    let ps = option_tokens word.Prio t.prio in
-    let ds = option_tokens word.Deadline t.deadline in (
-      tt,
-      (
-        h.named,
-        both-parts IsPrintableToken (cs ++ ps ++ ds) (Word word.Cost ∷ Number (pos t.cost) ∷ [])
-            (both-parts IsPrintableToken (cs ++ ps) ds (both-parts IsPrintableToken cs ps (clock-tokens t.clock h.clock) (option-tokens word.Prio t.prio (small-prio t.prio h.prio))) (option-tokens word.Deadline t.deadline (small-deadline t.deadline h.deadline)))
-            (tt, (small t.cost h.cost.1, tt)),
-      ),
-    )
+task-printable : (version : ℕ) (t : TaskLine) → IsPrintableTaskLine t → AllByRecursion IsPrintableToken (task_tokens version t)
+task-printable version t h =
+    let us = option_tokens word.Cpu (named_cpu version t.cpu) in
+    let prio = option-tokens word.Prio t.prio (small-prio t.prio h.prio) in
+    let deadline = option-tokens word.Deadline t.deadline (small-deadline t.deadline h.deadline) in
+    let cpu = option-tokens word.Cpu (named_cpu version t.cpu) (small-cpu version t.cpu h.cpu) in
+    let parts = options-each IsPrintableToken t (clock-tokens t.clock h.clock) (when-tokens t.when h.when) prio deadline in
+    (tt, (h.named, both-parts IsPrintableToken (options_of t) (Word word.Cost ∷ Number (pos t.cost) ∷ us) parts (tt, (small t.cost h.cost.1, cpu))))
 
 read-printable : (n w p : List ℕ) (d a : ℕ) → IsPrintableName n → d ≤ max_delay → IsPrintableName w → IsPrintableName p → a ≤ MAX_TIME
     → AllByRecursion IsPrintableToken (assigned word.Read n ++ (source_tokens d w p ++ Word word.At ∷ Number (pos a) ∷ []))
@@ -282,8 +311,9 @@ module _ (place : Place) (after : IsAfterHeader place) where
       (tt, (h.0, (tt, (h.1, tt)))) (λ e. tt, (λ e. tt, (λ e. tt, (λ e. absurd cc, tt))))
   decl-line (Event n) h = plain-line (decl_tokens (Event n)) (decl_statement (Event n)) refl (λ k. refl, (λ k. refl, tt)) (decl-says (Event n)) (tt, (h, tt)) (λ e. tt, (λ e. tt, tt))
 
-  pub task-line : (t : TaskLine) → IsPrintableTaskLine t → IsLine place (task_tokens t) (task_statement t)
-  task-line t h = plain-line (task_tokens t) (task_statement t) refl (task-plain t) (task-says t) (task-printable t h) (task-keeps t)
+  pub task-line : (version : ℕ) (t : TaskLine) → IsPrintableTaskLine t → IsLine place (task_tokens version t) (task_statement version t)
+  task-line version t h =
+      plain-line (task_tokens version t) (task_statement version t) refl (task-plain version t) (task-says version t) (task-printable version t h) (task-keeps version t)
 
   pub part-line : (p : Part) → IsPrintablePart p → IsLine place (part_tokens p) (part_statement p)
   part-line (part.State n v) h =
@@ -329,10 +359,18 @@ module _ (place : Place) (after : IsAfterHeader place) where
   pub done-line : IsLine place (Word word.Done ∷ []) done
   done-line = plain-line (Word word.Done ∷ []) done refl (λ k. refl, tt) an_end (tt, tt) (λ e. tt, tt)
 
-pub header-line : IsLine Header header_tokens (header 1)
-header-line = record {
-  form = a_header;
-  printable = All-from_recursion IsPrintableToken header_tokens (tt, (omega arith, tt));
+pub header-line : (version : ℕ) → (1 ≤ version) × (version ≤ 2) → IsLine Header (header_tokens version) (header version)
+header-line zero h = absurd (omega (arith, h.0))
+header-line (suc zero) h = record {
+  form = in_version_1;
+  printable = All-from_recursion IsPrintableToken (header_tokens 1) (tt, (omega arith, tt));
   signs = (λ e. tt, (λ e. tt, tt));
-  faultless = plain-faultless Header header_tokens refl refl (λ k. refl, (λ k. refl, tt));
+  faultless = plain-faultless Header (header_tokens 1) refl refl (λ k. refl, (λ k. refl, tt));
 }
+header-line (suc (suc zero)) h = record {
+  form = in_version_2;
+  printable = All-from_recursion IsPrintableToken (header_tokens 2) (tt, (omega arith, tt));
+  signs = (λ e. tt, (λ e. tt, tt));
+  faultless = plain-faultless Header (header_tokens 2) refl refl (λ k. refl, (λ k. refl, tt));
+}
+header-line (suc (suc (suc more))) h = absurd (omega (arith, h.1))

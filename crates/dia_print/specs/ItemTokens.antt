@@ -1,5 +1,5 @@
 -- The tokens of the lines of a document in canonical form.
-use Rattle.std.specs.Prelude.{ℕ, pos, List, [], ◌∷◌, ◌++◌, Option, Some, None}
+use Rattle.std.specs.Prelude.{ℕ, pos, ◌==◌, List, [], ◌∷◌, ◌++◌, Option, Some, None, if◌then◌else◌}
 use Rattle.dbp_plan.specs.declared.diagram.Policy.{Policy}
 use Rattle.dbp_plan.specs.declared.diagram.Policy.TheVariants.{Fp, Edf}
 use Rattle.dbp_plan.specs.Expr.{tree_of}
@@ -18,8 +18,8 @@ use Rattle.dia_lines.specs.declared.item.RawClock.TheVariants.{Every, On}
 use Rattle.dia_lines.specs.declared.item.TaskLine.{TaskLine}
 use Rattle.dia_print.specs.ExpressionTokens.{tokens_of}
 
-abbrev pub header_tokens : List Token
-header_tokens = Word word.Dbp ∷ Number (pos 1) ∷ []
+abbrev pub header_tokens : ℕ → List Token
+header_tokens version = Word word.Dbp ∷ Number (pos version) ∷ []
 
 abbrev pub policy_tokens : Policy → List Token
 policy_tokens Fp = Word word.Policy ∷ Word word.Fp ∷ []
@@ -46,10 +46,20 @@ abbrev pub option_tokens : words.Word → Option ℕ → List Token
 option_tokens w None = []
 option_tokens w (Some n) = Word w ∷ Number (pos n) ∷ []
 
-abbrev pub task_tokens : TaskLine → List Token
-task_tokens t =
-    Word word.Task ∷ Name t.name ∷ (clock_tokens t.clock ++ option_tokens word.Prio t.prio ++ option_tokens word.Deadline t.deadline
-    ++ Word word.Cost ∷ Number (pos t.cost) ∷ [])
+-- the input that must not be 0, if there is one
+abbrev pub when_tokens : Option (List ℕ) → List Token
+when_tokens None = []
+when_tokens (Some n) = Word word.When ∷ Name n ∷ []
+
+-- the processor, if task lines of the version name it: in version 2 it is always there
+abbrev pub named_cpu : ℕ → ℕ → Option ℕ
+named_cpu version cpu = if version == 2 then Some cpu else None
+
+-- the line that begins a task, in a document of the version
+abbrev pub task_tokens : ℕ → TaskLine → List Token
+task_tokens version t =
+    Word word.Task ∷ Name t.name ∷ (clock_tokens t.clock ++ when_tokens t.when ++ option_tokens word.Prio t.prio ++ option_tokens word.Deadline t.deadline
+    ++ Word word.Cost ∷ Number (pos t.cost) ∷ option_tokens word.Cpu (named_cpu version t.cpu))
 
 abbrev pub source_tokens : ℕ → List ℕ → List ℕ → List Token
 source_tokens delay writer port = delay_tokens delay ++ Name writer ∷ Symbol Point ∷ Name port ∷ []

@@ -1,8 +1,8 @@
 -- Items of a document that a text can have.
-use Rattle.std.specs.Prelude.{◌≡◌, ℕ, ◌≤◌, All, List, None}
+use Rattle.std.specs.Prelude.{ℕ, ◌≤◌, All, List}
 use Rattle.std.specs.Option.{IfSome}
 use Rattle.dbp_plan.specs.declared.expr.Expr.{Expr}
-use Rattle.dbp_plan.specs.declared.limits.TheConstants.{MAX_TIME, MAX_PRIO}
+use Rattle.dbp_plan.specs.declared.limits.TheConstants.{MAX_TIME, MAX_PRIO, MAX_CPU}
 use Rattle.dbp_plan.specs.Limits.{max_delay}
 use Rattle.dia_exprs.specs.Printable.{IsPrintableNode}
 use Rattle.dia_tokens.specs.Printable.{IsPrintableName, IsPrintableNumber}
@@ -34,12 +34,11 @@ IsPrintablePart (part.Let n e) = IsPrintableName n × IsPrintableExpr e
 IsPrintablePart (part.Next n e) = IsPrintableName n × IsPrintableExpr e
 IsPrintablePart (part.Out n v e) = IsPrintableName n × IsPrintableNumber v × IsPrintableExpr e
 
--- canonical text has neither `when` nor `cpu`
 pub record IsPrintableTaskLine (t : TaskLine) : Type 0 where
   pub named : IsPrintableName t.name
   pub clock : IsPrintableClock t.clock
-  pub when : t.when ≡ None
+  pub when : IfSome t.when IsPrintableName
   pub prio : IfSome t.prio (λ p. p ≤ MAX_PRIO)
   pub deadline : IfSome t.deadline (λ d. (1 ≤ d) × (d ≤ MAX_TIME))
   pub cost : (1 ≤ t.cost) × (t.cost ≤ MAX_TIME)
-  pub cpu : t.cpu ≡ 0
+  pub cpu : t.cpu ≤ MAX_CPU

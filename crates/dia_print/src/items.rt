@@ -3,7 +3,7 @@
 ghost use Rattle.std.specs.Prelude.{◌≡◌, OnOk};
 ghost use Rattle.std.specs.Option.{option_map};
 ghost use Rattle.dia_lines.specs.Delays.{delay_tokens};
-ghost use Rattle.dia_print.specs.ItemTokens.{policy_tokens, until_tokens, decl_tokens, clock_tokens, option_tokens, task_tokens, part_tokens, header_tokens, assigned, source_tokens};
+ghost use Rattle.dia_print.specs.ItemTokens.{policy_tokens, until_tokens, decl_tokens, clock_tokens, option_tokens, when_tokens, named_cpu, task_tokens, part_tokens, header_tokens, assigned, source_tokens};
 ghost use Rattle.dia_print.specs.Printed.{with_tokens};
 
 use crate::Printer;
@@ -37,6 +37,28 @@ fn push_clock(printer: &mut Printer, clock: RawClock) -> Result<(), NoMemory>
             printer.push(Token::Word(Word::On))?;
             printer.push(Token::Name(event))
         }
+    }
+}
+
+/// `when` and the input, if it is there.
+fn push_when(printer: &mut Printer, input: Option<Name>) -> Result<(), NoMemory>
+    ensures { OnOk result (printer.new ≡ with_tokens printer.old (when_tokens input)) }
+{
+    if let Some(name) = input {
+        printer.push(Token::Word(Word::When))?;
+        printer.push(Token::Name(name))?;
+    }
+    Ok(())
+}
+
+/// The processor, if task lines of the version name it.
+fn cpu_of_version(version: u32, cpu: u32) -> Option<u64>
+    ensures { result ≡ named_cpu version cpu }
+{
+    if version == 2 {
+        Some(u64::from(cpu))
+    } else {
+        None
     }
 }
 
@@ -76,12 +98,12 @@ impl Printer {
     ghost use Rattle.dia_print.specs.ItemTokens.{policy_tokens, until_tokens, decl_tokens, task_tokens, part_tokens, header_tokens};
     ghost use Rattle.dia_print.specs.Printed.{with_tokens};
 
-    /// Adds the line that begins a document.
-    pub fn push_header(&mut self) -> Result<(), NoMemory>
-        ensures { OnOk result (self.new ≡ with_tokens self.old header_tokens) }
+    /// Adds the line that begins a document of the version.
+    pub fn push_header(&mut self, version: u32) -> Result<(), NoMemory>
+        ensures { OnOk result (self.new ≡ with_tokens self.old (header_tokens version)) }
     {
         self.push(Token::Word(Word::Dbp))?;
-        self.push_count(1)
+        self.push_count(u64::from(version))
     }
 
     /// Adds the line of the policy.
@@ -119,17 +141,19 @@ impl Printer {
         }
     }
 
-    /// Adds the line that begins a task.
-    pub fn push_task(&mut self, task: TaskLine) -> Result<(), NoMemory>
-        ensures { OnOk result (self.new ≡ with_tokens self.old (task_tokens task)) }
+    /// Adds the line that begins a task, in a document of the version.
+    pub fn push_task(&mut self, version: u32, task: TaskLine) -> Result<(), NoMemory>
+        ensures { OnOk result (self.new ≡ with_tokens self.old (task_tokens version task)) }
     {
         self.push(Token::Word(Word::Task))?;
         self.push(Token::Name(task.name))?;
         push_clock(self, task.clock)?;
+        push_when(self, task.when)?;
         push_option(self, Word::Prio, task.prio.map(u64::from))?;
         push_option(self, Word::Deadline, task.deadline)?;
         self.push(Token::Word(Word::Cost))?;
-        self.push_count(task.cost)
+        self.push_count(task.cost)?;
+        push_option(self, Word::Cpu, cpu_of_version(version, task.cpu))
     }
 
     /// Adds a line of a task's body, without the spaces before it.

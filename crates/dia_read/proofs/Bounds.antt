@@ -65,7 +65,7 @@ text-fits text line bytes more h k = omega (arith, length-append (text ++ line) 
 
 pub bounded-more : (d : Draft) (number lines bytes add : ℕ) (text : List ℕ) (l : Line) → Bounded d lines bytes → KeptFits l text add → Bounded (drafted d number text l) (lines + 1) (bytes + add)
 bounded-more d k n m a text line.Nothing b f = still d n m a b
-bounded-more d k n m a text (line.Header v) b f = still d n m a b
+bounded-more d k n m a text (line.Header v) b f = let s = still d n m a b in record { decls = s.decls; tasks = s.tasks; parts = s.parts; trace = s.trace; script = s.script; decl_lines = s.decl_lines; task_lines = s.task_lines; part_lines = s.part_lines; row_lines = s.row_lines; step_lines = s.step_lines }
 bounded-more d k n m a text (line.Policy p) b f = let s = still d n m a b in record { decls = s.decls; tasks = s.tasks; parts = s.parts; trace = s.trace; script = s.script; decl_lines = s.decl_lines; task_lines = s.task_lines; part_lines = s.part_lines; row_lines = s.row_lines; step_lines = s.step_lines }
 bounded-more d k n m a text (line.Until p) b f = let s = still d n m a b in record { decls = s.decls; tasks = s.tasks; parts = s.parts; trace = s.trace; script = s.script; decl_lines = s.decl_lines; task_lines = s.task_lines; part_lines = s.part_lines; row_lines = s.row_lines; step_lines = s.step_lines }
 bounded-more d k n m a text (line.Decl e) b f = let s = still d n m a b in record { decls = more d.decls e n b.decls; tasks = s.tasks; parts = s.parts; trace = s.trace; script = s.script; decl_lines = more d.lines.decls k n b.decl_lines; task_lines = s.task_lines; part_lines = s.part_lines; row_lines = s.row_lines; step_lines = s.step_lines }

@@ -150,13 +150,14 @@ tasks-one ss ts us d e = go ss ss ts us refl d e
 
 body-one : (lines : List Said) (a b : Body) → IsBody lines a → IsBody lines b → a ≡ b
 body-one lines a b x y =
+    let the_version : a.version ≡ b.version = (let e : a.version ∷ [] ≡ b.version ∷ [] = sym x.header_line ∙ y.header_line in cc) in
     let the_policy : a.policy ≡ b.policy = (let e : a.policy ∷ [] ≡ b.policy ∷ [] = sym x.policy_line ∙ y.policy_line in cc) in
     let the_until : a.until ≡ b.until = (let e : pos a.until ∷ [] ≡ pos b.until ∷ [] = sym x.until_line ∙ y.until_line in cc) in
     let the_decls : a.decls ≡ b.decls = fit-one IsDecl decl-one _ a.decls b.decls x.decls y.decls in
     let the_tasks : a.tasks ≡ b.tasks = tasks-one _ a.tasks b.tasks x.tasks y.tasks in
     let the_trace : a.trace ≡ b.trace = x.traced ∙ sym y.traced in
     let the_script : a.script ≡ b.script = x.scripted ∙ sym y.scripted in
-    λ i. record { policy = the_policy i; until = the_until i; decls = the_decls i; tasks = the_tasks i; trace = the_trace i; script = the_script i }
+    λ i. record { version = the_version i; policy = the_policy i; until = the_until i; decls = the_decls i; tasks = the_tasks i; trace = the_trace i; script = the_script i }
 
 item-lines-one : (lines : List Said) (a b : DocLines) → AreItemLines lines a → AreItemLines lines b → a ≡ b
 item-lines-one lines a b x y =

@@ -16,7 +16,7 @@ use Rattle.dia_read.specs.Answers.{Refuses}
 use Rattle.dia_read.specs.Refusals.{refused_at}
 use Rattle.dia_read.specs.Documents.{Run, Spells, is_trace, is_statement_of, lines_with, IsFirstLine, is_blank_text, IsFirstFault, at_a_line, no_end}
 use Rattle.dia_read.specs.Drafts.{finished}
-use Rattle.dia_read.proofs.Once.{policies_before, ends_before, dones_before, traces_before}
+use Rattle.dia_read.proofs.Once.{headers_before, policies_before, ends_before, dones_before, traces_before}
 use Rattle.dia_read.proofs.Holding.{last_or}
 use Rattle.dia_read.proofs.Reaching.{Reached}
 
@@ -48,6 +48,7 @@ module _ (bytes : List ℕ) (number : ℕ) (position : Position) (draft : Draft)
         run = run;
         ended = here;
         body = record {
+          header_line = single _ _ draft.version (o.header ∙ ap headers_before here) h.ends.version;
           policy_line = single _ _ draft.policy (o.policy ∙ ap policies_before here) h.ends.policy;
           until_line = single _ _ (pos draft.until) (o.until ∙ ap ends_before here) h.ends.until;
           decls = h.items.decls;

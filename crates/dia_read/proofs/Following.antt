@@ -28,6 +28,7 @@ use Rattle.dia_print.proofs.ItemLaws.{IsLine}
 use Rattle.dia_read.specs.declared.draft.Draft.{Draft}
 use Rattle.dia_read.specs.Documents.{kept_text}
 use Rattle.dia_read.specs.Drafts.{empty_draft, drafted}
+use Rattle.dia_read.proofs.Holding.{version-said}
 use Rattle.dia_read.proofs.Printing.{Prints, PrintsAll}
 use Rattle.dia_read.proofs.Reaching.{Reached, reached-start, reached-more}
 
@@ -106,11 +107,12 @@ at-same bytes xs ys place content e at = subst (λ rest. At bytes rest place con
 -- after a line
 pub next-line : (bytes text rest : List ℕ) (place q : Place) (content : Draft) (said : Said) (l : Line) → list_all is_inside text ≡ true → IsHeld said l
     → ((before : List Said) → place_after before ≡ place → place_after (said ∷ before) ≡ q)
-    → ((before : List Said) (d : Draft) → place_after before ≡ place → bare d ≡ content → PrintsAll (statements before) d → Reads before text said)
+    → ((before : List Said) (d : Draft) → place_after before ≡ place → version_after before ≡ content.version → bare d ≡ content → PrintsAll (statements before) d → Reads before text said)
     → At bytes (text ++ 10 ∷ rest) place content → At bytes rest q (bare (drafted content 0 (kept_text said) l))
 next-line bytes text rest place q content said l inside held stands reads at =
     let r = at.reached in
     let there : place_after r.before ≡ place = sym r.after.place ∙ at.here in
+    let named : version_after r.before ≡ content.version = version-said r.before ∙ r.holds.ends.version ∙ ap (λ (d : Draft). d.version) at.holds in
     let next = position_at (said ∷ r.before) in
     let size = length-append text (10 ∷ rest) in
     record {
@@ -118,7 +120,7 @@ next-line bytes text rest place q content said l inside held stands reads at =
       position = next;
       draft = drafted at.draft (at.number + 1) (kept_text said) l;
       reached = reached-more bytes (text ++ 10 ∷ rest) at.number at.position at.draft r text rest (lines_of-line text rest inside) (omega (arith, size)) (omega (arith, size)) l next
-          (said, reads r.before at.draft there at.holds r.printing, held, after-there (said ∷ r.before));
+          (said, reads r.before at.draft there named at.holds r.printing, held, after-there (said ∷ r.before));
       here = stands r.before there;
       holds = bare-drafted at.draft (at.number + 1) (kept_text said) l ∙ ap (λ (d : Draft). bare (drafted d 0 (kept_text said) l)) at.holds;
     }
@@ -129,24 +131,24 @@ within-limits ss s e f = rw (e, f) refl
 
 -- after a line of the diagram
 pub diagram-line : (bytes text rest : List ℕ) (place q : Place) (content : Draft) (ts : List Token) (s : Statement) (l : Line) → IsLine place ts s → SpellsTokens text ts
-    → keeps_lines place ≡ false → leads place s ≡ Some q → ((version : ℕ) → is_of_version version s ≡ true) → numbers_fit s ≡ true
+    → keeps_lines place ≡ false → leads place s ≡ Some q → is_of_version content.version s ≡ true → numbers_fit s ≡ true
     → ((ss : List Statement) (d : Draft) → bare d ≡ content → Prints ss d → passed_count ss s ≡ None) → IsKept s l
     → At bytes (text ++ 10 ∷ rest) place content → At bytes rest q (bare (drafted content 0 [] l))
 diagram-line bytes text rest place q content ts s l is spelled diagram stands known numbers room kept at =
     next-line bytes text rest place q content (says s) l (spelled-inside text ts spelled) kept
     (λ before here. rw (here, stands) refl)
-    (λ before d here holds prints. of_the_diagram text s (rw here diagram) (record {
+    (λ before d here named holds prints. of_the_diagram text s (rw here diagram) (record {
       tokens = ts;
       spelled = spelled;
       faultless = rw here is.faultless;
-      stands = record { form = is.form; next = q; stands = rw here stands; known = known (version_after before) };
+      stands = record { form = is.form; next = q; stands = rw here stands; known = rw named known };
       within = within-limits (statements before) s numbers (room (statements before) d holds prints.items);
     }))
     at
 
 -- the same, if the line is that of its tokens
 pub token-line : (bytes rest : List ℕ) (place q : Place) (content : Draft) (ts : List Token) (s : Statement) (l : Line) → IsLine place ts s
-    → keeps_lines place ≡ false → leads place s ≡ Some q → ((version : ℕ) → is_of_version version s ≡ true) → numbers_fit s ≡ true
+    → keeps_lines place ≡ false → leads place s ≡ Some q → is_of_version content.version s ≡ true → numbers_fit s ≡ true
     → ((ss : List Statement) (d : Draft) → bare d ≡ content → Prints ss d → passed_count ss s ≡ None) → IsKept s l
     → At bytes (line_text ts ++ 10 ∷ [] ++ rest) place content → At bytes rest q (bare (drafted content 0 [] l))
 token-line bytes rest place q content ts s l is diagram stands known numbers room kept at =
@@ -155,7 +157,7 @@ token-line bytes rest place q content ts s l is diagram stands known numbers roo
 
 -- after two spaces
 pub indented-line : (bytes rest : List ℕ) (place q : Place) (content : Draft) (ts : List Token) (s : Statement) (l : Line) → IsLine place ts s
-    → keeps_lines place ≡ false → leads place s ≡ Some q → ((version : ℕ) → is_of_version version s ≡ true) → numbers_fit s ≡ true
+    → keeps_lines place ≡ false → leads place s ≡ Some q → is_of_version content.version s ≡ true → numbers_fit s ≡ true
     → ((ss : List Statement) (d : Draft) → bare d ≡ content → Prints ss d → passed_count ss s ≡ None) → IsKept s l
     → At bytes (codes "  " ++ (line_text ts ++ 10 ∷ []) ++ rest) place content → At bytes rest q (bare (drafted content 0 [] l))
 indented-line bytes rest place q content ts s l is diagram stands known numbers room kept at =

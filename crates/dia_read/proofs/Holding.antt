@@ -1,5 +1,5 @@
 -- A draft holds what the lines so far say together.
-use Rattle.std.proofs.Common.{◌≡◌, ℕ, pos, ◌+◌, ◌≤◌, Bool, true, false, List, [], ◌∷◌, ◌++◌, length, filter, Option, Some, refl, sym, ap, ◌∙◌, subst, append_assoc, arith}
+use Rattle.std.proofs.Common.{◌≡◌, ℕ, pos, ◌+◌, ◌≤◌, Bool, true, false, List, [], ◌∷◌, ◌++◌, length, filter, reverse, Option, Some, refl, sym, ap, ◌∙◌, subst, append_assoc, arith}
 use Rattle.std.specs.Prelude.{◌||◌}
 use Rattle.std.specs.List.{list_any}
 use Rattle.std.specs.Option.{option_to_list}
@@ -16,15 +16,15 @@ use Rattle.dia_lines.specs.declared.item.TaskLine.{TaskLine}
 use Rattle.dia_lines.specs.Statements.{Statement, nothing, header, policy, until, input, event, task, state, sense, read, a_let, a_next, out, trace, script, done}
 use Rattle.dia_lines.specs.Places.{is_body, is_declaration}
 use Rattle.dia_lines.specs.Limits.{is_task}
-use Rattle.dia_lines.specs.Lines.{Said, says, row, step, statements}
+use Rattle.dia_lines.specs.Lines.{Said, says, row, step, version_after, statements}
 use Rattle.dia_lines.specs.Held.{IsDecl, IsTaskLine, IsPart, IsHeld}
 use Rattle.dia_read.specs.declared.document.RawTask.{RawTask}
 use Rattle.dia_read.specs.declared.draft.Draft.{Draft}
 use Rattle.dia_read.specs.declared.draft.Section.{Section}
 use Rattle.dia_read.specs.declared.draft.Tasks.{Tasks}
-use Rattle.dia_read.specs.Documents.{policies, ends, Fit, none, AreTasks, no_task, is_of_task, is_trace, is_script, is_until, is_done, is_statement_of, is_row, is_step, kept_text, lines_from, lines_with, kept}
+use Rattle.dia_read.specs.Documents.{versions, policies, ends, Fit, none, AreTasks, no_task, is_of_task, is_trace, is_script, is_until, is_done, is_statement_of, is_row, is_step, kept_text, lines_from, lines_with, kept}
 use Rattle.dia_read.specs.Drafts.{empty_draft, task_of, added, with_part, drafted}
-use Rattle.dia_read.proofs.OneMore.{policies-more, ends-more, filter-more, lines-more, kept-more}
+use Rattle.dia_read.proofs.OneMore.{reverse-more, versions-more, policies-more, ends-more, filter-more, lines-more, kept-more}
 use Rattle.dia_read.proofs.Fitting.{fit-more, task-more, part-more}
 
 -- the last of the items, or else this
@@ -36,12 +36,28 @@ last_or-append : {A : Type 0} (xs ys : List A) (d : A) → last_or (xs ++ ys) d 
 last_or-append [] ys d = refl
 last_or-append (x ∷ xs) ys d = last_or-append xs ys x
 
+-- the version after lines is the last that they name
+pub version-said : (before : List Said) → version_after before ≡ last_or (versions (statements (reverse before))) 1
+version-said [] = refl
+version-said (x ∷ before) =
+    let split = ap (λ (said : List Said). last_or (versions (statements said)) 1) (reverse-more x before) ∙ ap (λ vs. last_or vs 1) (versions-more (reverse before) x)
+    ∙ last_or-append (versions (statements (reverse before))) (versions (statements (x ∷ []))) 1 in
+    one-more x (version-said before) ∙ sym split
+  where
+    one-more : (x : Said) → version_after before ≡ last_or (versions (statements (reverse before))) 1
+        → version_after (x ∷ before) ≡ last_or (versions (statements (x ∷ []))) (last_or (versions (statements (reverse before))) 1)
+    one-more (says (header v)) e = refl
+    one-more (says s) e = e
+    one-more (row t) e = e
+    one-more (step t) e = e
+
 abbrev pub all_tasks : Tasks → List RawTask
 all_tasks t = t.earlier ++ option_to_list t.latest
 
 -- ---- the first lines and the last one
 
 pub record HoldsEnds (said : List Said) (d : Draft) : Type 0 where
+  pub version : last_or (versions (statements said)) 1 ≡ d.version
   pub policy : last_or (policies (statements said)) Fp ≡ d.policy
   pub until : last_or (ends (statements said)) (pos 0) ≡ pos d.until
   pub until_at : last_or (lines_with (is_statement_of is_until) said) 0 ≡ d.lines.until_at
@@ -49,14 +65,16 @@ pub record HoldsEnds (said : List Said) (d : Draft) : Type 0 where
   pub trace_at : last_or (lines_with (is_statement_of is_trace) said) 0 ≡ d.lines.trace_at
 
 ends-with : (said : List Said) (x : Said) (d e : Draft) → HoldsEnds said d
+    → last_or (versions (statements (x ∷ []))) d.version ≡ e.version
     → last_or (policies (statements (x ∷ []))) d.policy ≡ e.policy → last_or (ends (statements (x ∷ []))) (pos d.until) ≡ pos e.until
     → last_or (lines_from (length said + 1) (is_statement_of is_until) (x ∷ [])) d.lines.until_at ≡ e.lines.until_at
     → last_or (lines_from (length said + 1) (is_statement_of is_done) (x ∷ [])) d.lines.done_at ≡ e.lines.done_at
     → last_or (lines_from (length said + 1) (is_statement_of is_trace) (x ∷ [])) d.lines.trace_at ≡ e.lines.trace_at
     → HoldsEnds (said ++ x ∷ []) e
-ends-with said x d e h one two three four five =
+ends-with said x d e h zero one two three four five =
     let lines = λ (kind : Said → Bool). ap (λ ns. last_or ns 0) (lines-more kind said x) ∙ last_or-append (lines_with kind said) (lines_from (length said + 1) kind (x ∷ [])) 0 in
     record {
+      version = ap (λ vs. last_or vs 1) (versions-more said x) ∙ last_or-append (versions (statements said)) (versions (statements (x ∷ []))) 1 ∙ ap (last_or (versions (statements (x ∷ [])))) h.version ∙ zero;
       policy = ap (λ ps. last_or ps Fp) (policies-more said x) ∙ last_or-append (policies (statements said)) (policies (statements (x ∷ []))) Fp ∙ ap (last_or (policies (statements (x ∷ [])))) h.policy ∙ one;
       until = ap (λ es. last_or es (pos 0)) (ends-more said x) ∙ last_or-append (ends (statements said)) (ends (statements (x ∷ []))) (pos 0) ∙ ap (last_or (ends (statements (x ∷ [])))) h.until ∙ two;
       until_at = lines (is_statement_of is_until) ∙ ap (last_or (lines_from (length said + 1) (is_statement_of is_until) (x ∷ []))) h.until_at ∙ three;
@@ -162,6 +180,7 @@ record IsBodyKind (s : Statement) : Type 0 where
   body : is_body s ≡ true
   no_task : is_task s ≡ false
   no_declaration : is_declaration s ≡ false
+  no_version : versions (s ∷ []) ≡ []
   no_policy : policies (s ∷ []) ≡ []
   no_end : ends (s ∷ []) ≡ []
   no_until : is_until s ≡ false
@@ -170,12 +189,12 @@ record IsBodyKind (s : Statement) : Type 0 where
   no_script : is_script s ≡ false
 
 body-kind : (s : Statement) (p : Part) → IsPart s p → IsBodyKind s
-body-kind (state n v) (part.State m w) i = record { body = refl; no_task = refl; no_declaration = refl; no_policy = refl; no_end = refl; no_until = refl; no_done = refl; no_trace = refl; no_script = refl }
-body-kind (sense n v) (part.Sense m w) i = record { body = refl; no_task = refl; no_declaration = refl; no_policy = refl; no_end = refl; no_until = refl; no_done = refl; no_trace = refl; no_script = refl }
-body-kind (read n d w p a) (part.Read m e x q b) i = record { body = refl; no_task = refl; no_declaration = refl; no_policy = refl; no_end = refl; no_until = refl; no_done = refl; no_trace = refl; no_script = refl }
-body-kind (a_let n v) (part.Let m w) i = record { body = refl; no_task = refl; no_declaration = refl; no_policy = refl; no_end = refl; no_until = refl; no_done = refl; no_trace = refl; no_script = refl }
-body-kind (a_next n v) (part.Next m w) i = record { body = refl; no_task = refl; no_declaration = refl; no_policy = refl; no_end = refl; no_until = refl; no_done = refl; no_trace = refl; no_script = refl }
-body-kind (out n v x) (part.Out m w y) i = record { body = refl; no_task = refl; no_declaration = refl; no_policy = refl; no_end = refl; no_until = refl; no_done = refl; no_trace = refl; no_script = refl }
+body-kind (state n v) (part.State m w) i = record { body = refl; no_task = refl; no_declaration = refl; no_version = refl; no_policy = refl; no_end = refl; no_until = refl; no_done = refl; no_trace = refl; no_script = refl }
+body-kind (sense n v) (part.Sense m w) i = record { body = refl; no_task = refl; no_declaration = refl; no_version = refl; no_policy = refl; no_end = refl; no_until = refl; no_done = refl; no_trace = refl; no_script = refl }
+body-kind (read n d w p a) (part.Read m e x q b) i = record { body = refl; no_task = refl; no_declaration = refl; no_version = refl; no_policy = refl; no_end = refl; no_until = refl; no_done = refl; no_trace = refl; no_script = refl }
+body-kind (a_let n v) (part.Let m w) i = record { body = refl; no_task = refl; no_declaration = refl; no_version = refl; no_policy = refl; no_end = refl; no_until = refl; no_done = refl; no_trace = refl; no_script = refl }
+body-kind (a_next n v) (part.Next m w) i = record { body = refl; no_task = refl; no_declaration = refl; no_version = refl; no_policy = refl; no_end = refl; no_until = refl; no_done = refl; no_trace = refl; no_script = refl }
+body-kind (out n v x) (part.Out m w y) i = record { body = refl; no_task = refl; no_declaration = refl; no_version = refl; no_policy = refl; no_end = refl; no_until = refl; no_done = refl; no_trace = refl; no_script = refl }
 body-kind s p i = absurd i
 
 module _ (said : List Said) (d : Draft) (h : Holds said d) where
@@ -202,7 +221,7 @@ module _ (said : List Said) (d : Draft) (h : Holds said d) where
 
   decl-more : (x : Said) (s : Statement) (e : _) → x ≡ says s → IsDecl s e → Holds (said ++ x ∷ []) (drafted d n [] (line.Decl e))
   decl-more x (input m v) (Input k w) is i = rw is (record {
-    ends = ends-with said (says (input m v)) d (drafted d n [] (line.Decl (Input k w))) h.ends refl refl refl refl refl;
+    ends = ends-with said (says (input m v)) d (drafted d n [] (line.Decl (Input k w))) h.ends refl refl refl refl refl refl;
     sections = sections-same said (says (input m v)) d (drafted d n [] (line.Decl (Input k w))) h.sections refl refl refl refl refl refl refl refl;
     items = items-with said (says (input m v)) d (drafted d n [] (line.Decl (Input k w))) h.items
         (fit-more IsDecl (filter is_declaration (statements said)) d.decls (input m v) (Input k w) h.items.decls i)
@@ -211,7 +230,7 @@ module _ (said : List Said) (d : Draft) (h : Holds said d) where
         refl (append-nil d.lines.tasks) (append-nil d.lines.parts);
   })
   decl-more x (event m) (Event k) is i = rw is (record {
-    ends = ends-with said (says (event m)) d (drafted d n [] (line.Decl (Event k))) h.ends refl refl refl refl refl;
+    ends = ends-with said (says (event m)) d (drafted d n [] (line.Decl (Event k))) h.ends refl refl refl refl refl refl;
     sections = sections-same said (says (event m)) d (drafted d n [] (line.Decl (Event k))) h.sections refl refl refl refl refl refl refl refl;
     items = items-with said (says (event m)) d (drafted d n [] (line.Decl (Event k))) h.items
         (fit-more IsDecl (filter is_declaration (statements said)) d.decls (event m) (Event k) h.items.decls i)
@@ -226,7 +245,7 @@ module _ (said : List Said) (d : Draft) (h : Holds said d) where
       let e = drafted d n [] (line.Task t) in
       let after : all_tasks d.tasks ++ task_of t ∷ [] ≡ all_tasks e.tasks = refl in
       record {
-        ends = ends-with said (says (task x)) d e h.ends refl refl refl refl refl;
+        ends = ends-with said (says (task x)) d e h.ends refl refl refl refl refl refl;
         sections = sections-same said (says (task x)) d e h.sections refl refl refl refl refl refl refl refl;
         items = items-with said (says (task x)) d e h.items
             (rw append-nil h.items.decls)
@@ -246,7 +265,7 @@ module _ (said : List Said) (d : Draft) (h : Holds said d) where
       let after : AreTasks (filter is_of_task (statements said) ++ s ∷ []) (all_tasks (added d.tasks p)) =
       rw found.1 (part-more (filter is_of_task (statements said)) (d.tasks.earlier ++ found.0 ∷ []) d.tasks.earlier found.0 s p refl before i) in
       record {
-        ends = ends-with said (says s) d e h.ends (rw k.no_policy refl) (rw k.no_end refl) (rw k.no_until refl) (rw k.no_done refl) (rw k.no_trace refl);
+        ends = ends-with said (says s) d e h.ends (rw k.no_version refl) (rw k.no_policy refl) (rw k.no_end refl) (rw k.no_until refl) (rw k.no_done refl) (rw k.no_trace refl);
         sections = sections-same said (says s) d e h.sections k.no_trace refl k.no_script refl refl refl refl refl;
         items = items-with said (says s) d e h.items
             (rw (k.no_declaration, append-nil (filter is_declaration (statements said))) h.items.decls)
@@ -257,36 +276,37 @@ module _ (said : List Said) (d : Draft) (h : Holds said d) where
 
   pub holds-more : (x : Said) (l : Line) → IsHeld x l → HasItsTask said l → Holds (said ++ x ∷ []) (drafted d (length said + 1) (kept_text x) l)
   holds-more (says nothing) line.Nothing i b =
-      plain (says nothing) d (ends-with said (says nothing) d d h.ends refl refl refl refl refl) refl refl refl refl refl refl refl refl refl refl refl refl refl refl refl refl refl refl refl
+      plain (says nothing) d (ends-with said (says nothing) d d h.ends refl refl refl refl refl refl) refl refl refl refl refl refl refl refl refl refl refl refl refl refl refl refl refl refl refl
   holds-more (says (header v)) (line.Header w) i b =
-      plain (says (header v)) d (ends-with said (says (header v)) d d h.ends refl refl refl refl refl) refl refl refl refl refl refl refl refl refl refl refl refl refl refl refl refl refl refl refl
+      let e = drafted d n [] (line.Header w) in
+      plain (says (header v)) e (ends-with said (says (header v)) d e h.ends i refl refl refl refl refl) refl refl refl refl refl refl refl refl refl refl refl refl refl refl refl refl refl refl refl
   holds-more (says (policy p)) (line.Policy q) i b =
       let e = drafted d n [] (line.Policy q) in
-      plain (says (policy p)) e (ends-with said (says (policy p)) d e h.ends i refl refl refl refl) refl refl refl refl refl refl refl refl refl refl refl refl refl refl refl refl refl refl refl
+      plain (says (policy p)) e (ends-with said (says (policy p)) d e h.ends refl i refl refl refl refl) refl refl refl refl refl refl refl refl refl refl refl refl refl refl refl refl refl refl refl
   holds-more (says (until p)) (line.Until q) i b =
       let e = drafted d n [] (line.Until q) in
-      plain (says (until p)) e (ends-with said (says (until p)) d e h.ends refl i refl refl refl) refl refl refl refl refl refl refl refl refl refl refl refl refl refl refl refl refl refl refl
+      plain (says (until p)) e (ends-with said (says (until p)) d e h.ends refl refl i refl refl refl) refl refl refl refl refl refl refl refl refl refl refl refl refl refl refl refl refl refl refl
   holds-more (says done) line.Done i b =
       let e = drafted d n [] line.Done in
-      plain (says done) e (ends-with said (says done) d e h.ends refl refl refl refl refl) refl refl refl refl refl refl refl refl refl refl refl refl refl refl refl refl refl refl refl
+      plain (says done) e (ends-with said (says done) d e h.ends refl refl refl refl refl refl) refl refl refl refl refl refl refl refl refl refl refl refl refl refl refl refl refl refl refl
   holds-more (says trace) line.Trace i b =
       let e = drafted d n [] line.Trace in
-      same (says trace) e (ends-with said (says trace) d e h.ends refl refl refl refl refl) refl refl refl refl refl refl
+      same (says trace) e (ends-with said (says trace) d e h.ends refl refl refl refl refl refl) refl refl refl refl refl refl
       (sections-with said (says trace) d e h.sections (or-true d.trace.begun) (append-nil d.trace.text) (or-false d.script.begun) (append-nil d.script.text) (append-nil d.lines.trace) (append-nil d.lines.script))
       refl refl refl refl refl
   holds-more (says script) line.Script i b =
       let e = drafted d n [] line.Script in
-      same (says script) e (ends-with said (says script) d e h.ends refl refl refl refl refl) refl refl refl refl refl refl
+      same (says script) e (ends-with said (says script) d e h.ends refl refl refl refl refl refl) refl refl refl refl refl refl
       (sections-with said (says script) d e h.sections (or-false d.trace.begun) (append-nil d.trace.text) (or-true d.script.begun) (append-nil d.script.text) (append-nil d.lines.trace) (append-nil d.lines.script))
       refl refl refl refl refl
   holds-more (row t) line.Row i b =
       let e = drafted d n t line.Row in
-      same (row t) e (ends-with said (row t) d e h.ends refl refl refl refl refl) refl refl refl refl refl refl
+      same (row t) e (ends-with said (row t) d e h.ends refl refl refl refl refl refl) refl refl refl refl refl refl
       (sections-with said (row t) d e h.sections (or-false d.trace.begun) (sym (append_assoc d.trace.text t (10 ∷ []))) (or-false d.script.begun) (append-nil d.script.text) refl (append-nil d.lines.script))
       refl refl refl refl refl
   holds-more (step t) (line.Step kept) i b =
       let e = drafted d n t (line.Step kept) in
-      same (step t) e (ends-with said (step t) d e h.ends refl refl refl refl refl) refl refl refl refl refl refl
+      same (step t) e (ends-with said (step t) d e h.ends refl refl refl refl refl refl) refl refl refl refl refl refl
       (sections-with said (step t) d e h.sections (or-false d.trace.begun) (append-nil d.trace.text) (or-false d.script.begun) (sym (append_assoc d.script.text t (10 ∷ []))) (append-nil d.lines.trace) refl)
       refl refl refl refl refl
   holds-more (says s) (line.Decl e) i b = decl-more (says s) s e refl i
@@ -296,7 +316,7 @@ module _ (said : List Said) (d : Draft) (h : Holds said d) where
 
 pub holds-start : Holds [] empty_draft
 holds-start = record {
-  ends = record { policy = refl; until = refl; until_at = refl; done_at = refl; trace_at = refl };
+  ends = record { version = refl; policy = refl; until = refl; until_at = refl; done_at = refl; trace_at = refl };
   sections = record { trace_begun = refl; trace_text = refl; script_begun = refl; script_text = refl; row_lines = refl; step_lines = refl };
   items = record { decls = none; tasks = no_task; latest = λ some. absurd (omega arith); decl_lines = refl; task_lines = refl; part_lines = refl };
 }

@@ -1,5 +1,5 @@
 -- What is kept of a line that was read.
-use Rattle.std.proofs.Common.{◌≡◌, ◌≢◌, ℕ, ◌+◌, ◌*◌, ◌<◌, ◌≤◌, true, List, [], ◌∷◌, ◌++◌, length, filter, reverse, refl, ap, subst, arith}
+use Rattle.std.proofs.Common.{◌≡◌, ◌≢◌, ℕ, ◌+◌, ◌*◌, ◌<◌, ◌≤◌, Some, true, List, [], ◌∷◌, ◌++◌, length, filter, reverse, refl, ap, subst, arith}
 use Rattle.dia_tokens.specs.Pieces.{Piece}
 use Rattle.dia_tokens.specs.Spelling.{joined}
 use Rattle.dia_tokens.proofs.SpellingLaws.{joined-shorter, spelling-fits}
@@ -10,9 +10,11 @@ use Rattle.dia_tokens.proofs.LexLaws.{Lexes-one}
 use Rattle.dia_lines.specs.declared.item.Part.{Part}
 use Rattle.dia_lines.specs.declared.item.Line.{Line}
 use Rattle.dia_lines.specs.declared.item.Line.TheVariants as line
-use Rattle.dia_lines.specs.declared.place.Place.TheVariants.{Body}
+use Rattle.dia_lines.specs.declared.place.Place.{Place}
+use Rattle.dia_lines.specs.declared.place.Place.TheVariants.{Header, Body}
 use Rattle.dia_lines.specs.Held.{IsPart, IsKept, IsHeld}
-use Rattle.dia_lines.specs.Statements.{Statement, nothing}
+use Rattle.dia_lines.specs.Statements.{Statement, nothing, header, IsStatement, in_version_1, in_version_2}
+use Rattle.dia_lines.specs.Places.{leads}
 use Rattle.dia_lines.specs.Lines.{Said, says, row, step, place_after, statements, Reads, of_the_diagram, of_the_trace, of_the_script, an_empty_row, trace_ends, script_begins, a_row, no_step, script_ends, a_step}
 use Rattle.dia_lines.specs.Limits.{is_task}
 use Rattle.dia_lines.proofs.PlaceLaws.{part-stands}
@@ -96,3 +98,33 @@ in-body before bytes x p o (of_the_trace b t e (a_row c i j)) h = absurd h
 in-body before bytes x p o (of_the_script b t e (no_step c i)) h = absurd h
 in-body before bytes x p o (of_the_script b t e (script_ends c i)) h = absurd h
 in-body before bytes x p o (of_the_script b t e (a_step c u ts i n m k)) h = absurd h
+
+-- the header may stand there
+abbrev pub HeaderStands : List Said → Type 0
+HeaderStands before = place_after before ≡ Header
+
+-- the header stands first, and names version 1 or 2
+header-place : (p q : Place) (s : Statement) (v : ℕ) → leads p s ≡ Some q → IsKept s (line.Header v) → p ≡ Header
+header-place Header q s v e k = refl
+header-place p q (header w) v e k = absurd cc
+header-place p q s v e k = absurd k
+
+header-version : (ts : List Token) (v : ℕ) → IsStatement ts (header v) → (1 ≤ v) × (v ≤ 2)
+header-version ts v in_version_1 = (omega arith, omega arith)
+header-version ts v in_version_2 = (omega arith, omega arith)
+
+header-named : (ts : List Token) (s : Statement) (v : ℕ) → IsStatement ts s → IsKept s (line.Header v) → (1 ≤ v) × (v ≤ 2)
+header-named ts (header w) v form k = subst (λ (n : ℕ). (1 ≤ n) × (n ≤ 2)) k (header-version ts w form)
+header-named ts s v form k = absurd k
+
+pub header-stands : (before : List Said) (bytes : List ℕ) (said : Said) (v : ℕ) → Reads before bytes said → IsHeld said (line.Header v) → HeaderStands before × (1 ≤ v) × (v ≤ 2)
+header-stands before bytes (says s) v (of_the_diagram b t e i) h =
+    let named = header-named i.tokens s v i.stands.form h in
+    (header-place (place_after before) i.stands.next s v i.stands.stands h, named.0, named.1)
+header-stands before bytes x v (of_the_trace b t e (an_empty_row c i)) h = absurd h
+header-stands before bytes x v (of_the_trace b t e (trace_ends c i)) h = absurd h
+header-stands before bytes x v (of_the_trace b t e (script_begins c i)) h = absurd h
+header-stands before bytes x v (of_the_trace b t e (a_row c i j)) h = absurd h
+header-stands before bytes x v (of_the_script b t e (no_step c i)) h = absurd h
+header-stands before bytes x v (of_the_script b t e (script_ends c i)) h = absurd h
+header-stands before bytes x v (of_the_script b t e (a_step c u ts i n m k)) h = absurd h

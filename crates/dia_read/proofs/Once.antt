@@ -7,10 +7,14 @@ use Rattle.dia_lines.specs.Statements.{Statement, nothing, header, policy, until
 use Rattle.dia_lines.specs.Places.{leads}
 use Rattle.dia_lines.specs.Limits.{is_task}
 use Rattle.dia_lines.specs.Lines.{Said, says, row, step, statements, place_after, Reads, of_the_diagram, of_the_trace, of_the_script, an_empty_row, trace_ends, script_begins, a_row, no_step, script_ends, a_step}
-use Rattle.dia_read.specs.Documents.{policies, ends, lines_from, lines_with, is_statement_of, is_until, is_done, is_trace, Run, no_line, a_line}
-use Rattle.dia_read.proofs.OneMore.{reverse-more, policies-more, ends-more, lines-more, filter-more}
+use Rattle.dia_read.specs.Documents.{versions, policies, ends, lines_from, lines_with, is_statement_of, is_until, is_done, is_trace, Run, no_line, a_line}
+use Rattle.dia_read.proofs.OneMore.{reverse-more, versions-more, policies-more, ends-more, lines-more, filter-more}
 
--- how many policies, ends of time, ends and at most how many traces come before a place
+-- how many headers, policies, ends of time, ends and at most how many traces come before a place
+abbrev pub headers_before : Place → ℕ
+headers_before Header = 0
+headers_before _ = 1
+
 abbrev pub policies_before : Place → ℕ
 policies_before Header = 0
 policies_before Policy = 0
@@ -38,6 +42,7 @@ tasks_before Body = 1
 tasks_before _ = 0
 
 pub record Once (said : List Said) (place : Place) : Type 0 where
+  pub header : length (versions (statements said)) ≡ headers_before place
   pub policy : length (policies (statements said)) ≡ policies_before place
   pub until : length (ends (statements said)) ≡ ends_before place
   pub until_line : length (lines_with (is_statement_of is_until) said) ≡ ends_before place
@@ -47,6 +52,7 @@ pub record Once (said : List Said) (place : Place) : Type 0 where
 
 -- one more line, of a kind that leads from the one place to the other
 one_more : (said : List Said) (x : Said) (p q : Place) → Once said p
+    → headers_before q ≡ headers_before p + length (versions (statements (x ∷ [])))
     → policies_before q ≡ policies_before p + length (policies (statements (x ∷ [])))
     → ends_before q ≡ ends_before p + length (ends (statements (x ∷ [])))
     → ((n : ℕ) → ends_before q ≡ ends_before p + length (lines_from n (is_statement_of is_until) (x ∷ [])))
@@ -54,9 +60,10 @@ one_more : (said : List Said) (x : Said) (p q : Place) → Once said p
     → ((n : ℕ) → traces_before p + length (lines_from n (is_statement_of is_trace) (x ∷ [])) ≤ traces_before q)
     → tasks_before q ≤ tasks_before p + length (filter is_task (statements (x ∷ [])))
     → Once (said ++ x ∷ []) q
-one_more said x p q o one two three four five six =
+one_more said x p q o zero one two three four five six =
     let n = length said + 1 in
     record {
+      header = ap length (versions-more said x) ∙ length-append (versions (statements said)) (versions (statements (x ∷ []))) ∙ omega (arith, o.header, zero);
       policy = ap length (policies-more said x) ∙ length-append (policies (statements said)) (policies (statements (x ∷ []))) ∙ omega (arith, o.policy, one);
       until = ap length (ends-more said x) ∙ length-append (ends (statements said)) (ends (statements (x ∷ []))) ∙ omega (arith, o.until, two);
       until_line = ap length (lines-more (is_statement_of is_until) said x) ∙ length-append (lines_with (is_statement_of is_until) said) (lines_from n (is_statement_of is_until) (x ∷ [])) ∙ omega (arith, o.until_line, three n);
@@ -73,36 +80,36 @@ one_more said x p q o one two three four five six =
 
 -- if a line may stand there, one more such line keeps it
 once-at : (said : List Said) (p : Place) (s : Statement) → Once said p → IfSome (leads p s) (λ q. Once (said ++ says s ∷ []) q)
-once-at said Header (header v) o = one_more said (says (header v)) Header Policy o refl refl (λ n. refl) (λ n. refl) (λ n. omega arith) (omega arith)
-once-at said Policy (policy x) o = one_more said (says (policy x)) Policy Until o refl refl (λ n. refl) (λ n. refl) (λ n. omega arith) (omega arith)
-once-at said Until (until x) o = one_more said (says (until x)) Until Declarations o refl refl (λ n. refl) (λ n. refl) (λ n. omega arith) (omega arith)
-once-at said Declarations (input n v) o = one_more said (says (input n v)) Declarations Declarations o refl refl (λ n. refl) (λ n. refl) (λ n. omega arith) (omega arith)
-once-at said Declarations (event n) o = one_more said (says (event n)) Declarations Declarations o refl refl (λ n. refl) (λ n. refl) (λ n. omega arith) (omega arith)
-once-at said Declarations (task x) o = one_more said (says (task x)) Declarations Body o refl refl (λ n. refl) (λ n. refl) (λ n. omega arith) (omega arith)
-once-at said Declarations trace o = one_more said (says trace) Declarations Trace o refl refl (λ n. refl) (λ n. refl) (λ n. omega arith) (omega arith)
-once-at said Declarations script o = one_more said (says script) Declarations Script o refl refl (λ n. refl) (λ n. refl) (λ n. omega arith) (omega arith)
-once-at said Declarations done o = one_more said (says done) Declarations Ended o refl refl (λ n. refl) (λ n. refl) (λ n. omega arith) (omega arith)
-once-at said Body (state n v) o = one_more said (says (state n v)) Body Body o refl refl (λ n. refl) (λ n. refl) (λ n. omega arith) (omega arith)
-once-at said Body (sense n v) o = one_more said (says (sense n v)) Body Body o refl refl (λ n. refl) (λ n. refl) (λ n. omega arith) (omega arith)
-once-at said Body (read n d w x a) o = one_more said (says (read n d w x a)) Body Body o refl refl (λ n. refl) (λ n. refl) (λ n. omega arith) (omega arith)
-once-at said Body (a_let n v) o = one_more said (says (a_let n v)) Body Body o refl refl (λ n. refl) (λ n. refl) (λ n. omega arith) (omega arith)
-once-at said Body (a_next n v) o = one_more said (says (a_next n v)) Body Body o refl refl (λ n. refl) (λ n. refl) (λ n. omega arith) (omega arith)
-once-at said Body (out n v x) o = one_more said (says (out n v x)) Body Body o refl refl (λ n. refl) (λ n. refl) (λ n. omega arith) (omega arith)
-once-at said Body (task x) o = one_more said (says (task x)) Body Body o refl refl (λ n. refl) (λ n. refl) (λ n. omega arith) (omega arith)
-once-at said Body trace o = one_more said (says trace) Body Trace o refl refl (λ n. refl) (λ n. refl) (λ n. omega arith) (omega arith)
-once-at said Body script o = one_more said (says script) Body Script o refl refl (λ n. refl) (λ n. refl) (λ n. omega arith) (omega arith)
-once-at said Body done o = one_more said (says done) Body Ended o refl refl (λ n. refl) (λ n. refl) (λ n. omega arith) (omega arith)
-once-at said Trace script o = one_more said (says script) Trace Script o refl refl (λ n. refl) (λ n. refl) (λ n. omega arith) (omega arith)
-once-at said Trace done o = one_more said (says done) Trace Ended o refl refl (λ n. refl) (λ n. refl) (λ n. omega arith) (omega arith)
-once-at said Script done o = one_more said (says done) Script Ended o refl refl (λ n. refl) (λ n. refl) (λ n. omega arith) (omega arith)
-once-at said Header nothing o = one_more said (says nothing) Header Header o refl refl (λ n. refl) (λ n. refl) (λ n. omega arith) (omega arith)
-once-at said Policy nothing o = one_more said (says nothing) Policy Policy o refl refl (λ n. refl) (λ n. refl) (λ n. omega arith) (omega arith)
-once-at said Until nothing o = one_more said (says nothing) Until Until o refl refl (λ n. refl) (λ n. refl) (λ n. omega arith) (omega arith)
-once-at said Declarations nothing o = one_more said (says nothing) Declarations Declarations o refl refl (λ n. refl) (λ n. refl) (λ n. omega arith) (omega arith)
-once-at said Body nothing o = one_more said (says nothing) Body Body o refl refl (λ n. refl) (λ n. refl) (λ n. omega arith) (omega arith)
-once-at said Trace nothing o = one_more said (says nothing) Trace Trace o refl refl (λ n. refl) (λ n. refl) (λ n. omega arith) (omega arith)
-once-at said Script nothing o = one_more said (says nothing) Script Script o refl refl (λ n. refl) (λ n. refl) (λ n. omega arith) (omega arith)
-once-at said Ended nothing o = one_more said (says nothing) Ended Ended o refl refl (λ n. refl) (λ n. refl) (λ n. omega arith) (omega arith)
+once-at said Header (header v) o = one_more said (says (header v)) Header Policy o refl refl refl (λ n. refl) (λ n. refl) (λ n. omega arith) (omega arith)
+once-at said Policy (policy x) o = one_more said (says (policy x)) Policy Until o refl refl refl (λ n. refl) (λ n. refl) (λ n. omega arith) (omega arith)
+once-at said Until (until x) o = one_more said (says (until x)) Until Declarations o refl refl refl (λ n. refl) (λ n. refl) (λ n. omega arith) (omega arith)
+once-at said Declarations (input n v) o = one_more said (says (input n v)) Declarations Declarations o refl refl refl (λ n. refl) (λ n. refl) (λ n. omega arith) (omega arith)
+once-at said Declarations (event n) o = one_more said (says (event n)) Declarations Declarations o refl refl refl (λ n. refl) (λ n. refl) (λ n. omega arith) (omega arith)
+once-at said Declarations (task x) o = one_more said (says (task x)) Declarations Body o refl refl refl (λ n. refl) (λ n. refl) (λ n. omega arith) (omega arith)
+once-at said Declarations trace o = one_more said (says trace) Declarations Trace o refl refl refl (λ n. refl) (λ n. refl) (λ n. omega arith) (omega arith)
+once-at said Declarations script o = one_more said (says script) Declarations Script o refl refl refl (λ n. refl) (λ n. refl) (λ n. omega arith) (omega arith)
+once-at said Declarations done o = one_more said (says done) Declarations Ended o refl refl refl (λ n. refl) (λ n. refl) (λ n. omega arith) (omega arith)
+once-at said Body (state n v) o = one_more said (says (state n v)) Body Body o refl refl refl (λ n. refl) (λ n. refl) (λ n. omega arith) (omega arith)
+once-at said Body (sense n v) o = one_more said (says (sense n v)) Body Body o refl refl refl (λ n. refl) (λ n. refl) (λ n. omega arith) (omega arith)
+once-at said Body (read n d w x a) o = one_more said (says (read n d w x a)) Body Body o refl refl refl (λ n. refl) (λ n. refl) (λ n. omega arith) (omega arith)
+once-at said Body (a_let n v) o = one_more said (says (a_let n v)) Body Body o refl refl refl (λ n. refl) (λ n. refl) (λ n. omega arith) (omega arith)
+once-at said Body (a_next n v) o = one_more said (says (a_next n v)) Body Body o refl refl refl (λ n. refl) (λ n. refl) (λ n. omega arith) (omega arith)
+once-at said Body (out n v x) o = one_more said (says (out n v x)) Body Body o refl refl refl (λ n. refl) (λ n. refl) (λ n. omega arith) (omega arith)
+once-at said Body (task x) o = one_more said (says (task x)) Body Body o refl refl refl (λ n. refl) (λ n. refl) (λ n. omega arith) (omega arith)
+once-at said Body trace o = one_more said (says trace) Body Trace o refl refl refl (λ n. refl) (λ n. refl) (λ n. omega arith) (omega arith)
+once-at said Body script o = one_more said (says script) Body Script o refl refl refl (λ n. refl) (λ n. refl) (λ n. omega arith) (omega arith)
+once-at said Body done o = one_more said (says done) Body Ended o refl refl refl (λ n. refl) (λ n. refl) (λ n. omega arith) (omega arith)
+once-at said Trace script o = one_more said (says script) Trace Script o refl refl refl (λ n. refl) (λ n. refl) (λ n. omega arith) (omega arith)
+once-at said Trace done o = one_more said (says done) Trace Ended o refl refl refl (λ n. refl) (λ n. refl) (λ n. omega arith) (omega arith)
+once-at said Script done o = one_more said (says done) Script Ended o refl refl refl (λ n. refl) (λ n. refl) (λ n. omega arith) (omega arith)
+once-at said Header nothing o = one_more said (says nothing) Header Header o refl refl refl (λ n. refl) (λ n. refl) (λ n. omega arith) (omega arith)
+once-at said Policy nothing o = one_more said (says nothing) Policy Policy o refl refl refl (λ n. refl) (λ n. refl) (λ n. omega arith) (omega arith)
+once-at said Until nothing o = one_more said (says nothing) Until Until o refl refl refl (λ n. refl) (λ n. refl) (λ n. omega arith) (omega arith)
+once-at said Declarations nothing o = one_more said (says nothing) Declarations Declarations o refl refl refl (λ n. refl) (λ n. refl) (λ n. omega arith) (omega arith)
+once-at said Body nothing o = one_more said (says nothing) Body Body o refl refl refl (λ n. refl) (λ n. refl) (λ n. omega arith) (omega arith)
+once-at said Trace nothing o = one_more said (says nothing) Trace Trace o refl refl refl (λ n. refl) (λ n. refl) (λ n. omega arith) (omega arith)
+once-at said Script nothing o = one_more said (says nothing) Script Script o refl refl refl (λ n. refl) (λ n. refl) (λ n. omega arith) (omega arith)
+once-at said Ended nothing o = one_more said (says nothing) Ended Ended o refl refl refl (λ n. refl) (λ n. refl) (λ n. omega arith) (omega arith)
 once-at said p s o = tt
 
 once-led : (said : List Said) (p q : Place) (s : Statement) → Once said p → leads p s ≡ Some q → Once (said ++ says s ∷ []) q
@@ -111,7 +118,7 @@ once-led said p q s o e = subst (λ r. IfSome r (λ place. Once (said ++ says s 
 -- a row or a step
 once-kept : (said : List Said) (x : Said) (p : Place) → statements (x ∷ []) ≡ [] → ((n : ℕ) (kind : Statement → Bool) → lines_from n (is_statement_of kind) (x ∷ []) ≡ []) → Once said p → Once (said ++ x ∷ []) p
 once-kept said x p e l o =
-    one_more said x p p o (rw e (omega arith)) (rw e (omega arith)) (λ n. rw (l n is_until) (omega arith)) (λ n. rw (l n is_done) (omega arith)) (λ n. rw (l n is_trace) (omega arith)) (rw e (omega arith))
+    one_more said x p p o (rw e (omega arith)) (rw e (omega arith)) (rw e (omega arith)) (λ n. rw (l n is_until) (omega arith)) (λ n. rw (l n is_done) (omega arith)) (λ n. rw (l n is_trace) (omega arith)) (rw e (omega arith))
 
 pub once-more : (before : List Said) (line : List ℕ) (x : Said) → Once (reverse before) (place_after before) → Reads before line x → Once (reverse (x ∷ before)) (place_after (x ∷ before))
 once-more before line x o r = rw (reverse-more x before) (go x r)
@@ -134,4 +141,4 @@ once-run before after lines (no_line b) o = o
 once-run before after lines (a_line b a line ls said r run) o = once-run (said ∷ b) a ls run (once-more b line said o r)
 
 pub once-start : Once [] Header
-once-start = record { policy = refl; until = refl; until_line = refl; done_line = refl; trace_line = omega arith; task_line = omega arith }
+once-start = record { header = refl; policy = refl; until = refl; until_line = refl; done_line = refl; trace_line = omega arith; task_line = omega arith }

@@ -4,9 +4,9 @@ use Rattle.std.specs.Prelude.{◌==◌}
 use Rattle.std.proofs.lemmas.Bool.Decides.{nat_tests}
 use Rattle.std.proofs.lemmas.List.{reverse-append}
 use Rattle.std.proofs.lemmas.List.Elements.{filter-append}
-use Rattle.dia_lines.specs.Statements.{Statement, policy, until}
+use Rattle.dia_lines.specs.Statements.{Statement, header, policy, until}
 use Rattle.dia_lines.specs.Lines.{Said, says, row, step, statements}
-use Rattle.dia_read.specs.Documents.{policies, ends, lines_from, lines_with, kept, kept_text}
+use Rattle.dia_read.specs.Documents.{versions, policies, ends, lines_from, lines_with, kept, kept_text}
 
 pub reverse-more : (x : Said) (before : List Said) → reverse (x ∷ before) ≡ reverse before ++ x ∷ []
 reverse-more x before = reverse-append (x ∷ []) before
@@ -17,6 +17,11 @@ statements-append (says s ∷ a) b = ap (λ ss. s ∷ ss) (statements-append a b
 statements-append (row t ∷ a) b = statements-append a b
 statements-append (step t ∷ a) b = statements-append a b
 
+versions-append : (a b : List Statement) → versions (a ++ b) ≡ versions a ++ versions b
+versions-append [] b = refl
+versions-append (header v ∷ a) b = ap (λ vs. v ∷ vs) (versions-append a b)
+versions-append (s ∷ a) b = versions-append a b
+
 policies-append : (a b : List Statement) → policies (a ++ b) ≡ policies a ++ policies b
 policies-append [] b = refl
 policies-append (policy p ∷ a) b = ap (λ ps. p ∷ ps) (policies-append a b)
@@ -26,6 +31,9 @@ ends-append : (a b : List Statement) → ends (a ++ b) ≡ ends a ++ ends b
 ends-append [] b = refl
 ends-append (until e ∷ a) b = ap (λ es. e ∷ es) (ends-append a b)
 ends-append (s ∷ a) b = ends-append a b
+
+pub versions-more : (said : List Said) (x : Said) → versions (statements (said ++ x ∷ [])) ≡ versions (statements said) ++ versions (statements (x ∷ []))
+versions-more said x = ap versions (statements-append said (x ∷ [])) ∙ versions-append (statements said) (statements (x ∷ []))
 
 pub policies-more : (said : List Said) (x : Said) → policies (statements (said ++ x ∷ [])) ≡ policies (statements said) ++ policies (statements (x ∷ []))
 policies-more said x = ap policies (statements-append said (x ∷ [])) ∙ policies-append (statements said) (statements (x ∷ []))

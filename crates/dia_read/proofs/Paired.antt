@@ -69,7 +69,7 @@ paired-start = record { decls = refl; tasks = refl; parts = refl; trace = refl; 
 
 pub paired-more : (d : Draft) (number : ℕ) (text : List ℕ) (l : Line) → Paired d → PairsWith d text l → Paired (drafted d number text l)
 paired-more d n text line.Nothing b w = b
-paired-more d n text (line.Header v) b w = b
+paired-more d n text (line.Header v) b w = record { decls = b.decls; tasks = b.tasks; parts = b.parts; trace = b.trace; script = b.script; no_trace = b.no_trace; no_script = b.no_script }
 paired-more d n text (line.Policy p) b w = record { decls = b.decls; tasks = b.tasks; parts = b.parts; trace = b.trace; script = b.script; no_trace = b.no_trace; no_script = b.no_script }
 paired-more d n text (line.Until e) b w = record { decls = b.decls; tasks = b.tasks; parts = b.parts; trace = b.trace; script = b.script; no_trace = b.no_trace; no_script = b.no_script }
 paired-more d n text (line.Decl e) b w = record { decls = both-more d.lines.decls n d.decls e b.decls; tasks = b.tasks; parts = b.parts; trace = b.trace; script = b.script; no_trace = b.no_trace; no_script = b.no_script }

@@ -12,6 +12,7 @@ use Rattle.dbp_plan.specs.declared.expr.Expr.{Expr}
 use Rattle.dbp_plan.specs.Expr.{IsExprOf}
 use Rattle.dbp_plan.specs.Tree.{Tree}
 use Rattle.dia_tokens.specs.declared.token.Token.{Token}
+use Rattle.dia_tokens.specs.Printable.{IsPrintableName}
 use Rattle.dia_tokens.proofs.SpellingLaws.{printable-tokens, spells-again, spelled-again}
 use Rattle.dia_lines.specs.declared.fault.ReadCode.TheVariants.{LimitHit}
 use Rattle.dia_lines.specs.declared.fault.Limit.{Limit}
@@ -25,7 +26,7 @@ use Rattle.dia_lines.specs.declared.item.Part.TheVariants as part
 use Rattle.dia_lines.specs.declared.item.RawClock.{RawClock}
 use Rattle.dia_lines.specs.declared.item.RawClock.TheVariants.{Every, On}
 use Rattle.dia_lines.specs.declared.item.TaskLine.{TaskLine}
-use Rattle.dia_lines.specs.Statements.{Statement, Clock, every, on, nothing, header, policy, until, input, event, task, state, sense, read, a_let, a_next, out, trace, script, done, IsStatement, a_header}
+use Rattle.dia_lines.specs.Statements.{Statement, Clock, every, on, nothing, header, policy, until, input, event, task, state, sense, read, a_let, a_next, out, trace, script, done, IsStatement}
 use Rattle.dia_lines.specs.Places.{is_body, is_of_version}
 use Rattle.dia_lines.specs.Limits.{lies_within, option_lies_within, delay_fits, clock_fits, numbers_fit, is_input, is_event, is_task, is_read, is_out, of_this_task, passed_count}
 use Rattle.dia_lines.specs.Lines.{Said, says, row, step, statements, version_after, limit_fault, SaysInTrace, an_empty_row, trace_ends, script_begins, a_row, SaysInScript, no_step, script_ends, a_step, Reads, of_the_diagram, of_the_trace, of_the_script}
@@ -39,9 +40,9 @@ use Rattle.dia_lines.proofs.PrintableStatements.{IsPrintableStatement, printable
 use Rattle.dia_read.specs.declared.document.RawTask.{RawTask}
 use Rattle.dia_read.specs.declared.draft.Draft.{Draft}
 use Rattle.dia_read.specs.declared.draft.Section.{Section}
-use Rattle.dia_read.specs.Documents.{Run, no_line, a_line, kept_text}
+use Rattle.dia_read.specs.Documents.{kept_text}
 use Rattle.dia_read.specs.Drafts.{empty_draft, task_of, with_part, drafted, section_text, finished}
-use Rattle.dia_read.specs.Printable.{IsPrintableExpr, IsPrintableDecl, IsPrintableClock, IsPrintablePart, is_input_decl, is_event_decl, is_read_part, is_out_part, IsPrintableTask, ended_lines, KeepsItself, IsPrintable}
+use Rattle.dia_read.specs.Printable.{IsPrintableExpr, IsPrintableDecl, IsPrintableClock, IsPrintablePart, is_input_decl, is_event_decl, is_read_part, is_out_part, IsPrintableTask, IsPlainTask, ended_lines, KeepsItself, IsPrintable}
 use Rattle.dia_read.proofs.Holding.{all_tasks}
 use Rattle.dia_read.proofs.KeptLines.{kept-part, no-row, no-step}
 
@@ -59,12 +60,12 @@ below count most e = grind (arith, nat_tests)
 
 -- ---- what a line promises
 
--- the numbers and the counts of a statement after those before it, its names and its version
-pub record IsSound (before : List Statement) (s : Statement) : Type 0 where
+-- the numbers and the counts of a statement of the version after those before it, and its names
+pub record IsSound (version : ℕ) (before : List Statement) (s : Statement) : Type 0 where
   pub free : IsPrintableStatement s
   pub numbers : numbers_fit s ≡ true
   pub counts : passed_count before s ≡ None
-  pub plain : is_of_version 1 s ≡ true
+  pub known : is_of_version version s ≡ true
 
 decl-prints : (s : Statement) (d : Decl) → IsDecl s d → IsPrintableStatement s → IsPrintableDecl d
 decl-prints (input n v) (Input m w) (a, b) f = (rw (← a) f.0, rw (← b) f.1)
@@ -111,9 +112,21 @@ no-cpu : (cpu : Option ℤ) (n : ℕ) → cpu_of cpu ≡ pos n → is_none cpu �
 no-cpu None n is e = let same : 0 ≡ n = cc in sym same
 no-cpu (Some z) n is e = absurd cc
 
-task-prints : (s : Statement) (t : TaskLine) → IsTaskLine s t → IsPrintableStatement s → numbers_fit s ≡ true → is_of_version 1 s ≡ true → IsPrintableTask (task_of t)
-task-prints (task s) t (a, b, w, c, e, g, u) f h v =
-    let none = and_parts (is_none s.when) (is_none s.cpu) v in
+task-plain : (s : Statement) (t : TaskLine) (version : ℕ) → IsTaskLine s t → is_of_version version s ≡ true → version ≡ 1 → IsPlainTask (task_of t)
+task-plain (task s) t version (a, b, w, c, e, g, u) v one =
+    let none = and_parts (is_none s.when) (is_none s.cpu) (subst (λ (n : ℕ). is_of_version n (task s) ≡ true) one v) in
+    (sym w ∙ no-name s.when none.0, no-cpu s.cpu t.cpu u none.1)
+task-plain s t version a v one = absurd a
+
+when-prints : (when : Option (List ℕ)) (name : Option (List ℕ)) → when ≡ name → IfSome when IsPrintableName → IfSome name IsPrintableName
+when-prints when name is f = subst (λ o. IfSome o IsPrintableName) is f
+
+cpu-prints : (cpu : Option ℤ) (n : ℕ) → cpu_of cpu ≡ pos n → option_lies_within cpu 0 MAX_CPU ≡ true → n ≤ MAX_CPU
+cpu-prints None n is h = let same : 0 ≡ n = cc in omega arith
+cpu-prints (Some z) n is h = (within n 0 MAX_CPU z is h).1
+
+task-prints : (s : Statement) (t : TaskLine) → IsTaskLine s t → IsPrintableStatement s → numbers_fit s ≡ true → IsPrintableTask (task_of t)
+task-prints (task s) t (a, b, w, c, e, g, u) f h =
     let all = and_parts (clock_fits s.clock && option_lies_within s.prio 0 MAX_PRIO && option_lies_within s.deadline 1 MAX_TIME && lies_within s.cost 1 MAX_TIME) (option_lies_within s.cpu 0 MAX_CPU) h in
     let one = and_parts (clock_fits s.clock && option_lies_within s.prio 0 MAX_PRIO && option_lies_within s.deadline 1 MAX_TIME) (lies_within s.cost 1 MAX_TIME) all.0 in
     let two = and_parts (clock_fits s.clock && option_lies_within s.prio 0 MAX_PRIO) (option_lies_within s.deadline 1 MAX_TIME) one.0 in
@@ -122,11 +135,11 @@ task-prints (task s) t (a, b, w, c, e, g, u) f h v =
       line = record {
         named = rw (← a) f.0;
         clock = clock-prints s.clock t.clock b f.1 three.0;
-        when = sym w ∙ no-name s.when none.0;
+        when = when-prints s.when t.when w f.2;
         prio = upper t.prio MAX_PRIO (option-within t.prio s.prio 0 MAX_PRIO c three.1);
         deadline = option-within t.deadline s.deadline 1 MAX_TIME e two.1;
         cost = within t.cost 1 MAX_TIME s.cost g one.1;
-        cpu = no-cpu s.cpu t.cpu u none.1;
+        cpu = cpu-prints s.cpu t.cpu u all.1;
       };
       parts = λ j x l. absurd (omega arith);
       body = omega arith;
@@ -137,7 +150,7 @@ task-prints (task s) t (a, b, w, c, e, g, u) f h v =
     upper : (o : Option ℕ) (most : ℕ) → IfSome o (λ v. (0 ≤ v) × (v ≤ most)) → IfSome o (λ v. v ≤ most)
     upper None most h = tt
     upper (Some v) most h = h.1
-task-prints s t a f h v = absurd a
+task-prints s t a f h = absurd a
 
 -- ---- a draft
 
@@ -159,6 +172,8 @@ pub record Prints (ss : List Statement) (d : Draft) : Type 0 where
   pub events : count_by is_event_decl d.decls ≡ length (filter is_event ss)
   pub few_inputs : length (filter is_input ss) ≤ MAX_INPUTS
   pub few_events : length (filter is_event ss) ≤ MAX_EVENTS
+  pub version : (1 ≤ d.version) × (d.version ≤ 2)
+  pub plain : d.version ≡ 1 → All IsPlainTask d.tasks.earlier × IfSome d.tasks.latest IsPlainTask
   pub earlier : All IsPrintableTask d.tasks.earlier
   pub latest : IfSome d.tasks.latest (IsLatest ss)
   pub tasks : length (all_tasks d.tasks) ≡ length (filter is_task ss)
@@ -216,8 +231,10 @@ latest-kept (Some t) ss ts b r u h = record { prints = h.prints; body = rw b h.b
 -- a statement that is counted nowhere
 prints-kept : (ss ts : List Statement) (d e : Draft) → filter is_input ts ≡ filter is_input ss → filter is_event ts ≡ filter is_event ss → filter is_task ts ≡ filter is_task ss → filter is_read ts ≡ filter is_read ss
     → filter is_body (of_this_task ts) ≡ filter is_body (of_this_task ss) → filter is_read (of_this_task ts) ≡ filter is_read (of_this_task ss) → filter is_out (of_this_task ts) ≡ filter is_out (of_this_task ss)
-    → e.until ≤ MAX_TIME → e.decls ≡ d.decls → e.tasks ≡ d.tasks → Prints ss d → Prints ts e
-prints-kept ss ts d e i v t r b c u end decls tasks p = record {
+    → (1 ≤ e.version) × (e.version ≤ 2) → (e.version ≡ 1 → d.version ≡ 1) → e.until ≤ MAX_TIME → e.decls ≡ d.decls → e.tasks ≡ d.tasks → Prints ss d → Prints ts e
+prints-kept ss ts d e i v t r b c u version first end decls tasks p = record {
+  version = version;
+  plain = λ one. rw tasks (p.plain (first one));
   until = end;
   decls = rw decls p.decls;
   inputs = rw (decls, i) p.inputs;
@@ -234,6 +251,8 @@ prints-kept ss ts d e i v t r b c u end decls tasks p = record {
 
 decl-more : (ss : List Statement) (s : Statement) (x : Decl) (d : Draft) (n : ℕ) → Prints ss d → IsDecl s x → IsPrintableStatement s → HasCounts ss s → Prints (s ∷ ss) (drafted d n [] (line.Decl x))
 decl-more ss (input m v) (Input k w) d n p i f c = record {
+  version = p.version;
+  plain = p.plain;
   until = p.until;
   decls = All-push IsPrintableDecl d.decls (Input k w) p.decls (decl-prints (input m v) (Input k w) i f);
   inputs = omega (arith, count-more is_input_decl d.decls (Input k w), p.inputs);
@@ -248,6 +267,8 @@ decl-more ss (input m v) (Input k w) d n p i f c = record {
   few_links = p.few_links;
 }
 decl-more ss (event m) (Event k) d n p i f c = record {
+  version = p.version;
+  plain = p.plain;
   until = p.until;
   decls = All-push IsPrintableDecl d.decls (Event k) p.decls (decl-prints (event m) (Event k) i f);
   inputs = omega (arith, count-more is_input_decl d.decls (Event k), p.inputs);
@@ -265,12 +286,18 @@ decl-more ss (input m v) (Event k) d n p i f c = absurd i
 decl-more ss (event m) (Input k w) d n p i f c = absurd i
 decl-more ss s x d n p i f c = absurd i
 
+each-optional : {A : Type 0} (P : A → Type 0) (o : Option A) → IfSome o P → All P (option_to_list o)
+each-optional P None h = λ k x l. absurd (omega arith)
+each-optional P (Some t) h = All-push P [] t (λ k x l. absurd (omega arith)) h
+
 all-latest : (o : Option RawTask) (ss : List Statement) → IfSome o (IsLatest ss) → All IsPrintableTask (option_to_list o)
 all-latest None ss h = λ k x l. absurd (omega arith)
 all-latest (Some t) ss h = All-push IsPrintableTask [] t (λ k x l. absurd (omega arith)) h.prints
 
-task-line-more : (ss : List Statement) (s : Statement) (t : TaskLine) (d : Draft) (n : ℕ) → Prints ss d → IsTaskLine s t → IsPrintableStatement s → numbers_fit s ≡ true → is_of_version 1 s ≡ true → HasCounts ss s → Prints (s ∷ ss) (drafted d n [] (line.Task t))
+task-line-more : (ss : List Statement) (s : Statement) (t : TaskLine) (d : Draft) (n : ℕ) → Prints ss d → IsTaskLine s t → IsPrintableStatement s → numbers_fit s ≡ true → is_of_version d.version s ≡ true → HasCounts ss s → Prints (s ∷ ss) (drafted d n [] (line.Task t))
 task-line-more ss (task x) t d n p i f h v c = record {
+  version = p.version;
+  plain = λ one. let before = p.plain one in (All-append IsPlainTask d.tasks.earlier (option_to_list d.tasks.latest) before.0 (each-optional IsPlainTask d.tasks.latest before.1), task-plain (task x) t d.version i v one);
   until = p.until;
   decls = p.decls;
   inputs = p.inputs;
@@ -278,7 +305,7 @@ task-line-more ss (task x) t d n p i f h v c = record {
   few_inputs = p.few_inputs;
   few_events = p.few_events;
   earlier = All-append IsPrintableTask d.tasks.earlier (option_to_list d.tasks.latest) p.earlier (all-latest d.tasks.latest ss p.latest);
-  latest = record { prints = task-prints (task x) t i f h v; body = refl; reads = refl; outs = refl };
+  latest = record { prints = task-prints (task x) t i f h; body = refl; reads = refl; outs = refl };
   tasks = omega (arith, length-append (all_tasks d.tasks) (task_of t ∷ []), p.tasks);
   few_tasks = omega (arith, c.tasks refl);
   links = sum_by-append reads_of (all_tasks d.tasks) (task_of t ∷ []) ∙ omega (arith, p.links);
@@ -287,6 +314,11 @@ task-line-more ss (task x) t d n p i f h v c = record {
 task-line-more ss s t d n p i f h v c = absurd i
 
 -- ---- one more line of a body
+
+-- a line of its body leaves a task without `when` and processor as it is
+part-plain : (o : Option RawTask) (p : Part) → IfSome o IsPlainTask → IfSome (elim o [ None ↦ None | Some t ↦ Some (with_part p t) ]) IsPlainTask
+part-plain None p h = tt
+part-plain (Some t) p h = h
 
 record IsPartKind (s : Statement) (p : Part) : Type 0 where
   body : is_body s ≡ true
@@ -335,6 +367,8 @@ part-line-more ss s x d n t found p i f h c =
     let latest_reads : reads_of t ≤ MAX_READS = latest.prints.reads in
     let latest_outs : count_by is_out_part t.parts ≤ MAX_OUTS = latest.prints.outs in
     record {
+      version = p.version;
+      plain = λ one. let before = p.plain one in (before.0, part-plain d.tasks.latest x before.1);
       until = p.until;
       decls = p.decls;
       inputs = rw k.no_input p.inputs;
@@ -371,15 +405,16 @@ keeps-more Says kept text bytes (lines, is, each) says_so =
     (lines ++ bytes ∷ [], rw is (sym (ended-more lines bytes)), All-push (λ line. Says line (kept line)) lines bytes each says_so)
 
 -- what a line promises of what is kept of it
-abbrev pub IsSoundLine : List Statement → Said → Type 0
-IsSoundLine before (says s) = IsSound before s
-IsSoundLine before (row text) = SaysInTrace text (row text)
-IsSoundLine before (step text) = SaysInScript text (step text)
+abbrev pub IsSoundLine : ℕ → List Statement → Said → Type 0
+IsSoundLine version before (says s) = IsSound version before s
+IsSoundLine version before (row text) = SaysInTrace text (row text)
+IsSoundLine version before (step text) = SaysInScript text (step text)
 
--- a line of a body needs a task
-abbrev pub HasLatest : Draft → Line → Type 0
-HasLatest d (line.Part p) = (t : RawTask) × (d.tasks.latest ≡ Some t)
-HasLatest d _ = Unit {0}
+-- a line of a body needs a task, and before the header no other version is named
+abbrev pub Continues : Draft → Line → Type 0
+Continues d (line.Part p) = (t : RawTask) × (d.tasks.latest ≡ Some t)
+Continues d (line.Header version) = (d.version ≡ 1) × (1 ≤ version) × (version ≤ 2)
+Continues d _ = Unit {0}
 
 pub record PrintsAll (ss : List Statement) (d : Draft) : Type 0 where
   pub items : Prints ss d
@@ -389,26 +424,27 @@ pub record PrintsAll (ss : List Statement) (d : Draft) : Type 0 where
 same-statement : (ss : List Statement) (s : Statement) (d e : Draft) → Prints ss d
     → filter is_input (s ∷ ss) ≡ filter is_input ss → filter is_event (s ∷ ss) ≡ filter is_event ss → filter is_task (s ∷ ss) ≡ filter is_task ss → filter is_read (s ∷ ss) ≡ filter is_read ss
     → filter is_body (of_this_task (s ∷ ss)) ≡ filter is_body (of_this_task ss) → filter is_read (of_this_task (s ∷ ss)) ≡ filter is_read (of_this_task ss) → filter is_out (of_this_task (s ∷ ss)) ≡ filter is_out (of_this_task ss)
-    → e.until ≤ MAX_TIME → e.decls ≡ d.decls → e.tasks ≡ d.tasks → Prints (s ∷ ss) e
-same-statement ss s d e p i v t r b c u end decls tasks = prints-kept ss (s ∷ ss) d e i v t r b c u end decls tasks p
+    → e.version ≡ d.version → e.until ≤ MAX_TIME → e.decls ≡ d.decls → e.tasks ≡ d.tasks → Prints (s ∷ ss) e
+same-statement ss s d e p i v t r b c u version end decls tasks = prints-kept ss (s ∷ ss) d e i v t r b c u (rw version p.version) (λ one. sym version ∙ one) end decls tasks p
 
-prints-stated : (ss : List Statement) (s : Statement) (l : Line) (d : Draft) (n : ℕ) → Prints ss d → IsSound ss s → IsKept s l → HasLatest d l → Prints (s ∷ ss) (drafted d n [] l)
-prints-stated ss nothing line.Nothing d n p i k h = same-statement ss nothing d d p refl refl refl refl refl refl refl p.until refl refl
-prints-stated ss (header v) (line.Header w) d n p i k h = same-statement ss (header v) d d p refl refl refl refl refl refl refl p.until refl refl
-prints-stated ss (policy x) (line.Policy y) d n p i k h = same-statement ss (policy x) d (drafted d n [] (line.Policy y)) p refl refl refl refl refl refl refl p.until refl refl
-prints-stated ss (until x) (line.Until y) d n p i k h = same-statement ss (until x) d (drafted d n [] (line.Until y)) p refl refl refl refl refl refl refl (within y 0 MAX_TIME x k i.numbers).1 refl refl
-prints-stated ss trace line.Trace d n p i k h = same-statement ss trace d (drafted d n [] line.Trace) p refl refl refl refl refl refl refl p.until refl refl
-prints-stated ss script line.Script d n p i k h = same-statement ss script d (drafted d n [] line.Script) p refl refl refl refl refl refl refl p.until refl refl
-prints-stated ss done line.Done d n p i k h = same-statement ss done d (drafted d n [] line.Done) p refl refl refl refl refl refl refl p.until refl refl
+prints-stated : (ss : List Statement) (s : Statement) (l : Line) (d : Draft) (n : ℕ) → Prints ss d → IsSound d.version ss s → IsKept s l → Continues d l → Prints (s ∷ ss) (drafted d n [] l)
+prints-stated ss nothing line.Nothing d n p i k h = same-statement ss nothing d d p refl refl refl refl refl refl refl refl p.until refl refl
+prints-stated ss (header v) (line.Header w) d n p i k h =
+    prints-kept ss (header v ∷ ss) d (drafted d n [] (line.Header w)) refl refl refl refl refl refl refl (h.1, h.2) (λ _. h.0) p.until refl refl p
+prints-stated ss (policy x) (line.Policy y) d n p i k h = same-statement ss (policy x) d (drafted d n [] (line.Policy y)) p refl refl refl refl refl refl refl refl p.until refl refl
+prints-stated ss (until x) (line.Until y) d n p i k h = same-statement ss (until x) d (drafted d n [] (line.Until y)) p refl refl refl refl refl refl refl refl (within y 0 MAX_TIME x k i.numbers).1 refl refl
+prints-stated ss trace line.Trace d n p i k h = same-statement ss trace d (drafted d n [] line.Trace) p refl refl refl refl refl refl refl refl p.until refl refl
+prints-stated ss script line.Script d n p i k h = same-statement ss script d (drafted d n [] line.Script) p refl refl refl refl refl refl refl refl p.until refl refl
+prints-stated ss done line.Done d n p i k h = same-statement ss done d (drafted d n [] line.Done) p refl refl refl refl refl refl refl refl p.until refl refl
 prints-stated ss s (line.Decl x) d n p i k h = decl-more ss s x d n p (kept-decl s x k) i.free (counts-of ss s i.counts)
-prints-stated ss s (line.Task t) d n p i k h = task-line-more ss s t d n p (kept-task s t k) i.free i.numbers i.plain (counts-of ss s i.counts)
+prints-stated ss s (line.Task t) d n p i k h = task-line-more ss s t d n p (kept-task s t k) i.free i.numbers i.known (counts-of ss s i.counts)
 prints-stated ss s (line.Part x) d n p i k h = part-line-more ss s x d n h.0 h.1 p (kept-part s x k) i.free i.numbers (counts-of ss s i.counts)
 prints-stated ss s l d n p i k h = absurd k
 
 -- a section's line leaves the items
-prints-same : {ss : List Statement} {d e : Draft} → Prints ss d → e.until ≡ d.until → e.decls ≡ d.decls → e.tasks ≡ d.tasks → Prints ss e
-prints-same {ss} {d} {e} p end decls tasks =
-    prints-kept ss ss d e refl refl refl refl refl refl refl (rw end p.until) decls tasks p
+prints-same : {ss : List Statement} {d e : Draft} → Prints ss d → e.version ≡ d.version → e.until ≡ d.until → e.decls ≡ d.decls → e.tasks ≡ d.tasks → Prints ss e
+prints-same {ss} {d} {e} p version end decls tasks =
+    prints-kept ss ss d e refl refl refl refl refl refl refl (rw version p.version) (λ one. sym version ∙ one) (rw end p.until) decls tasks p
 
 -- a statement keeps nothing in a section
 sections-stay : (s : Statement) (l : Line) (d : Draft) (n : ℕ) → IsKept s l → ((drafted d n [] l).trace.text ≡ d.trace.text) × ((drafted d n [] l).script.text ≡ d.script.text)
@@ -425,13 +461,13 @@ sections-stay s line.Done d n k = (refl, refl)
 sections-stay s line.Row d n k = absurd (no-row s k)
 sections-stay s (line.Step kept) d n k = absurd (no-step s kept k)
 
-pub prints-more : (before : List Said) (x : Said) (l : Line) (d : Draft) (n : ℕ) → PrintsAll (statements before) d → IsSoundLine (statements before) x → IsHeld x l → HasLatest d l
+pub prints-more : (before : List Said) (x : Said) (l : Line) (d : Draft) (n : ℕ) → PrintsAll (statements before) d → IsSoundLine d.version (statements before) x → IsHeld x l → Continues d l
     → PrintsAll (statements (x ∷ before)) (drafted d n (kept_text x) l)
 prints-more before (says s) l d n p i k h = record { items = prints-stated (statements before) s l d n p.items i k h; trace = rw (sections-stay s l d n k).0 p.trace; script = rw (sections-stay s l d n k).1 p.script }
 prints-more before (row t) line.Row d n p i k h =
-    record { items = prints-same p.items refl refl refl; trace = keeps-more SaysInTrace row d.trace.text t p.trace i; script = p.script }
+    record { items = prints-same p.items refl refl refl refl; trace = keeps-more SaysInTrace row d.trace.text t p.trace i; script = p.script }
 prints-more before (step t) (line.Step kept) d n p i k h =
-    record { items = prints-same p.items refl refl refl; trace = p.trace; script = keeps-more SaysInScript step d.script.text t p.script i }
+    record { items = prints-same p.items refl refl refl refl; trace = p.trace; script = keeps-more SaysInScript step d.script.text t p.script i }
 prints-more before x l d n p i k h = absurd k
 
 section-prints : (Says : List ℕ → Said → Type 0) (kept : List ℕ → Said) (s : Section) → KeepsItself Says kept s.text → IfSome (section_text s) (KeepsItself Says kept)
@@ -448,6 +484,8 @@ prints-end ss d p =
     let few_tasks = p.items.few_tasks in
     let few_links = p.items.few_links in
     record {
+      version = p.items.version;
+      plain = λ one. let each = p.items.plain one in All-append IsPlainTask d.tasks.earlier (option_to_list d.tasks.latest) each.0 (each-optional IsPlainTask d.tasks.latest each.1);
       until = p.items.until;
       decls = p.items.decls;
       inputs = rw p.items.inputs few_inputs;
@@ -462,6 +500,8 @@ prints-end ss d p =
 pub prints-start : PrintsAll [] empty_draft
 prints-start = record {
   items = record {
+    version = (omega arith, omega arith);
+    plain = λ _. (λ k x l. absurd (omega arith), tt);
     until = omega arith;
     decls = λ k x l. absurd (omega arith);
     inputs = refl;
@@ -489,33 +529,14 @@ fault-free ss s e = go (numbers_fit s) (passed_count ss s) refl refl e
     go true (Some l) n c e = absurd cc
     go false o n c e = absurd cc
 
--- a line leaves the version at 1, since no header names another
-version-after : (before : List Said) (bytes : List ℕ) (x : Said) → version_after before ≡ 1 → Reads before bytes x → version_after (x ∷ before) ≡ 1
-version-after before bytes x v (of_the_diagram b s e i) = by_form i.tokens s i.stands.form
-  where
-    by_form : (ts : List Token) (s : Statement) → IsStatement ts s → version_after (says s ∷ before) ≡ 1
-    by_form ts s a_header = refl
-    by_form ts s form = v
-version-after before bytes x v (of_the_trace b s e (an_empty_row c i)) = v
-version-after before bytes x v (of_the_trace b s e (trace_ends c i)) = v
-version-after before bytes x v (of_the_trace b s e (script_begins c i)) = v
-version-after before bytes x v (of_the_trace b s e (a_row c i j)) = v
-version-after before bytes x v (of_the_script b s e (no_step c i)) = v
-version-after before bytes x v (of_the_script b s e (script_ends c i)) = v
-version-after before bytes x v (of_the_script b s e (a_step c u ts i n m k)) = v
-
-pub version-of-run : (before after : List Said) (lines : List (List ℕ)) → version_after before ≡ 1 → Run before lines after → version_after after ≡ 1
-version-of-run before after lines v (no_line b) = v
-version-of-run before after lines v (a_line b a line ls said r run) = version-of-run (said ∷ b) a ls (version-after b line said v r) run
-
-pub sound-line : (before : List Said) (bytes : List ℕ) (x : Said) → version_after before ≡ 1 → Reads before bytes x → IsSoundLine (statements before) x
-sound-line before bytes x v (of_the_diagram b s e i) =
+pub sound-line : (before : List Said) (bytes : List ℕ) (x : Said) → Reads before bytes x → IsSoundLine (version_after before) (statements before) x
+sound-line before bytes x (of_the_diagram b s e i) =
     let free = fault-free (statements before) s i.within in
-    record { free = printable-statement i.tokens s i.stands.form (printable-tokens b i.tokens i.spelled); numbers = free.0; counts = free.1; plain = subst (λ (n : ℕ). is_of_version n s ≡ true) v i.stands.known }
-sound-line before bytes x v (of_the_trace b s e (an_empty_row c i)) = record { free = tt; numbers = refl; counts = refl; plain = refl }
-sound-line before bytes x v (of_the_trace b s e (trace_ends c i)) = record { free = tt; numbers = refl; counts = refl; plain = refl }
-sound-line before bytes x v (of_the_trace b s e (script_begins c i)) = record { free = tt; numbers = refl; counts = refl; plain = refl }
-sound-line before bytes x v (of_the_trace b s e (a_row c i j)) = a_row c i j
-sound-line before bytes x v (of_the_script b s e (no_step c i)) = record { free = tt; numbers = refl; counts = refl; plain = refl }
-sound-line before bytes x v (of_the_script b s e (script_ends c i)) = record { free = tt; numbers = refl; counts = refl; plain = refl }
-sound-line before bytes x v (of_the_script b s e (a_step c u ts i n m k)) = a_step u u ts (spells-again c u ts i k) n m (spelled-again c u k)
+    record { free = printable-statement i.tokens s i.stands.form (printable-tokens b i.tokens i.spelled); numbers = free.0; counts = free.1; known = i.stands.known }
+sound-line before bytes x (of_the_trace b s e (an_empty_row c i)) = record { free = tt; numbers = refl; counts = refl; known = refl }
+sound-line before bytes x (of_the_trace b s e (trace_ends c i)) = record { free = tt; numbers = refl; counts = refl; known = refl }
+sound-line before bytes x (of_the_trace b s e (script_begins c i)) = record { free = tt; numbers = refl; counts = refl; known = refl }
+sound-line before bytes x (of_the_trace b s e (a_row c i j)) = a_row c i j
+sound-line before bytes x (of_the_script b s e (no_step c i)) = record { free = tt; numbers = refl; counts = refl; known = refl }
+sound-line before bytes x (of_the_script b s e (script_ends c i)) = record { free = tt; numbers = refl; counts = refl; known = refl }
+sound-line before bytes x (of_the_script b s e (a_step c u ts i n m k)) = a_step u u ts (spells-again c u ts i k) n m (spelled-again c u k)

@@ -1,6 +1,6 @@
 -- How far a text was read.
 use Rattle.std.proofs.Common.{◌≡◌, ℕ, ◌+◌, ◌-◌, ◌*◌, ◌^◌, ◌<◌, ◌≤◌, true, List, [], ◌∷◌, ◌++◌, length, reverse, slice_get, Some, refl, sym, ap, subst, ◌∙◌, append_assoc, arith, length-append}
-use Rattle.std.proofs.lemmas.List.{take_at, length-reverse}
+use Rattle.std.proofs.lemmas.List.{nil_from_length, take_at, length-reverse}
 use Rattle.dbp_plan.specs.declared.limits.TheConstants.{MAX_TEXT}
 use Rattle.dbp_plan.specs.ListItems.{after_place}
 use Rattle.dia_tokens.proofs.SpellingLaws.{no-feed}
@@ -10,18 +10,18 @@ use Rattle.dia_lines.specs.declared.item.Line.TheVariants as line
 use Rattle.dia_lines.specs.declared.place.Place.TheVariants.{Trace, Script}
 use Rattle.dia_lines.specs.declared.position.Position.{Position}
 use Rattle.dia_lines.specs.Held.{IsHeld}
-use Rattle.dia_lines.specs.Lines.{Said, says, row, step, place_after, statements, Reads, of_the_trace, of_the_script, a_row, a_step, HasFault}
+use Rattle.dia_lines.specs.Lines.{Said, says, row, step, place_after, version_after, statements, Reads, of_the_trace, of_the_script, a_row, a_step, HasFault}
 use Rattle.dia_lines.specs.Positions.{IsAfter}
 use Rattle.dia_lines.specs.Text.{lines_of}
 use Rattle.dia_read.specs.declared.draft.Draft.{Draft}
-use Rattle.dia_read.specs.Documents.{Run, no_line, kept_text, IsFirstLine}
+use Rattle.dia_read.specs.Documents.{Run, no_line, versions, kept_text, IsFirstLine}
 use Rattle.dia_read.specs.Drafts.{empty_draft, drafted, HasRoom}
 use Rattle.dia_read.proofs.OneMore.{reverse-more}
-use Rattle.dia_read.proofs.Once.{Once, once-more, once-start}
-use Rattle.dia_read.proofs.Holding.{Holds, HasItsTask, holds-more, holds-start}
-use Rattle.dia_read.proofs.KeptLines.{run-more, in-body, no-row, no-step, kept-fits}
+use Rattle.dia_read.proofs.Once.{headers_before, Once, once-more, once-start}
+use Rattle.dia_read.proofs.Holding.{last_or, Holds, HasItsTask, holds-more, holds-start, version-said}
+use Rattle.dia_read.proofs.KeptLines.{run-more, in-body, HeaderStands, header-stands, no-row, no-step, kept-fits}
 use Rattle.dia_read.proofs.Paired.{Paired, PairsWith, paired-start, paired-more, row-has-no-feed, trace-begun, script-begun}
-use Rattle.dia_read.proofs.Printing.{PrintsAll, HasLatest, prints-start, prints-more, version-of-run, sound-line}
+use Rattle.dia_read.proofs.Printing.{PrintsAll, Continues, IsSoundLine, prints-start, prints-more, sound-line}
 use Rattle.dia_read.proofs.Bounds.{Bounded, KeptFits, bounded-more, bounded-start, has-room}
 
 -- ---- how far
@@ -75,9 +75,19 @@ module _ (bytes rest : List ℕ) (number : ℕ) (position : Position) (draft : D
   has-task before said (line.Part p) o r h = in-body before text said p o r h
   has-task before said l o r h = tt
 
-  latest : (l : Line) (said : Said) → Reads reached.before text said → IsHeld said l → HasLatest draft l
-  latest (line.Part p) said r h = reached.holds.items.latest (in-body reached.before text said p reached.once r h)
-  latest l said r h = tt
+  version-here : version_after reached.before ≡ draft.version
+  version-here = version-said reached.before ∙ reached.holds.ends.version
+
+  -- before the header no version is named
+  no-version : HeaderStands reached.before → draft.version ≡ 1
+  no-version here =
+      let none : versions (statements (reverse reached.before)) ≡ [] = nil_from_length (versions (statements (reverse reached.before))) (reached.once.header ∙ ap headers_before here) in
+      sym reached.holds.ends.version ∙ ap (λ vs. last_or vs 1) none
+
+  continues : (l : Line) (said : Said) → Reads reached.before text said → IsHeld said l → Continues draft l
+  continues (line.Part p) said r h = reached.holds.items.latest (in-body reached.before text said p reached.once r h)
+  continues (line.Header v) said r h = let is = header-stands reached.before text said v r h in (no-version is.0, is.1, is.2)
+  continues l said r h = tt
 
   begun-trace : place_after reached.before ≡ Trace → draft.trace.begun ≡ true
   begun-trace here = sym reached.holds.sections.trace_begun ∙ trace-begun [] reached.before reached.seen reached.run tt here
@@ -86,7 +96,7 @@ module _ (bytes rest : List ℕ) (number : ℕ) (position : Position) (draft : D
   begun-script here = sym reached.holds.sections.script_begun ∙ script-begun [] reached.before reached.seen reached.run tt here
 
   pairs : (l : Line) (said : Said) → Reads reached.before text said → IsHeld said l → PairsWith draft (kept_text said) l
-  pairs (line.Part p) said r h = latest (line.Part p) said r h
+  pairs (line.Part p) said r h = continues (line.Part p) said r h
   pairs line.Row (row t) (of_the_trace b s here (a_row c i k)) h = (row-has-no-feed t i, begun-trace here)
   pairs line.Row (row t) (of_the_script b s here i) h = elim i [ ]
   pairs (line.Step kept) (step t) (of_the_script b s here (a_step c u ts e n o k)) h = (no-feed c t ts e k, begun-script here)
@@ -118,7 +128,9 @@ module _ (bytes rest : List ℕ) (number : ℕ) (position : Position) (draft : D
             let kept : KeptFits l (kept_text said) (2 * add) = kept-fits reached.before text said l add reads held (omega arith) (omega arith) in
             subst (λ (k : ℕ). Bounded (drafted draft (number + 1) (kept_text said) l) (number + 1) k) (omega arith) (bounded-more draft (number + 1) number (2 * reached.used) (2 * add) (kept_text said) l reached.bounded kept);
         paired = paired-more draft (number + 1) (kept_text said) l reached.paired (pairs l said reads held);
-        printing = prints-more reached.before said l draft (number + 1) reached.printing (sound-line reached.before text said (version-of-run [] reached.before reached.seen refl reached.run) reads) held (latest l said reads held);
+        printing =
+            let sound : IsSoundLine draft.version (statements reached.before) said = subst (λ (v : ℕ). IsSoundLine v (statements reached.before) said) version-here (sound-line reached.before text said reads) in
+            prints-more reached.before said l draft (number + 1) reached.printing sound held (continues l said reads held);
         few = omega (arith, reached.few);
         within = omega (arith, reached.within);
       }

@@ -27,8 +27,8 @@ decl-room ss d (Input n v) p few_inputs few_events = rw (open-count (length (fil
 decl-room ss d (Event n) p few_inputs few_events = rw (open-count (length (filter is_event ss)) MAX_EVENTS (omega (arith, p.events, count-more is_event_decl d.decls (Event n), few_events))) refl
 
 -- a task
-pub task-room : (ss : List Statement) (d : Draft) (t : TaskLine) → Prints ss d → length (all_tasks d.tasks) + 1 ≤ MAX_TASKS → passed_count ss (task_statement t) ≡ None
-task-room ss d t p few = rw (open-count (length (filter is_task ss)) MAX_TASKS (omega (arith, p.tasks, few))) refl
+pub task-room : (ss : List Statement) (d : Draft) (version : ℕ) (t : TaskLine) → Prints ss d → length (all_tasks d.tasks) + 1 ≤ MAX_TASKS → passed_count ss (task_statement version t) ≡ None
+task-room ss d version t p few = rw (open-count (length (filter is_task ss)) MAX_TASKS (omega (arith, p.tasks, few))) refl
 
 -- a line of a body, after these of its task
 pub part-room : (ss : List Statement) (d : Draft) (t : RawTask) (x : Part) → Prints ss d → d.tasks.latest ≡ Some t → length t.parts + 1 ≤ MAX_BODY

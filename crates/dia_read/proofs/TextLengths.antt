@@ -35,7 +35,7 @@ use Rattle.dia_lines.specs.declared.item.RawClock.TheVariants.{Every, On}
 use Rattle.dia_lines.specs.declared.item.TaskLine.{TaskLine}
 use Rattle.dia_lines.specs.declared.place.Place.TheVariants as place
 use Rattle.dia_print.specs.ExpressionTokens.{call_tokens, enclosed, is_call, is_compound, operand_tokens, operator_token, tokens_of}
-use Rattle.dia_print.specs.ItemTokens.{clock_tokens, decl_tokens, header_tokens, option_tokens, part_tokens, policy_tokens, source_tokens, task_tokens, until_tokens}
+use Rattle.dia_print.specs.ItemTokens.{clock_tokens, decl_tokens, header_tokens, named_cpu, option_tokens, part_tokens, policy_tokens, source_tokens, task_tokens, until_tokens, when_tokens}
 use Rattle.dia_print.proofs.ItemLaws.{IsAfterHeader, decl-line, done-line, header-line, part-line, size-fits, task-line, until-line}
 use Rattle.dia_print.specs.Printable.{IsPrintableDecl, IsPrintablePart}
 use Rattle.dia_read.specs.Canonical.{canonical_text, decl_text, part_text, section_lines, task_text}
@@ -184,17 +184,26 @@ option-few : (w : words.Word) (o : Option ℕ) → length (option_tokens w o) �
 option-few w None = omega arith
 option-few w (Some n) = omega arith
 
-task-few : (t : TaskLine) → length (task_tokens t) ≤ 12
-task-few t =
+when-few : (o : Option (List ℕ)) → length (when_tokens o) ≤ 2
+when-few None = omega arith
+when-few (Some n) = omega arith
+
+task-few : (version : ℕ) (t : TaskLine) → length (task_tokens version t) ≤ 16
+task-few version t =
     let cs = clock_tokens t.clock in
+    let ws = when_tokens t.when in
     let ps = option_tokens word.Prio t.prio in
     let ds = option_tokens word.Deadline t.deadline in
+    let us = option_tokens word.Cpu (named_cpu version t.cpu) in
     omega (
       arith,
-      length-append (cs ++ ps ++ ds) (Word word.Cost ∷ Number (pos t.cost) ∷ []),
-      length-append (cs ++ ps) ds,
-      length-append cs ps,
+      length-append (cs ++ ws ++ ps ++ ds) (Word word.Cost ∷ Number (pos t.cost) ∷ us),
+      length-append (cs ++ ws ++ ps) ds,
+      length-append (cs ++ ws) ps,
+      length-append cs ws,
       clock-few t.clock,
+      when-few t.when,
+      option-few word.Cpu (named_cpu version t.cpu),
       option-few word.Prio t.prio,
       option-few word.Deadline t.deadline,
     )
@@ -234,14 +243,14 @@ decl-short d prints = omega (arith, line-short (decl_tokens d) (decl-line place.
 part-short : (p : Part) → IsPrintablePart p → length (part_text p) ≤ 15003
 part-short p prints = omega (arith, line-short (part_tokens p) (part-line place.Ended after-end p prints).printable, part-few p)
 
-task-short : (t : RawTask) → IsPrintableTask t → length (task_text t) ≤ 960493
-task-short t prints =
-    let tokens = task_tokens (first_line t) in
+task-short : (version : ℕ) (t : RawTask) → IsPrintableTask t → length (task_text version t) ≤ 960593
+task-short version t prints =
+    let tokens = task_tokens version (first_line t) in
     omega (
       arith,
       length-append (line_of tokens) (flat_map part_text t.parts),
-      line-short tokens (task-line place.Ended after-end (first_line t) prints.line).printable,
-      task-few (first_line t),
+      line-short tokens (task-line place.Ended after-end version (first_line t) prints.line).printable,
+      task-few version (first_line t),
       all-short IsPrintablePart part_text 15003 part-short t.parts (recursion_from_All IsPrintablePart t.parts prints.parts),
       prints.body,
     )
@@ -264,11 +273,11 @@ section-short w (Some text) =
 pub text-length : (body : Body) → IsPrintable body
     → length (canonical_text body) ≤ 31000000 + 101 * length body.decls + kept_bytes body.trace + kept_bytes body.script
 text-length body prints =
-    let a = line_of header_tokens in
+    let a = line_of (header_tokens body.version) in
     let b = line_of (policy_tokens body.policy) in
     let c = line_of (until_tokens body.until) in
     let d = flat_map decl_text body.decls in
-    let e = flat_map task_text body.tasks in
+    let e = flat_map (task_text body.version) body.tasks in
     let f = section_lines word.Trace body.trace in
     let g = section_lines word.Script body.script in
     let h = line_of (Word word.Done ∷ []) in
@@ -281,11 +290,11 @@ text-length body prints =
       length-append (a ++ b ++ c) d,
       length-append (a ++ b) c,
       length-append a b,
-      line-short header_tokens header-line.printable,
+      line-short (header_tokens body.version) (header-line body.version prints.version).printable,
       policy-short body.policy,
       line-short (until_tokens body.until) (until-line place.Ended after-end body.until prints.until).printable,
       all-short IsPrintableDecl decl_text 101 decl-short body.decls (recursion_from_All IsPrintableDecl body.decls prints.decls),
-      all-short IsPrintableTask task_text 960493 task-short body.tasks (recursion_from_All IsPrintableTask body.tasks prints.tasks),
+      all-short IsPrintableTask (task_text body.version) 960593 (task-short body.version) body.tasks (recursion_from_All IsPrintableTask body.tasks prints.tasks),
       prints.few,
       section-short word.Trace body.trace,
       section-short word.Script body.script,

@@ -20,8 +20,9 @@ decl_text d = line_of (decl_tokens d)
 abbrev pub part_text : Part → List ℕ
 part_text p = codes "  " ++ line_of (part_tokens p)
 
-abbrev pub task_text : RawTask → List ℕ
-task_text t = line_of (task_tokens (first_line t)) ++ flat_map part_text t.parts
+-- the line that begins the task in a document of the version, and its body
+abbrev pub task_text : ℕ → RawTask → List ℕ
+task_text version t = line_of (task_tokens version (first_line t)) ++ flat_map part_text t.parts
 
 -- the word that begins a section, and the section's kept lines, if it is there
 abbrev pub section_lines : Word → Option (List ℕ) → List ℕ
@@ -31,8 +32,8 @@ section_lines w (Some kept) = line_of (token.Word w ∷ []) ++ kept
 -- the canonical text
 abbrev pub canonical_text : Body → List ℕ
 canonical_text body =
-    line_of header_tokens ++ line_of (policy_tokens body.policy) ++ line_of (until_tokens body.until)
-    ++ flat_map decl_text body.decls ++ flat_map task_text body.tasks
+    line_of (header_tokens body.version) ++ line_of (policy_tokens body.policy) ++ line_of (until_tokens body.until)
+    ++ flat_map decl_text body.decls ++ flat_map (task_text body.version) body.tasks
     ++ section_lines Trace body.trace ++ section_lines Script body.script ++ line_of (token.Word Done ∷ [])
 
 -- the text spells a document with this body

@@ -11,7 +11,7 @@ use Rattle.dia_lines.specs.declared.item.TaskLine.{TaskLine}
 use Rattle.dia_lines.specs.declared.place.Place.TheVariants.{Ended}
 use Rattle.dia_lines.specs.declared.fault.ReadCode.{ReadCode}
 use Rattle.dia_lines.specs.declared.fault.ReadCode.TheVariants.{MissingDone, MissingHeader}
-use Rattle.dia_lines.specs.Statements.{Statement, policy, until, trace, script, done}
+use Rattle.dia_lines.specs.Statements.{Statement, header, policy, until, trace, script, done}
 use Rattle.dia_lines.specs.Places.{is_body, is_declaration}
 use Rattle.dia_lines.specs.Limits.{is_task}
 use Rattle.dia_lines.specs.Lines.{Said, says, row, step, Reads, HasFault, place_after, statements}
@@ -25,6 +25,12 @@ pub data Run : List Said → List (List ℕ) → List Said → Type 0 where
       → Run before (line ∷ lines) after
 
 -- ---- what the lines say together
+
+-- the versions that statements name
+abbrev pub versions : List Statement → List ℕ
+versions [] = []
+versions (header version ∷ ss) = version ∷ versions ss
+versions (_ ∷ ss) = versions ss
 
 -- the policies that statements name
 abbrev pub policies : List Statement → List Policy
@@ -110,6 +116,7 @@ section begins kind lines = if list_any (is_statement_of begins) lines then Some
 
 -- what the lines say together
 pub record IsBody (lines : List Said) (body : Body) : Type 0 where
+  pub header_line : versions (statements lines) ≡ body.version ∷ []
   pub policy_line : policies (statements lines) ≡ body.policy ∷ []
   pub until_line : ends (statements lines) ≡ pos body.until ∷ []
   pub decls : Fit IsDecl (filter is_declaration (statements lines)) body.decls

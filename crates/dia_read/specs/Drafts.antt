@@ -32,7 +32,7 @@ kept_line s text = record s { text = s.text ++ text ++ 10 ∷ [] }
 -- the draft with one more line, which has the number, and of which this text is kept
 abbrev pub drafted : Draft → ℕ → List ℕ → Line → Draft
 drafted d number text line.Nothing = d
-drafted d number text (line.Header version) = d
+drafted d number text (line.Header version) = record d { version = version }
 drafted d number text (line.Policy p) = record d { policy = p }
 drafted d number text (line.Until end) = record d { until = end; lines = record d.lines { until_at = number } }
 drafted d number text (line.Decl decl) = record d { decls = d.decls ++ decl ∷ []; lines = record d.lines { decls = d.lines.decls ++ number ∷ [] } }
@@ -69,6 +69,7 @@ empty_section = record { begun = false; text = [] }
 -- before the first line
 abbrev pub empty_draft : Draft
 empty_draft = record {
+  version = 1;
   policy = Fp;
   until = 0;
   decls = [];
@@ -86,6 +87,7 @@ section_text s = if s.begun then Some s.text else None
 abbrev pub finished : Draft → Doc
 finished d = record {
   body = record {
+    version = d.version;
     policy = d.policy;
     until = d.until;
     decls = d.decls;

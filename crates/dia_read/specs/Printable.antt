@@ -45,9 +45,15 @@ ended_lines (line ∷ lines) = line ++ 10 ∷ ended_lines lines
 abbrev pub KeepsItself : (List ℕ → Said → Type 0) → (List ℕ → Said) → List ℕ → Type 0
 KeepsItself Says kept text = (lines : List (List ℕ)) × (text ≡ ended_lines lines) × All (λ line. Says line (kept line)) lines
 
+-- the task has neither a `when` nor a processor other than 0, as all tasks of version 1
+abbrev pub IsPlainTask : RawTask → Type 0
+IsPlainTask t = (t.when ≡ None) × (t.cpu ≡ 0)
+
 -- The body keeps the limits that reading tries, its names are no reserved words, its values have 64 bits, and its sections
 -- have lines that are kept.
 pub record IsPrintable (body : Body) : Type 0 where
+  pub version : (1 ≤ body.version) × (body.version ≤ 2)
+  pub plain : body.version ≡ 1 → All IsPlainTask body.tasks
   pub until : body.until ≤ MAX_TIME
   pub decls : All IsPrintableDecl body.decls
   pub inputs : count_by is_input_decl body.decls ≤ MAX_INPUTS

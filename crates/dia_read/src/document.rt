@@ -61,6 +61,8 @@ impl RawTask {
 /// All that a document says.
 #[derive(Drop)]
 pub struct Body {
+    /// The version of the language, 1 or 2.
+    pub version: u32,
     pub policy: Policy,
     /// The tick before which tasks occur.
     pub until: u64,

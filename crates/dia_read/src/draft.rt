@@ -23,6 +23,7 @@ pub(crate) struct Section {
 /// What the lines of a document say so far.
 #[derive(Drop)]
 pub(crate) struct Draft {
+    pub(crate) version: u32,
     pub(crate) policy: Policy,
     pub(crate) until: u64,
     pub(crate) decls: List<Decl>,

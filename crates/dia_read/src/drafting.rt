@@ -83,6 +83,7 @@ impl Draft {
         ensures { result ≡ empty_draft }
     {
         Draft {
+            version: 1,
             policy: Policy::Fp,
             until: 0,
             decls: List::new(alloc),
@@ -112,6 +113,7 @@ impl Draft {
     {
         Ok(Doc {
             body: Body {
+                version: self.version,
                 policy: self.policy,
                 until: self.until,
                 decls: self.decls,
@@ -138,7 +140,8 @@ impl Draft {
             (self.new ≡ drafted self.old number (text_of_line bytes.now line) line) }
     {
         match line {
-            Line::Nothing | Line::Header(_) => {}
+            Line::Nothing => {}
+            Line::Header(version) => self.version = version,
             Line::Policy(policy) => self.policy = policy,
             Line::Until(end) => {
                 self.until = end;

@@ -27,11 +27,12 @@ fn push_word(printer: &mut Printer, word: Word) -> Result<(), NoMemory>
     printer.end_line()
 }
 
-fn push_header(printer: &mut Printer) -> Result<(), NoMemory>
+fn push_header(printer: &mut Printer, version: u32) -> Result<(), NoMemory>
     requires { printer.old.edge ≡ Tight }
-    ensures { OnOk result (printer.new ≡ with_bytes printer.old (line_of header_tokens)) }
+    ensures { OnOk result
+        (printer.new ≡ with_bytes printer.old (line_of (header_tokens version))) }
 {
-    printer.push_header()?;
+    printer.push_header(version)?;
     printer.end_line()
 }
 
@@ -89,30 +90,35 @@ fn push_parts(printer: &mut Printer, parts: &List<Part>) -> Result<(), NoMemory>
 }
 
 // The line that begins the task.
-fn push_task_line(printer: &mut Printer, task: &RawTask) -> Result<(), NoMemory>
+fn push_task_line(printer: &mut Printer, version: u32, task: &RawTask) -> Result<(), NoMemory>
     requires { printer.old.edge ≡ Tight }
     ensures { OnOk result (printer.new
-        ≡ with_bytes printer.old (line_of (task_tokens (first_line task.now)))) }
+        ≡ with_bytes printer.old (line_of (task_tokens version (first_line task.now)))) }
 {
-    printer.push_task(task.first_line())?;
+    printer.push_task(version, task.first_line())?;
     printer.end_line()
 }
 
 // The line that begins the task, and its body.
-fn push_task(printer: &mut Printer, task: &RawTask) -> Result<(), NoMemory>
+fn push_task(printer: &mut Printer, version: u32, task: &RawTask) -> Result<(), NoMemory>
     requires { printer.old.edge ≡ Tight }
-    ensures { OnOk result (printer.new ≡ with_bytes printer.old (task_text task.now)) }
+    ensures { OnOk result (printer.new ≡ with_bytes printer.old (task_text version task.now)) }
 {
-    push_task_line(printer, task)?;
+    push_task_line(printer, version, task)?;
     push_parts(printer, &task.parts)
 }
 
-fn push_tasks(printer: &mut Printer, tasks: &List<RawTask>) -> Result<(), NoMemory>
+fn push_tasks(
+    printer: &mut Printer,
+    version: u32,
+    tasks: &List<RawTask>,
+) -> Result<(), NoMemory>
     requires { printer.old.edge ≡ Tight }
-    ensures { OnOk result (printer.new ≡ with_bytes printer.old (flat_map task_text tasks.now)) }
+    ensures { OnOk result
+        (printer.new ≡ with_bytes printer.old (flat_map (task_text version) tasks.now)) }
 {
     for task in tasks.items() {
-        push_task(printer, task)?;
+        push_task(printer, version, task)?;
     }
     Ok(())
 }
@@ -138,11 +144,11 @@ fn print_body(alloc: Global, body: &Body) -> Result<Vec<u8>, NoMemory>
     ensures { IfOk result (λ text. text.items ≡ canonical_text body.now) }
 {
     let mut printer = Printer::new(alloc);
-    push_header(&mut printer)?;
+    push_header(&mut printer, body.version)?;
     push_policy(&mut printer, body.policy)?;
     push_until(&mut printer, body.until)?;
     push_decls(&mut printer, &body.decls)?;
-    push_tasks(&mut printer, &body.tasks)?;
+    push_tasks(&mut printer, body.version, &body.tasks)?;
     push_section(&mut printer, Word::Trace, &body.trace)?;
     push_section(&mut printer, Word::Script, &body.script)?;
     push_word(&mut printer, Word::Done)?;

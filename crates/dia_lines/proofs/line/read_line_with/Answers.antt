@@ -1,6 +1,25 @@
-use Rattle.dia_lines.proofs.Reading.{after-found}
+use Rattle.std.proofs.Common.{refl}
+use Rattle.std.proofs.lemmas.Bool.{both_ways}
+use Rattle.std.proofs.lemmas.Result.{err_from_is_err_and}
+use Rattle.dia_lines.specs.Moves.{kept_in_trace, place_after_line}
+use Rattle.dia_lines.proofs.Reading.{after-found, trace-found, trace-refused, trace-version}
+use Rattle.dia_lines.proofs.TraceLaws.{all_allowed, trace_allowed}
 use Rattle.dia_lines.proofs.line.read_line_with.Goals as goal
 
-pub returns-clause-found : goal.returns-clause-found
-returns-clause-found c before after =
-    after-found before c.args.position after c.args.line.now c.in_ok-line.line c.in_ok-line.counts c.version_after-version.result c.place_after-place.result c.version_after-version.ensures c.place_after-place.ensures (c.in_ok-line.ensures.found before after)
+pub returns-in_err-trace_line-in-Trace-clause-fault : goal.returns-in_err-trace_line-in-Trace-clause-fault
+returns-in_err-trace_line-in-Trace-clause-fault c =
+    let p = err_from_is_err_and c.from_residual.result c.from_residual.ensures.1 in
+    rw (p.1, p.2) (λ before after. trace-refused before c.args.position after c.args.line.now c.in_err-trace_line-in-Trace.field-0.0 c.in-Trace.is c.in_err-trace_line-in-Trace.ensures.fault)
+
+pub returns-in_ok-trace_line-in-Trace-clause-found : goal.returns-in_ok-trace_line-in-Trace-clause-found
+returns-in_ok-trace_line-in-Trace-clause-found c before after =
+    let line = kept_in_trace c.in_ok-trace_line-in-Trace.field-0 in
+    let place = place_after_line c.args.position.place line in
+    let found = trace-found before c.args.position after c.args.line.now line c.in-Trace.is c.in_ok-trace_line-in-Trace.ensures.found in
+    rw (c.after_trace_line.ensures.kept, c.after_trace_line.ensures.next)
+    (after-found before c.args.position after c.args.line.now line c.args.position.counts c.args.position.version place (trace-version c.in_ok-trace_line-in-Trace.field-0 c.args.position.version) refl found)
+
+pub returns-in_ok-trace_line-in-Trace-clause-bad_byte : goal.returns-in_ok-trace_line-in-Trace-clause-bad_byte
+returns-in_ok-trace_line-in-Trace-clause-bad_byte c bad =
+    let found = c.in_ok-trace_line-in-Trace.ensures.found in
+    absurd (both_ways _ bad (trace_allowed c.args.line.now (all_allowed c.args.line.now found.0 found.1)))

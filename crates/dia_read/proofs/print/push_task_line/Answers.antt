@@ -8,5 +8,5 @@ use Rattle.dia_read.proofs.print.push_task_line.Goals as goal
 
 pub returns : goal.returns
 returns c =
-    let line = line-is c.args.printer.now c.push_task.new.self (task_tokens (first_line c.args.task.now)) c.requires (rw c.first_line.ensures at c.in_ok-push_task.ensures) in
+    let line = line-is c.args.printer.now c.push_task.new.self (task_tokens c.args.version (first_line c.args.task.now)) c.requires (rw c.first_line.ensures at c.in_ok-push_task.ensures) in
     subst (λ (p : Printed). OnOk c.end_line.result (c.end_line.new.self ≡ p)) line c.end_line.ensures

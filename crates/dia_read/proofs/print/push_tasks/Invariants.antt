@@ -5,4 +5,4 @@ use Rattle.dia_read.specs.Canonical.{task_text}
 use Rattle.dia_read.proofs.print.push_tasks.Given as goal
 
 abbrev pub invariant-loop-task : goal.invariant-loop-task
-invariant-loop-task l = l.printer ≡ with_bytes l.initial.printer (flat_map task_text (take l.task-index l.task-items))
+invariant-loop-task l = l.printer ≡ with_bytes l.initial.printer (flat_map (task_text l.version) (take l.task-index l.task-items))
