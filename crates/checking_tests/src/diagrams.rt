@@ -14,14 +14,14 @@ use test_inputs::doc_in;
 
 // A document with all kinds of lines. Of its tasks, numbered from 0, the first is the lowest, and the last reads the
 // second twice over one link.
-static TEXT: &[u8] = b"dbp 1
+static TEXT: &[u8] = b"dbp 2
 policy fp
 until 90
 event d
 input i = 5
 event e
 input j = -6
-task c every 6 prio 1 cost 1
+task c every 6 when j prio 1 cost 1 cpu 3
   sense o = i
   read r = b.z
   out y = 0 then if o then r else 5
@@ -36,7 +36,7 @@ task a every 4 from 1 prio 3 deadline 8 cost 3
   out y = 1 then p
   out w = 2 then q
 
-task b on e prio 3 cost 2
+task b on e when i prio 3 cost 2
   read k = a.w
   let g = h * 2
   let h = k + l
@@ -54,7 +54,7 @@ static SAYS: &str = "Fp 90
 input 5 i
 input -6 j
 events d e
-task Every { period: 6, offset: 0 } when None prio Some(1) deadline None cost 1 cpu 0 c
+task Every { period: 6, offset: 0 } when Some(1) prio Some(1) deadline None cost 1 cpu 3 c
 sense 0 o
 read 0 1 at 0 r
 order
@@ -70,7 +70,7 @@ order 1 0 2
 next 0 Var(3)
 out 1 y Var(3)
 out 2 w Var(4)
-task On { event: 1 } when None prio Some(3) deadline None cost 2 cpu 0 b
+task On { event: 1 } when Some(0) prio Some(3) deadline None cost 2 cpu 0 b
 state 8 t
 state 9 n
 read 2 1 at 0 k

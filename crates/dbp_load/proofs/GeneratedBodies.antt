@@ -5,7 +5,7 @@ use Rattle.std.proofs.lemmas.Bool.{ltb-true}
 use Rattle.dia_lines.specs.declared.item.Decl.TheVariants.{Input}
 use Rattle.dia_lines.specs.Lines.{SaysInTrace, row}
 use Rattle.dia_read.specs.declared.document.RawTask.{RawTask}
-use Rattle.dia_read.specs.Printable.{is_read_part, IsPrintable, IsPrintableDecl, IsPrintableTask, KeepsItself}
+use Rattle.dia_read.specs.Printable.{is_read_part, IsPrintable, IsPrintableDecl, IsPrintableTask, IsPlainTask, KeepsItself}
 use Rattle.trace_rows.specs.Headers.{kind_of_column}
 use Rattle.trace_rows.proofs.WrittenRows.{each-row}
 use Rattle.trace_rows.proofs.WrittenText.{section-kept}
@@ -27,11 +27,11 @@ task-printable size draws i few inside =
       line = record {
         named = task-prints i (omega arith);
         clock = (omega arith, omega (arith, period), omega arith);
-        when = refl;
+        when = tt;
         prio = omega arith;
         deadline = tt;
         cost = (omega arith, omega arith);
-        cpu = refl;
+        cpu = omega arith;
       };
       parts = parts-print size (after_draw draws) i few inside (early_count i) (has_late size i) (few_early i) (omega arith) (λ more. ltb-true (i + 1) size more);
       body = omega (arith, lines.lines);
@@ -52,6 +52,8 @@ printable seed size some few =
     let reads = sum-listed task (λ (t : RawTask). count_by is_read_part t.parts) 4 size (λ i inside.
     (few-lines size (after_draw (draws i)) i (early_count i) (has_late size i) (few_early i)).reads) in
     record {
+      version = (omega arith, omega arith);
+      plain = λ _. all-listed task IsPlainTask size (λ i inside. (refl, refl));
       until = omega arith;
       decls = only-one IsPrintableDecl (Input (codes "g") (pos 1)) (g-prints, omega arith);
       inputs = omega arith;

@@ -118,6 +118,7 @@ generated_tasks seed size = first_items (λ i. generated_task size (after_draws 
 
 abbrev pub generated_body : ℕ → ℕ → Body
 generated_body seed size = record {
+  version = 1;
   policy = Fp;
   until = 500 * size;
   decls = Input (codes "g") (pos 1) ∷ [];

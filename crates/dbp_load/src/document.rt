@@ -31,6 +31,7 @@ fn generated_body(alloc: Global, seed: u64, size: u32) -> Result<Body, NoMemory>
     ensures { IfOk result (λ body. body ≡ generated_body seed size) }
 {
     Ok(Body {
+        version: 1,
         policy: Policy::Fp,
         until: 500 * u64::from(size),
         decls: generated_decls(alloc)?,

@@ -1,6 +1,6 @@
 -- The diagram of a body without faults has its counts, its numbers and its tasks within the limits.
 use Rattle.std.proofs.Common.{◌≡◌, ◌≢◌, ℕ, zero, suc, ◌+◌, ◌<◌, ◌≤◌, Bool, true, false, All, AllPairs, List, [], ◌∷◌, ◌++◌, length, take, slice_get, Option, Some, None, refl, sym, ap, ◌∙◌, subst, arith, length-append}
-use Rattle.std.specs.Prelude.{cond, if◌then◌else◌, not}
+use Rattle.std.specs.Prelude.{◌||◌, cond, if◌then◌else◌, not}
 use Rattle.std.specs.List.{flat_map}
 use Rattle.std.specs.Str.{bytes_eq}
 use Rattle.std.specs.Option.{IfSome, ForSome}
@@ -34,8 +34,8 @@ use Rattle.dia_read.specs.Printable.{IsPrintable, IsPrintableTask, IsPrintableCl
 use Rattle.dia_read.specs.declared.document.Body.{Body}
 use Rattle.dia_read.specs.declared.document.RawTask.{RawTask}
 use Rattle.expr_eval.specs.LetOrders.{IsFrontOrder}
-use Rattle.dia_check.specs.Diagrams.{clock_of, state_of, sense_of, read_of, let_of, next_of, out_of, lets_of, task_of, input_of, IsTaskOf, IsDiagramOf}
-use Rattle.dia_check.specs.Faults.{is_repeated, is_unknown, is_self_link, is_past_cost, is_unknown_clock, task_fault, part_fault, has_strange, base_of, IsWhole}
+use Rattle.dia_check.specs.Diagrams.{clock_of, when_of, state_of, sense_of, read_of, let_of, next_of, out_of, lets_of, task_of, input_of, IsTaskOf, IsDiagramOf}
+use Rattle.dia_check.specs.Faults.{is_repeated, is_unknown, is_self_link, is_past_cost, is_unknown_clock, is_unknown_when, task_fault, part_fault, has_strange, base_of, IsWhole}
 use Rattle.dia_check.specs.Names.{input_name, event_name, state_name, sense_name, read_name, let_name, next_name, out_name, env_names}
 use Rattle.dia_check.specs.Placed.{placed_expr}
 use Rattle.dia_check.proofs.Faultless.{IsFaultless}
@@ -130,8 +130,10 @@ clean : (body : Body) (t : RawTask) (before : List Part) (p : Part) → part_fau
     → (is_repeated before p ≡ false) × (is_unknown body t p ≡ false) × (is_self_link t p ≡ false) × (is_past_cost t p ≡ false)
 clean body t before p none = no-fault (is_repeated before p) (is_unknown body t p) (is_self_link t p) (is_past_cost t p) _ _ _ _ none
 
-known-clock : (body : Body) (before : List RawTask) (t : RawTask) → task_fault body before t ≡ None → is_unknown_clock body.decls t.clock ≡ false
-known-clock body before t none = no-line-fault _ (is_unknown_clock body.decls t.clock) _ _ none
+known-names : (body : Body) (before : List RawTask) (t : RawTask) → task_fault body before t ≡ None
+    → (is_unknown_clock body.decls t.clock ≡ false) × (is_unknown_when body.decls t.when ≡ false)
+known-names body before t none =
+    or_parts (is_unknown_clock body.decls t.clock) (is_unknown_when body.decls t.when) (no-line-fault _ (is_unknown_clock body.decls t.clock || is_unknown_when body.decls t.when) _ _ none)
 
 -- ---- what holds of the items of one part
 
@@ -239,6 +241,12 @@ event-clock ds (On n) known event is =
     let here : index_of (flat_map event_name ds) n ≡ event = cc in
     subst (λ k. k < length (flat_map event_name ds)) here (index-below (flat_map event_name ds) n (not-false (is_among (flat_map event_name ds) n) known))
 
+input-there : (ds : List Decl) (when : Option (List ℕ)) → is_unknown_when ds when ≡ false → (input : ℕ) → when_of (flat_map input_name ds) when ≡ Some input → input < length (flat_map input_name ds)
+input-there ds None known input is = absurd cc
+input-there ds (Some n) known input is =
+    let here : index_of (flat_map input_name ds) n ≡ input = cc in
+    subst (λ k. k < length (flat_map input_name ds)) here (index-below (flat_map input_name ds) n (not-false (is_among (flat_map input_name ds) n) known))
+
 for-some : {A : Type 0} (o : Option A) (P : A → Type 0) → IfSome o P → ForSome o P
 for-some o P holds x is = MatchOption-at_some _ P x is holds
 
@@ -304,15 +312,18 @@ module _ (body : Body) (d : Diagram) (printable : IsPrintable body) (faultless :
       made-alike (next_of (flat_map state_name t.parts) (env_names t.parts)) next_name (nexts-alike (flat_map state_name t.parts) (env_names t.parts)) t.parts,
     )
 
+    known : (is_unknown_clock body.decls t.clock ≡ false) × (is_unknown_when body.decls t.when ≡ false)
+    known = known-names body (take i body.tasks) t (faultless.tasks i t at)
+
     closed-task : IsFrontOrder (let_base made) made.lets order → All (λ r. r.link < length d.links) made.reads → IsClosedTask (length d.inputs) (length d.events) (length d.links) made
     closed-task front linked = record {
       periodic = periodic-clock body.decls t.clock fits.line.clock;
-      on_event = λ event is_event. subst (λ n. event < n) (sym (ap length is.events)) (event-clock body.decls t.clock (known-clock body (take i body.tasks) t (faultless.tasks i t at)) event is_event);
+      on_event = λ event is_event. subst (λ n. event < n) (sym (ap length is.events)) (event-clock body.decls t.clock known.0 event is_event);
       prio = for-some t.prio _ fits.line.prio;
       deadline = for-some t.deadline _ fits.line.deadline;
       cost = fits.line.cost;
-      when = λ input there. absurd cc;
-      cpu = omega arith;
+      when = λ input there. subst (λ n. input < n) (sym input-count) (input-there body.decls t.when known.1 input there);
+      cpu = fits.line.cpu;
       reads = omega (arith, read-count, fits.reads, made-count read_name is_read_part one-read t.parts);
       outs = (omega (arith, out-count, some-out (flat_map out_name t.parts) (whole i t at).outs), omega (arith, out-count, fits.outs, made-count out_name is_out_part one-out t.parts));
       body = omega (arith, parts-count, fits.body);

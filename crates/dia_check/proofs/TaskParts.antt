@@ -18,7 +18,7 @@ use Rattle.expr_eval.specs.declared.order.LetFail.TheVariants as let_fail
 use Rattle.expr_eval.specs.LetOrders.{IsFrontOrder, Uses, IsCycleFrom, IsFailOf}
 use Rattle.dia_check.specs.declared.tasks.Given.{Given}
 use Rattle.dia_check.specs.declared.tasks.Work.{Work}
-use Rattle.dia_check.specs.Diagrams.{clock_of, state_of, sense_of, read_of, let_of, lets_of, task_of, IsTaskOf}
+use Rattle.dia_check.specs.Diagrams.{clock_of, when_of, state_of, sense_of, read_of, let_of, lets_of, task_of, IsTaskOf}
 use Rattle.dia_check.specs.Faults.{base_of, let_lines, a_cycle}
 use Rattle.dia_check.specs.Names.{input_name, event_name, state_name, sense_name, read_name, env_names, out_name}
 use Rattle.dia_check.specs.Scopes.{IsWorkOf, IsGivenTo, HasFaultlessParts, IsTaskRefusal, let_refusal}
@@ -94,12 +94,12 @@ pub base-of-task : (body : Body) (number : ℕ) (t : RawTask) (order : List ℕ)
 base-of-task body number t order =
     rw (made-alike state_of state_name states-alike t.parts, made-alike (sense_of (flat_map input_name body.decls)) sense_name (senses-alike (flat_map input_name body.decls)) t.parts, made-alike (read_of body.tasks number) read_name (reads-alike body.tasks number) t.parts) refl
 
-pub assembled : (body : Body) (number : ℕ) (t : RawTask) (w : Work) (g : Given) (reads : List Read) (clock : Clock) → IsWorkOf t w → IsGivenTo body t.parts g → reads ≡ flat_map (read_of body.tasks number) t.parts
-    → clock ≡ clock_of (flat_map event_name body.decls) t.clock
-    → IsTaskOf body number t (record { name = t.name; clock = clock; when = None; prio = t.prio; deadline = t.deadline; cost = t.cost; cpu = 0; states = g.states; senses = g.senses; reads = reads; lets = w.lets; order = w.order; nexts = w.nexts; outs = w.outs })
-assembled body number t w g reads clock work given read is =
-    let made : Task = record { name = t.name; clock = clock; when = None; prio = t.prio; deadline = t.deadline; cost = t.cost; cpu = 0; states = g.states; senses = g.senses; reads = reads; lets = w.lets; order = w.order; nexts = w.nexts; outs = w.outs } in
-    let same : made ≡ task_of body number t w.order = rw (is, given.states, given.senses, read, work.lets, work.nexts, work.outs) refl in
+pub assembled : (body : Body) (number : ℕ) (t : RawTask) (w : Work) (g : Given) (reads : List Read) (clock : Clock) (when : Option ℕ) → IsWorkOf t w → IsGivenTo body t.parts g → reads ≡ flat_map (read_of body.tasks number) t.parts
+    → clock ≡ clock_of (flat_map event_name body.decls) t.clock → when ≡ when_of (flat_map input_name body.decls) t.when
+    → IsTaskOf body number t (record { name = t.name; clock = clock; when = when; prio = t.prio; deadline = t.deadline; cost = t.cost; cpu = t.cpu; states = g.states; senses = g.senses; reads = reads; lets = w.lets; order = w.order; nexts = w.nexts; outs = w.outs })
+assembled body number t w g reads clock when work given read is guard =
+    let made : Task = record { name = t.name; clock = clock; when = when; prio = t.prio; deadline = t.deadline; cost = t.cost; cpu = t.cpu; states = g.states; senses = g.senses; reads = reads; lets = w.lets; order = w.order; nexts = w.nexts; outs = w.outs } in
+    let same : made ≡ task_of body number t w.order = rw (is, guard, given.states, given.senses, read, work.lets, work.nexts, work.outs) refl in
     record {
       is = same;
       order = subst (λ (u : Task). IsFrontOrder (let_base u) u.lets w.order) (sym same) (subst (λ (b : ℕ). IsFrontOrder b (lets_of t) w.order) (sym (base-of-task body number t w.order)) work.order);

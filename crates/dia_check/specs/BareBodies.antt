@@ -5,13 +5,14 @@ use Rattle.dia_read.specs.declared.document.Body.{Body}
 use Rattle.dia_read.specs.declared.document.Doc.{Doc}
 use Rattle.dia_read.specs.declared.document.RawTask.{RawTask}
 
--- the task's name, clock, cost and parts
+-- the task without its ranks: name, clock, `when`, cost, processor and parts
 abbrev pub bare_raw_task : RawTask → RawTask
 bare_raw_task t = record t { prio = None; deadline = None }
 
--- the declarations, and of each task its name, clock, cost and parts
+-- the declarations, and each task without its ranks
 abbrev pub bare_body : Body → Body
 bare_body body = record body {
+  version = 1;
   policy = Fp;
   until = 0;
   tasks = map bare_raw_task body.tasks;
@@ -19,7 +20,7 @@ bare_body body = record body {
   script = None;
 }
 
--- the documents have the same declarations, and tasks of the same names, clocks, costs and parts
+-- the documents have the same declarations, and the same tasks but for ranks
 abbrev pub HaveSameBareBody : Doc → Doc → Type 0
 HaveSameBareBody a b = bare_body a.body ≡ bare_body b.body
 

@@ -1,6 +1,7 @@
 -- The diagram that a document says.
-use Rattle.std.specs.Prelude.{◌≡◌, ℕ, ◌+◌, Bool, not, ◌==◌, ◌&&◌, List, [], ◌∷◌, ◌++◌, length, filter, slice_get, Some, None}
+use Rattle.std.specs.Prelude.{◌≡◌, ℕ, ◌+◌, Bool, not, ◌==◌, ◌&&◌, List, [], ◌∷◌, ◌++◌, length, filter, slice_get, Option, Some}
 use Rattle.std.specs.List.{flat_map, position_or_len}
+use Rattle.std.specs.Option.{option_map}
 use Rattle.dbp_plan.specs.declared.diagram.Clock.{Clock}
 use Rattle.dbp_plan.specs.declared.diagram.Clock.TheVariants as clock
 use Rattle.dbp_plan.specs.declared.diagram.Diagram.{Diagram}
@@ -59,6 +60,10 @@ abbrev pub clock_of : List (List ℕ) → RawClock → Clock
 clock_of events (Every period offset) = clock.Every period offset
 clock_of events (On event) = clock.On (index_of events event)
 
+-- the number of the input that must not be 0
+abbrev pub when_of : List (List ℕ) → Option (List ℕ) → Option ℕ
+when_of inputs when = option_map (index_of inputs) when
+
 abbrev pub state_of : Part → List State
 state_of (part.State n first) = record { name = n; first = first } ∷ []
 state_of _ = []
@@ -99,11 +104,11 @@ abbrev pub task_of : Body → ℕ → RawTask → List ℕ → Task
 task_of body number t order = record {
   name = t.name;
   clock = clock_of (flat_map event_name body.decls) t.clock;
-  when = None;
+  when = when_of (flat_map input_name body.decls) t.when;
   prio = t.prio;
   deadline = t.deadline;
   cost = t.cost;
-  cpu = 0;
+  cpu = t.cpu;
   states = flat_map state_of t.parts;
   senses = flat_map (sense_of (flat_map input_name body.decls)) t.parts;
   reads = flat_map (read_of body.tasks number) t.parts;

@@ -70,6 +70,11 @@ abbrev pub is_unknown_clock : List Decl → RawClock → Bool
 is_unknown_clock decls (Every period offset) = false
 is_unknown_clock decls (On event) = not (is_among (flat_map event_name decls) event)
 
+-- a `when` that names no input
+abbrev pub is_unknown_when : List Decl → Option (List ℕ) → Bool
+is_unknown_when decls None = false
+is_unknown_when decls (Some input) = not (is_among (flat_map input_name decls) input)
+
 -- ---- the first fault of a line
 
 -- of a declaration after these
@@ -80,7 +85,7 @@ decl_fault before d = if is_among (map decl_name before) (decl_name d) then Some
 abbrev pub task_fault : Body → List RawTask → RawTask → Option LineFault
 task_fault body before t =
     if is_among (map decl_name body.decls ++ task_names before) t.name then Some Duplicate else
-    if is_unknown_clock body.decls t.clock then Some Unknown else None
+    if is_unknown_clock body.decls t.clock || is_unknown_when body.decls t.when then Some Unknown else None
 
 -- of a line of the task's body, after these
 abbrev pub part_fault : Body → RawTask → List Part → Part → Option LineFault

@@ -3,7 +3,7 @@
 ghost use Rattle.std.specs.Prelude.{◌≡◌, ◌<◌, ◌↔◌, IsTrue, length, map, take, slice_index};
 ghost use Rattle.std.specs.List.{flat_map, find, list_any};
 ghost use Rattle.std.specs.Option.{option_copied};
-ghost use Rattle.dia_check.specs.Faults.{is_repeated, is_strange, has_strange, is_unknown, is_self_link, is_past_cost, is_unknown_clock, decl_fault, task_fault, part_fault};
+ghost use Rattle.dia_check.specs.Faults.{is_repeated, is_strange, has_strange, is_unknown, is_self_link, is_past_cost, is_unknown_clock, is_unknown_when, decl_fault, task_fault, part_fault};
 ghost use Rattle.dia_check.specs.Names.{input_name, event_name, decl_name, task_names, state_name, out_name, env_names, port_names, next_name, declared_name};
 ghost use Rattle.dbp_plan.specs.NameLists.{is_among};
 ghost use Rattle.dia_check.specs.Tests.{is_input, is_event, is_decl, is_task, is_state, is_out, is_next, is_place, is_declared};
@@ -203,6 +203,17 @@ fn is_unknown_clock(decls: &[Decl], clock: RawClock) -> bool
     }
 }
 
+/// Whether a `when` names no input.
+#[tactic(auto, using(crate::proofs::NameTests::among_inputs))]
+fn is_unknown_when(decls: &[Decl], when: Option<Name>) -> bool
+    ensures { result ≡ is_unknown_when decls.now when }
+{
+    match when {
+        Some(input) => !has_input(decls, &input),
+        None => false,
+    }
+}
+
 /// The first fault of the line that begins a task, after the tasks before it.
 #[tactic(auto, using(crate::proofs::NameTests::among_both))]
 pub(crate) fn task_fault(body: &Body, before: &[RawTask], task: &RawTask) -> Option<LineFault>
@@ -211,7 +222,8 @@ pub(crate) fn task_fault(body: &Body, before: &[RawTask], task: &RawTask) -> Opt
     if has_decl(body.decls.items(), &task.name) || has_task(before, &task.name) {
         return Some(LineFault::Duplicate);
     }
-    if is_unknown_clock(body.decls.items(), task.clock) {
+    let decls = body.decls.items();
+    if is_unknown_clock(decls, task.clock) || is_unknown_when(decls, task.when) {
         return Some(LineFault::Unknown);
     }
     None

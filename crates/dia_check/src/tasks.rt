@@ -4,7 +4,7 @@ ghost use Rattle.std.specs.Prelude.{◌≡◌, ◌<◌, ◌≤◌, ℕ, Some, tr
 ghost use Rattle.dbp_plan.specs.declared.limits.TheConstants.{MAX_BODY};
 ghost use Rattle.dia_check.specs.declared.fail.CheckCode.TheVariants.{NoOut};
 ghost use Rattle.dia_check.specs.declared.fail.CheckFail.TheVariants.{Refused};
-ghost use Rattle.dia_check.specs.Diagrams.{IsTaskOf, clock_of, lets_of, read_of};
+ghost use Rattle.dia_check.specs.Diagrams.{IsTaskOf, clock_of, when_of, lets_of, read_of};
 ghost use Rattle.std.specs.List.{flat_map};
 ghost use Rattle.dia_check.specs.Faults.{IsWhole, base_of, lacks_outs, let_lines};
 ghost use Rattle.dia_check.specs.Names.{env_names};
@@ -34,6 +34,14 @@ fn clock_of(scope: &Scope, clock: &RawClock) -> Clock
             event: index_of(scope.events.items(), event),
         },
     }
+}
+
+/// The number of the input that must not be 0, if the line names one.
+fn when_of(scope: &Scope, when: Option<Name>) -> Option<u32>
+    ensures { result ≡ when_of scope.now.inputs when }
+{
+    let input = when?;
+    Some(index_of(scope.inputs.items(), &input))
 }
 
 /// The lets of a task and an order of them from the front.
@@ -132,11 +140,11 @@ fn task_of(
     Ok(Task {
         name: raw.name,
         clock: clock_of(scope, &raw.clock),
-        when: None,
+        when: when_of(scope, raw.when),
         prio: raw.prio,
         deadline: raw.deadline,
         cost: raw.cost,
-        cpu: 0,
+        cpu: raw.cpu,
         states: given.states,
         senses: given.senses,
         reads,

@@ -15,8 +15,8 @@ fn name(bytes: &[u8]) -> Result<Name, Fail> {
 }
 
 // The lines before the tasks, one of each kind.
-fn push_head(printer: &mut Printer) -> Result<(), Fail> {
-    printer.push_header()?;
+fn push_head(printer: &mut Printer, version: u32) -> Result<(), Fail> {
+    printer.push_header(version)?;
     printer.end_line()?;
     printer.push_policy(Policy::Edf)?;
     printer.end_line()?;
@@ -28,19 +28,25 @@ fn push_head(printer: &mut Printer) -> Result<(), Fail> {
 }
 
 // The first line of a task and one of its body.
-fn push_task(alloc: Global, printer: &mut Printer) -> Result<(), Fail> {
-    printer.push_task(TaskLine {
+fn push_task(
+    alloc: Global,
+    printer: &mut Printer,
+    version: u32,
+    when: Option<Name>,
+) -> Result<(), Fail> {
+    let task = TaskLine {
         name: name(b"a")?,
         clock: RawClock::Every {
             period: 3,
             offset: 0,
         },
-        when: None,
+        when,
         prio: Some(0),
         deadline: Some(2),
         cost: 1,
         cpu: 0,
-    })?;
+    };
+    printer.push_task(version, task)?;
     printer.end_line()?;
     printer.push_part(&Part::Out(name(b"y")?, 9, Expr::number(alloc, -5)?))?;
     printer.end_line()?;
@@ -51,16 +57,29 @@ static PRINTED_LINES: &[u8] =
     b"dbp 1\npolicy edf\nuntil 1000000000\ninput g = -9223372036854775808\n\
     task a every 3 from 0 prio 0 deadline 2 cost 1\nout y = 9 then -5\n";
 
-fn push_all(alloc: Global, printer: &mut Printer) -> Result<(), Fail> {
-    push_head(printer)?;
-    push_task(alloc, printer)
+// Version 2 always names the processor.
+static PRINTED_LINES_2: &[u8] =
+    b"dbp 2\npolicy edf\nuntil 1000000000\ninput g = -9223372036854775808\n\
+    task a every 3 from 0 when g prio 0 deadline 2 cost 1 cpu 0\nout y = 9 then -5\n";
+
+fn push_all(
+    alloc: Global,
+    printer: &mut Printer,
+    version: u32,
+    when: Option<Name>,
+) -> Result<(), Fail> {
+    push_head(printer, version)?;
+    push_task(alloc, printer, version, when)
 }
 
 #[test]
 fn lines_are_printed(rt: HostRuntime) -> Result<(), Fail> {
     let mut printer = Printer::new(rt.alloc());
-    push_all(rt.alloc(), &mut printer)?;
+    push_all(rt.alloc(), &mut printer, 1, None)?;
     assert_eq!(rt; printer.into_text().as_slice(), PRINTED_LINES);
+    let mut printer = Printer::new(rt.alloc());
+    push_all(rt.alloc(), &mut printer, 2, Some(name(b"g")?))?;
+    assert_eq!(rt; printer.into_text().as_slice(), PRINTED_LINES_2);
     Ok(())
 }
 
