@@ -1,6 +1,6 @@
 // What a line says after those before it, or its first fault.
 
-ghost use Rattle.std.specs.Prelude.{◌≡◌, ◌≢◌, false, ◌∷◌, List, Err, IfOk, IfErr, OnOk};
+ghost use Rattle.std.specs.Prelude.{◌≡◌, ◌≢◌, false, ◌∷◌, List, Err, IfOk, IfErr, OnOk, OnErr};
 ghost use Rattle.std.specs.List.{list_all};
 ghost use Rattle.dia_tokens.specs.Kinds.{is_allowed};
 ghost use Rattle.dia_tokens.specs.Line.{Spells as SpellsTokens, HasBadStart};
@@ -99,22 +99,22 @@ fn version_after(version: u32, line: &Line) -> u32
     }
 }
 
-/// What is kept of a line of the trace section, and the position after it.
-fn after_trace_line(position: Position, line: TraceLine) -> (Line, Position)
-    ensures kept { result.0 ≡ kept_in_trace line }
-    ensures next { result.1
-        ≡ record position { place = place_after_line position.place (kept_in_trace line) } }
+/// What is kept of a line of the trace section. The position goes on behind it.
+fn past_trace_line(position: &mut Position, line: TraceLine) -> Line
+    ensures kept { result ≡ kept_in_trace line }
+    ensures next { position.new
+        ≡ record position.old { place = place_after_line position.old.place (kept_in_trace line) } }
 {
     match line {
-        TraceLine::Blank => (Line::Nothing, position),
-        TraceLine::Row => (Line::Row, position),
+        TraceLine::Blank => Line::Nothing,
+        TraceLine::Row => Line::Row,
         TraceLine::Script => {
-            let place = Place::Script;
-            (Line::Script, Position { place, ..position })
+            position.place = Place::Script;
+            Line::Script
         }
         TraceLine::Done => {
-            let place = Place::Ended;
-            (Line::Done, Position { place, ..position })
+            position.place = Place::Ended;
+            Line::Done
         }
     }
 }
@@ -142,29 +142,30 @@ fn counted_line(
     }
 }
 
-/// What a line that isn't in the trace section says after those before it, and the position after it.
+/// What a line that isn't in the trace section says after those before it. The position goes on behind it.
 fn line_outside_trace(
     alloc: Global,
-    position: Position,
+    position: &mut Position,
     line: &[u8],
     tokens: &mut Vec<Token>,
-) -> Result<(Line, Position), LineError>
-    requires { position.place ≢ Trace }
-    ensures found { IfOk result (λ r. IsNextLine position line.now r.0 r.1) }
-    ensures fault { IfErr result (λ e. RefusesAfter position line.now e) }
+) -> Result<Line, LineError>
+    requires { position.old.place ≢ Trace }
+    ensures found { IfOk result (λ l. IsNextLine position.old line.now l position.new) }
+    ensures fault { IfErr result (λ e. RefusesAfter position.old line.now e) }
+    ensures same { OnErr result (position.new ≡ position.old) }
     ensures bad_byte { list_all is_allowed line.now ≡ false → result ≡ Err (Refused BadByte) }
-    ensures bad_token { position.place ≢ Script → HasBadStart line.now
+    ensures bad_token { position.old.place ≢ Script → HasBadStart line.now
         → result ≡ Err (Refused BadToken) }
 {
-    let (line, counts) = counted_line(alloc, position, line, tokens)?;
+    let (line, counts) = counted_line(alloc, *position, line, tokens)?;
     let version = version_after(position.version, &line);
     let place = place_after(position.place, &line);
-    let next = Position {
+    *position = Position {
         version,
         place,
         counts,
     };
-    Ok((line, next))
+    Ok(line)
 }
 
 /// What the line says after those before it, and the position after it; or its first fault.
@@ -181,32 +182,35 @@ pub fn read_line(
     ensures bad_token { position.place ≢ Trace → position.place ≢ Script → HasBadStart line.now
         → result ≡ Err (Refused BadToken) }
 {
-    read_line_with(alloc, position, line, &mut Vec::new(alloc))
+    let mut next = position;
+    let line = read_line_with(alloc, &mut next, line, &mut Vec::new(alloc))?;
+    Ok((line, next))
 }
 
-/// As `read_line`, for a caller who reads many lines: the list's room is used again for the line's tokens, which take the
-/// place of what it holds. What the list holds afterwards no clause says.
+/// As `read_line`, for a caller who reads many lines: the position goes on behind the line, and the list's room is used
+/// again for the line's tokens, which take the place of what it holds. What the list holds afterwards no clause says.
 pub fn read_line_with(
     alloc: Global,
-    position: Position,
+    position: &mut Position,
     line: &[u8],
     tokens: &mut Vec<Token>,
-) -> Result<(Line, Position), LineError>
+) -> Result<Line, LineError>
     // The line says what is held of it.
-    ensures found { IfOk result (λ r. IsNextLine position line.now r.0 r.1) }
+    ensures found { IfOk result (λ l. IsNextLine position.old line.now l position.new) }
     // A refusal says the line's first fault, unless memory ran out.
-    ensures fault { IfErr result (λ e. RefusesAfter position line.now e) }
+    ensures fault { IfErr result (λ e. RefusesAfter position.old line.now e) }
+    // After a refusal the position is as it was.
+    ensures same { OnErr result (position.new ≡ position.old) }
     // A line of the trace section takes no memory.
-    ensures memory { position.place ≡ Trace → IfErr result (λ e. e ≢ OutOfMemory) }
+    ensures memory { position.old.place ≡ Trace → IfErr result (λ e. e ≢ OutOfMemory) }
     // A line with a byte that no section allows is refused before any memory is taken.
     ensures bad_byte { list_all is_allowed line.now ≡ false → result ≡ Err (Refused BadByte) }
     // So is a line of the diagram that begins with a text that makes no token.
-    ensures bad_token { position.place ≢ Trace → position.place ≢ Script → HasBadStart line.now
-        → result ≡ Err (Refused BadToken) }
+    ensures bad_token { position.old.place ≢ Trace → position.old.place ≢ Script
+        → HasBadStart line.now → result ≡ Err (Refused BadToken) }
 {
     match position.place {
-        // A row has a way of its own, since a line is large and is moved at each return.
-        Place::Trace => Ok(after_trace_line(position, trace_line(line)?)),
+        Place::Trace => Ok(past_trace_line(position, trace_line(line)?)),
         _ => line_outside_trace(alloc, position, line, tokens),
     }
 }

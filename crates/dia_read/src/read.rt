@@ -34,11 +34,8 @@ fn read_lines(alloc: Global, bytes: &[u8]) -> Result<Doc, ReadFail>
     while !rest.is_empty() {
         let (line, after) = next_line(rest);
         number += 1;
-        match read_line_with(alloc, position, line, &mut tokens) {
-            Ok((item, next)) => {
-                draft.add(alloc, number, line, item)?;
-                position = next;
-            }
+        match read_line_with(alloc, &mut position, line, &mut tokens) {
+            Ok(item) => draft.add(alloc, number, line, item)?,
             Err(error) => return Err(refused_at(number, error)),
         }
         rest = after;

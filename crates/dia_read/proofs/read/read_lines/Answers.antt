@@ -32,8 +32,8 @@ loop-rest-preserved c =
     let read = c.in-Ok.ensures.found i.before i.after in
     let kept = kept-is i.before c.next_line.result.0.now read.0 c.in-Ok.item read.1 read.2 in
     let more = reached-more c.args.bytes.now c.loop-rest.rest.now c.loop-rest.number c.loop-rest.position c.loop-rest.draft i c.next_line.result.0.now c.next_line.result.1.now
-    c.next_line.ensures.value c.next_line.ensures.shorter c.next_line.ensures.within c.in-Ok.item c.in-Ok.next read in
-    let here = λ (text : List ℕ). Reached c.args.bytes.now c.next_line.result.1.now (c.loop-rest.number + 1) c.in-Ok.next (drafted c.loop-rest.draft (c.loop-rest.number + 1) text c.in-Ok.item) in
+    c.next_line.ensures.value c.next_line.ensures.shorter c.next_line.ensures.within c.in-Ok.item c.read_line_with.new.position read in
+    let here = λ (text : List ℕ). Reached c.args.bytes.now c.next_line.result.1.now (c.loop-rest.number + 1) c.read_line_with.new.position (drafted c.loop-rest.draft (c.loop-rest.number + 1) text c.in-Ok.item) in
     rw c.in_ok-add-in-Ok.ensures (subst here kept more)
 
 pub returns-in_ok-finish-clause-found : goal.returns-in_ok-finish-clause-found
