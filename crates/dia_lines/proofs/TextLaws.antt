@@ -1,8 +1,9 @@
 -- The first line of a text, and the lines after it.
-use Rattle.std.proofs.Common.{◌≡◌, ◌≢◌, ℕ, zero, suc, ◌-◌, ◌<◌, ◌≤◌, true, false, not, Option, Some, None, List, [], ◌∷◌, ◌++◌, length, refl, sym, ap, ◌∙◌, arith, length-drop, inl, inr, eqb, eq-eqb}
+use Rattle.std.proofs.Common.{◌≡◌, ◌≢◌, ℕ, zero, suc, ◌+◌, ◌-◌, ◌<◌, ◌≤◌, Bool, true, false, cond, not, Option, Some, None, List, [], ◌∷◌, ◌++◌, length, refl, sym, ap, ◌∙◌, arith, length-drop, inl, inr, eqb, eq-eqb, take}
 use Rattle.std.specs.Prelude.{slice_index, slice_index_or, unwrap_or}
 use Rattle.std.proofs.lemmas.Bool.Decides.{nat_tests}
 use Rattle.std.specs.List.{list_all, slice_split, onto_first, position_or_len, before_first, after_first}
+use Rattle.std.proofs.lemmas.List.{length-take}
 use Rattle.std.proofs.lemmas.List.Splits.{slice_split_first, slice_split_none, slice_split-cons_yes, slice_split-cons_no}
 use Rattle.std.proofs.lemmas.List.Sums.{prefix_len-le-length, fails_before_first, position_or_len_is}
 use Rattle.std.proofs.lemmas.List.Elements.{All-from_get_or}
@@ -69,6 +70,22 @@ cut_line-shorter bytes h =
     elim (cases_Bool (eqb (position_or_len is_end bytes) (length bytes))) [
       | inl y ↦ rw y h
       | inr n ↦ rw n (simp length-drop (omega arith))
+    ]
+
+trimmed-shorter : (text : List ℕ) → length (without_return text) ≤ length text
+trimmed-shorter text = go (eqb (slice_index_or text (length text - 1) 0) 13)
+  where
+    go : (b : Bool) → length (cond b (take (length text - 1) text) text) ≤ length text
+    go true = omega (arith, length-take (length text - 1) text)
+    go false = omega arith
+
+-- the line and the bytes after it are no more than all
+pub cut_line-within : (bytes : List ℕ) → 0 < length bytes → length (cut_line bytes).0 + length (cut_line bytes).1 ≤ length bytes
+cut_line-within bytes h =
+    let n = position_or_len is_end bytes in
+    elim (cases_Bool (eqb n (length bytes))) [
+      | inl y ↦ rw y (omega arith)
+      | inr other ↦ rw other (omega (arith, trimmed-shorter (take n bytes), length-take n bytes, length-drop (n + 1) bytes, prefix_len-le-length (λ b. not (is_end b)) bytes))
     ]
 
 fewer : (n : ℕ) (bytes : List ℕ) → length bytes ≤ n → length (lines_of bytes) ≤ length bytes

@@ -69,7 +69,7 @@ bare-drafted d n text line.Done = refl
 bare-drafted d n text line.Row = refl
 bare-drafted d n text (line.Step kept) = refl
 
-abbrev position_at : List Said → Position
+abbrev pub position_at : List Said → Position
 position_at before = record {
   version = version_after before;
   place = place_after before;
@@ -84,7 +84,7 @@ position_at before = record {
   };
 }
 
-after-there : (before : List Said) → IsAfter before (position_at before)
+pub after-there : (before : List Said) → IsAfter before (position_at before)
 after-there before = record { version = refl; place = refl; counts = record { inputs = refl; events = refl; tasks = refl; links = refl; body = refl; reads = refl; outs = refl } }
 
 -- ---- where a reader stands

@@ -16,5 +16,5 @@ pub mod Outcomes
 pub mod Following
 mod Rooms
 mod RoundTrip
-pub mod ItemLines
+pub mod SpelledDocuments
 pub mod TextLengths

@@ -521,7 +521,7 @@ prints-start = record {
 
 -- ---- what lines that were read promise
 
-fault-free : (ss : List Statement) (s : Statement) → limit_fault ss s ≡ None → (numbers_fit s ≡ true) × (passed_count ss s ≡ None)
+pub fault-free : (ss : List Statement) (s : Statement) → limit_fault ss s ≡ None → (numbers_fit s ≡ true) × (passed_count ss s ≡ None)
 fault-free ss s e = go (numbers_fit s) (passed_count ss s) refl refl e
   where
     go : (b : Bool) (o : Option Limit) → numbers_fit s ≡ b → passed_count ss s ≡ o → cond b (option_map LimitHit o) (Some (LimitHit limit.Number)) ≡ None → (numbers_fit s ≡ true) × (passed_count ss s ≡ None)

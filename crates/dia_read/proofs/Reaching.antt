@@ -43,7 +43,7 @@ pub record Reached (bytes rest : List ℕ) (number : ℕ) (position : Position) 
   pub few : number ≤ used
   pub within : used + length rest ≤ length bytes
 
-pub reached-start : (bytes : List ℕ) (position : Position) → IsAfter [] position → Reached bytes bytes 0 position empty_draft
+unfoldable pub reached-start : (bytes : List ℕ) (position : Position) → IsAfter [] position → Reached bytes bytes 0 position empty_draft
 reached-start bytes position b = record {
   before = [];
   seen = [];
@@ -107,11 +107,13 @@ module _ (bytes rest : List ℕ) (number : ℕ) (position : Position) (draft : D
   pairs line.Row (step t) r h = absurd h
   pairs l said r h = tt
 
-  pub reached-more : (l : Line) (next : Position) (n : Next l next) → Reached bytes after (number + 1) next (drafted draft (number + 1) (text_in l next n) l)
-  reached-more l next (said, reads, held, later) =
+  -- the reader has gone on behind the line
+  pub reached-next : (l : Line) (next : Position) (n : Next l next)
+      → (r : Reached bytes after (number + 1) next (drafted draft (number + 1) (text_in l next n) l)) × (r.before ≡ n.0 ∷ reached.before)
+  reached-next l next (said, reads, held, later) =
       let size : length (reverse reached.before) + 1 ≡ number + 1 = omega (arith, reached.count, length-reverse reached.before) in
       let add : ℕ = length rest - length after in
-      record {
+      (record {
         before = said ∷ reached.before;
         seen = reached.seen ++ text ∷ [];
         used = reached.used + add;
@@ -133,7 +135,10 @@ module _ (bytes rest : List ℕ) (number : ℕ) (position : Position) (draft : D
             prints-more reached.before said l draft (number + 1) reached.printing sound held (continues l said reads held);
         few = omega (arith, reached.few);
         within = omega (arith, reached.within);
-      }
+      }, refl)
+
+  pub reached-more : (l : Line) (next : Position) (n : Next l next) → Reached bytes after (number + 1) next (drafted draft (number + 1) (text_in l next n) l)
+  reached-more l next n = (reached-next l next n).0
 
   pub room-here : length bytes ≤ MAX_TEXT → HasRoom draft (number + 1) (length text)
   room-here size = has-room draft number (number + 1) reached.used (length text) reached.bounded (omega arith) (omega (arith, reached.within))

@@ -167,8 +167,12 @@ pub data IsFirstFault (bytes : List ℕ) : ℕ → ReadCode → Type 0 where
   no_end : (said : List Said) → is_blank_text bytes ≡ false → Run [] (lines_of bytes) said → place_after said ≢ Ended
       → IsFirstFault bytes (length (lines_of bytes) + 1) MissingDone
 
--- ---- another script
+-- ---- bodies that say the same in another way
 
--- the body with this script in place of its own
-abbrev pub with_script : Option (List ℕ) → Body → Body
-with_script text body = record body { script = text }
+-- the body with this version and this script in place of its own
+abbrev pub with_rest : ℕ → Option (List ℕ) → Body → Body
+with_rest version text body = record body { version = version; script = text }
+
+-- the body in version 2
+abbrev pub upgraded : Body → Body
+upgraded body = record body { version = 2 }

@@ -5,7 +5,7 @@ ghost use Rattle.dia_lines.specs.declared.fault.ReadCode.{ReadCode as Code};
 ghost use Rattle.dia_read.specs.declared.document.Doc.{Doc as Document};
 ghost use Rattle.dia_read.specs.declared.document.Body.{Body as BodyPrinted};
 ghost use Rattle.dia_read.specs.Canonical.{canonical_text, SpellsBody};
-ghost use Rattle.dia_read.specs.Documents.{Spells, IsFirstFault};
+ghost use Rattle.dia_read.specs.Documents.{Spells, IsFirstFault, upgraded};
 ghost use Rattle.dia_read.specs.Printable.{HasItemLines, IsPrintable};
 
 /// A text spells one document at most.
@@ -35,4 +35,14 @@ pub fn canonical_text_again()
 /// A document that a text spells has a line of each of its items.
 pub fn each_item_has_a_line()
     ensures { (bytes : Items ℕ) (d : Document) → Spells bytes d → HasItemLines d }
+{}
+
+/// A document that a text spells can be printed, however long the text is.
+pub fn a_document_can_be_printed()
+    ensures { (bytes : Items ℕ) (d : Document) → Spells bytes d → IsPrintable d.body }
+{}
+
+/// A body that can be printed still can in version 2.
+pub fn an_upgraded_body_can_be_printed()
+    ensures { (body : BodyPrinted) → IsPrintable body → IsPrintable (upgraded body) }
 {}

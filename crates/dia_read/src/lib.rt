@@ -15,13 +15,15 @@ mod laws;
 mod print;
 mod read;
 mod refusal;
+mod version;
 
 pub use dia_lines::{Decl, Limit, Part, RawClock, ReadCode};
 pub use document::{Body, Doc, DocLines, RawTask};
 pub use fault::ReadFail;
 pub use laws::{
-    canonical_text_again, canonical_text_spells, each_item_has_a_line, one_document,
-    one_first_fault,
+    a_document_can_be_printed, an_upgraded_body_can_be_printed, canonical_text_again,
+    canonical_text_spells, each_item_has_a_line, one_document, one_first_fault,
 };
 pub use print::print_doc;
 pub use read::read_doc;
+pub use version::upgrade;

@@ -1,4 +1,4 @@
-use Rattle.dia_read.proofs.ItemLines.{item-lines}
+use Rattle.dia_read.proofs.SpelledDocuments.{item-lines}
 use Rattle.dia_read.proofs.laws.each_item_has_a_line.Goals as goal
 
 pub returns : goal.returns
