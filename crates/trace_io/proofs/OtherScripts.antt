@@ -12,7 +12,7 @@ use Rattle.dia_read.specs.declared.document.Doc.{Doc}
 use Rattle.dia_read.specs.declared.document.DocLines.{DocLines}
 use Rattle.dia_read.specs.Documents.{Spells, with_script}
 use Rattle.dia_read.specs.Printable.{HasItemLines, KeepsItself}
-use Rattle.dia_read.proofs.ItemLines.{trace-lines}
+use Rattle.dia_read.proofs.SpelledDocuments.{printable-document}
 use Rattle.dia_check.specs.Checks.{IsCheckedOf}
 use Rattle.dia_check.proofs.ScriptLaws.{none-again}
 use Rattle.trace_rows.specs.Headers.{kind_of_column}
