@@ -160,9 +160,9 @@ def never_occurs(document, lines):
 
 def why_never(document, task, times):
     """Returns why a task never occurs."""
-    source = task.head.source
-    if times.base(task):
-        return f"the input `{task.head.condition.text}` of its `when` is 0 at each time of its clock"
+    source, condition = task.head.source, task.head.condition
+    if condition is not None and times.base(task):
+        return f"the input `{condition.text}` of its `when` is 0 at each time of its clock"
     if source is None:
         return f"its first time, {task.head.number('from', 0)}, isn't below `until {times.end}`"
     if source.text in times.events:
