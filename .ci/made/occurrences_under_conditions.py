@@ -1,4 +1,4 @@
-"""Tasks with conditions that occur as often as is allowed, and once more: over few long spans, and over many short ones."""
+"""Tasks with conditions that occur as often as is allowed, and once more: in few long spans, and in many short ones."""
 
 BILLION = 1_000_000_000
 ROWS = 50_000
