@@ -3,9 +3,9 @@
 MOST_BYTES = 1_048_576
 
 
-def text_of(*lines):
+def text_of(*lines, version=1):
     """Returns the document of these lines between the header and `done`."""
-    document = "\n".join(("dbp 1", *lines, "done", "")).encode()
+    document = "\n".join((f"dbp {version}", *lines, "done", "")).encode()
     assert len(document) <= MOST_BYTES, len(document)
     return document
 
@@ -114,6 +114,18 @@ def trace(rows, inputs, events):
             cells[inputs] = "1"
         lines.append(f"{row}," + ",".join(cells))
     return text_of(*lines)
+
+
+def conditions(tasks, ticks):
+    """Tasks of period 1 that are on for some ticks of each 40,000, by as many rows as a trace may have."""
+    lines = ["policy fp", "until 1000000000", "input x = 0"]
+    for task in range(tasks):
+        lines += [f"task t{task} every 1 when x prio {task} cost 1", "  state n = 0", "  next n = n + 1",
+                  "  out y = 0 then n + 1"]
+    lines += ["trace", "time,x"]
+    for start in range(0, 1_000_000_000, 40_000):
+        lines += [f"{start},1", f"{start + ticks},0"]
+    return text_of(*lines, version=2)
 
 
 def script_of(line):

@@ -36,8 +36,9 @@ from running import add_program_option  # noqa: E402
 from waveforms import command as waveforms  # noqa: E402
 
 STATUSES = (0, 1, 2, 3, 4, 5, 6, 7, 70)
-WORDS = "task every on prio deadline cost state sense read let next out pre at then if else trace script done 0 -1 1 3 " \
-        "9223372036854775807 9223372036854775808 1000000001 ( ) , . = == + - * / % # < x y a.y min max not é \t \r \0".split(" ")
+WORDS = "task every on when cpu prio deadline cost state sense read let next out pre at then if else trace script " \
+        "done 0 -1 1 3 9223372036854775807 9223372036854775808 1000000001 ( ) , . = == + - * / % # < x y a.y min max " \
+        "not é \t \r \0".split(" ")
 
 CALLS = {
     "check": (checking.main, []),

@@ -3,9 +3,11 @@
 Only text that the program wrote is read here, so a text that isn't canonical has no refusal of its own.
 """
 
+from bisect import bisect_left
 from dataclasses import dataclass
 from enum import Enum
 from functools import cached_property
+from itertools import chain
 from typing import Optional, Tuple, Union
 
 
@@ -93,13 +95,18 @@ class Out:
 
 @dataclass(frozen=True)
 class Task:
-    """A task with its body; the lines of one kind stand in order of declaration."""
+    """A task with its body; the lines of one kind stand in order of declaration.
+
+    `when` is the input that must not be 0 when it occurs, `cpu` its processor.
+    """
 
     name: str
     clock: Union[Every, On]
+    when: Optional[str]
     prio: Optional[int]
     deadline: Optional[int]
     cost: int
+    cpu: int
     states: Tuple[State, ...]
     senses: Tuple[Sense, ...]
     reads: Tuple[Read, ...]
@@ -133,18 +140,22 @@ class Trace:
         cut = [cells_of(line) for line in self.lines[1:]]
         return tuple(TraceRow(int(cells[0]), cells[1:]) for cells in cut)
 
-    def cells_under(self, name):
-        """Returns the time and the cell of each row in which something stands under an input or an event."""
-        if name not in self.columns:
-            return ()
-        at = self.columns.index(name)
-        return tuple((row.time, row.cells[at]) for row in self.rows if row.cells[at])
+    @cached_property
+    def filled_cells(self):
+        """Returns, by input and event, the time and the cell of each row in which something stands under it."""
+        found = {name: [] for name in self.columns}
+        for row in self.rows:
+            for name, cell in zip(self.columns, row.cells):
+                if cell:
+                    found[name].append((row.time, cell))
+        return found
 
 
 @dataclass(frozen=True)
 class Document:
     """A document. Its trace is None without such a section, and so are the lines of its script."""
 
+    version: int
     policy: Policy
     until: int
     inputs: Tuple[Input, ...]
@@ -157,15 +168,52 @@ class Document:
         """Returns the task of this name."""
         return next(task for task in self.tasks if task.name == name)
 
+    def cells_under(self, name):
+        """Returns the time and the cell of each row in which something stands under an input or an event."""
+        return self.trace.filled_cells.get(name, []) if self.trace else []
+
     def event_times(self, event):
         """Returns the times at which an event occurs."""
-        cells = self.trace.cells_under(event) if self.trace else ()
-        return [time for time, cell in cells if cell == "1"]
+        return [time for time, cell in self.cells_under(event) if cell == "1"]
 
     def samples(self, name):
         """Returns the time and the value of each sample of an input."""
-        cells = self.trace.cells_under(name) if self.trace else ()
-        return [(time, int(cell)) for time, cell in cells]
+        return [(time, int(cell)) for time, cell in self.cells_under(name)]
+
+    def times(self, task):
+        """Returns the times at which a task occurs, in their order."""
+        clock = task.clock
+        is_periodic = isinstance(clock, Every)
+        base = range(clock.offset, self.until, clock.period) if is_periodic else self.event_times(clock.event)
+        if task.when is None:
+            return base
+        first = next(it.first for it in self.inputs if it.name == task.when)
+        return list(chain.from_iterable(times_in(base, spans_on(first, self.samples(task.when), self.until))))
+
+
+def spans_on(first, samples, until):
+    """Yields the spans of ticks in which an input isn't 0: each one's first tick, and the one after its last.
+
+    The input has its first value until the first sample; a sample is a time and a value, and the times rise.
+    """
+    start, value = 0, first
+    for time, following in [*samples, (until, 0)]:
+        if value and start < time:
+            yield start, time
+        start, value = time, following
+
+
+def times_in(base, spans):
+    """Yields, for each span, the base times in it. Base times are a range or a list, and rise."""
+    for start, stop in spans:
+        yield base[count_below(base, start) : count_below(base, stop)]
+
+
+def count_below(base, tick):
+    """Returns how many base times are below a tick, without going through them."""
+    if isinstance(base, range):
+        return len(range(base.start, min(tick, base.stop), base.step))
+    return bisect_left(base, tick)
 
 
 def cells_of(line):
@@ -204,13 +252,14 @@ def read_part(line):
 def read_task(head, body):
     """Returns the task of its first line and the lines of its body."""
     words = head.split()
-    numbers = dict(zip(words[2::2], words[3::2]))
-    clock = On(numbers["on"]) if "on" in numbers else Every(int(numbers["every"]), int(numbers["from"]))
-    prio, deadline = (int(numbers[word]) if word in numbers else None for word in ("prio", "deadline"))
+    given = dict(zip(words[2::2], words[3::2]))
+    clock = On(given["on"]) if "on" in given else Every(int(given["every"]), int(given["from"]))
+    prio, deadline = (int(given[word]) if word in given else None for word in ("prio", "deadline"))
+    cost, cpu = int(given["cost"]), int(given.get("cpu", 0))
     parts = [read_part(line) for line in body]
     kinds = (State, Sense, Read, Let, Next, Out)
     lists = (tuple(part for part in parts if isinstance(part, kind)) for kind in kinds)
-    return Task(words[1], clock, prio, deadline, int(numbers["cost"]), *lists)
+    return Task(words[1], clock, given.get("when"), prio, deadline, cost, cpu, *lists)
 
 
 def tasks_of(lines):
@@ -242,6 +291,7 @@ def read_document(text):
     first_task = next((at for at, line in enumerate(diagram) if line.startswith("task ")), len(diagram))
     declared = [line.split() for line in diagram[3:first_task]]
     return Document(
+        version=int(diagram[0].split()[1]),
         policy=Policy(diagram[1].split()[1]),
         until=int(diagram[2].split()[1]),
         inputs=tuple(Input(words[1], int(words[3])) for words in declared if words[0] == "input"),

@@ -47,8 +47,7 @@ LINES = [
     ("when_before_the_header", "", "task a every 5 when x cost 4", "8 MissingHeader"),
     ("cpu_before_the_header", "# no header\n\n", "task a every 5 cost 4 cpu 0", "8 MissingHeader"),
     ("cpu_before_the_header_and_too_many_parentheses", "", "task a every 5 cost 4 cpu 0" + 65 * "(", "8 MissingHeader"),
-    # Another version is no header.
-    ("version_2", "", "dbp 2", "8 MissingHeader"),
+    # A second header doesn't change the version.
     ("version_2_after_the_header", "dbp 1\n", "dbp 2", BAD_LINE),
 ]
 

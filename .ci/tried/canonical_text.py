@@ -10,13 +10,14 @@ sys.path.insert(0, str(TOP / "tools"))
 from canonical import Every, read_document  # noqa: E402
 
 
-def head_of(task):
-    """Returns the first line of a task."""
+def head_of(task, version):
+    """Returns the first line of a task, in a document of a version."""
     clock = task.clock
     words = f"every {clock.period} from {clock.offset}" if isinstance(clock, Every) else f"on {clock.event}"
-    ranks = {"prio": task.prio, "deadline": task.deadline}
-    given = "".join(f" {word} {number}" for word, number in ranks.items() if number is not None)
-    return f"task {task.name} {words}{given} cost {task.cost}"
+    optional = {"when": task.when, "prio": task.prio, "deadline": task.deadline}
+    given = "".join(f" {word} {it}" for word, it in optional.items() if it is not None)
+    cpu = f" cpu {task.cpu}" if version > 1 else ""
+    return f"task {task.name} {words}{given} cost {task.cost}{cpu}"
 
 
 def body_of(task):
@@ -33,11 +34,11 @@ def body_of(task):
 
 def lines_of(document):
     """Yields the lines that a document was read from, those of a body and of the declarations in another order."""
-    yield from ("dbp 1", f"policy {document.policy.value}", f"until {document.until}")
+    yield from (f"dbp {document.version}", f"policy {document.policy.value}", f"until {document.until}")
     yield from (f"input {it.name} = {it.first}" for it in document.inputs)
     yield from (f"event {name}" for name in document.events)
     for task in document.tasks:
-        yield head_of(task)
+        yield head_of(task, document.version)
         yield from body_of(task)
     for word, lines in (("trace", document.trace and document.trace.lines), ("script", document.script)):
         if lines is not None:

@@ -32,7 +32,7 @@ TOO_LARGE = b"#" * 1048577
 # The name of a call, its words, its input, its status, and what stands at the start of what it prints.
 CALLS = (
     ("an accepted document", [str(EXAMPLE)], b"", 0, b""),
-    ("standard input", ["-"], b"dbp 2\n", 1, b"-:1:1: error: 8 MissingHeader: "),
+    ("standard input", ["-"], b"dbp 3\n", 1, b"-:1:1: error: 8 MissingHeader: "),
     ("an empty list", ["--json", str(EXAMPLE)], b"", 0, b"[\n]\n"),
     ("two files", [str(EXAMPLE), "-"], b"dbp 1\n", 1, b"-:2:1: error: 7 MissingDone: "),
     ("no script", ["--as", "replay", "-"], EXAMPLE.read_bytes(), 1, b"-:14:1: error: 29 NoScript: "),
@@ -82,7 +82,7 @@ def other_documents(program):
     """Returns the documents of the docs, and those of .ci/tried, that differ from what the program prints, or nothing."""
     texts = {}
     for page in sorted([*TOP.glob("*.md"), *(TOP / "docs").glob("*.md")]):
-        for place, text in enumerate(re.findall(r"```\n(dbp 1\n.*?)```", page.read_text(), re.DOTALL), 1):
+        for place, text in enumerate(re.findall(r"```\n(dbp [12]\n.*?)```", page.read_text(), re.DOTALL), 1):
             texts[f"{page.name}, document {place}"] = text.encode()
     for file in sorted([*(TOP / ".ci").rglob("*.dbp"), *(TOP / "docs").rglob("*.dbp")]):
         texts[file.relative_to(TOP)] = file.read_bytes()

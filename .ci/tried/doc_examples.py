@@ -2,7 +2,7 @@
 
 A block without a word after its fence is one of these, and so is one with the word `diff`:
 
-- its first line is `dbp 1`: a document, which is the page's current one from then on;
+- its first line is `dbp 1` or `dbp 2`: a document, which is the page's current one from then on;
 - its word is `diff`: a change of the current document. Lines that begin with a space or a `-` must stand in it once,
   one after another, and those that begin with a space or a `+` take their place;
 - its first line is `trace` or `script`: the end of the current document, which takes the place of its line `done`;
@@ -29,6 +29,7 @@ from doc_pages import blocks_and_prose, pages  # noqa: E402
 
 PROGRAMS = ("dbp", "./dbp", "./try")
 LINKED = ("examples", "cases", "docs", "tools")
+HEADERS = ("dbp 1", "dbp 2")
 LEFT_OUT = ".."
 STATUS = "$ echo $?"
 SECONDS = 60
@@ -100,7 +101,7 @@ def examples_of(text):
                 document = lines_after(document, block.lines)
             elif block.word:
                 continue
-            elif first == "dbp 1":
+            elif first in HEADERS:
                 document = block.lines
             elif first in ("trace", "script"):
                 document = lines_with_end(document, block.lines)

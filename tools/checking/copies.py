@@ -38,7 +38,7 @@ def columns_of_copy(document, asked, keeps_all):
 
 def copy_of(document, columns):
     """Returns the text of a copy: without comments and script, and with the outs that its columns want."""
-    lines = ["dbp 1", f"policy {document.policy}", source(document, document.until)]
+    lines = [f"dbp {document.version}", f"policy {document.policy}", source(document, document.until)]
     lines += [source(document, it) for it in document.declarations]
     for task in document.tasks:
         lines.append(source(document, task.head))

@@ -22,11 +22,12 @@ class LeavesForm(Exception):
 
 
 class Cursor:
-    """Takes the tokens of a line one after another."""
+    """Takes the tokens of a line, of a document of some version, one after another."""
 
-    def __init__(self, tokens, form):
+    def __init__(self, tokens, form, version):
         self.tokens = tokens
         self.form = form
+        self.version = version
         self.at = 0
 
     @property
@@ -107,8 +108,8 @@ class Cursor:
         return about_word(self.here, re.findall("`([a-z]+)", wanted))
 
 
-def cursor_of(tokens):
+def cursor_of(tokens, version):
     """Returns a cursor after the first word of a line, which says its form."""
-    cursor = Cursor(tokens, FORMS[tokens[0].text])
+    cursor = Cursor(tokens, FORMS[tokens[0].text], version)
     cursor.at = 1
     return cursor

@@ -4,6 +4,7 @@ from __future__ import annotations
 
 from dataclasses import dataclass, field
 
+from checking.language import VERSIONS
 from checking.statements import Statement
 from checking.text import Line
 from checking.tokens import Token
@@ -54,11 +55,13 @@ class Step:
 class Document:
     """What the lines say.
 
-    `doubtful` has the names in lines with faults, of which nothing is known; `hides_names` says whether such a line hides
-    the name of an input, an event or a task, `is_header_bad` whether the trace's header has a byte that isn't allowed.
+    `version` is the latest one until the header is read, so that a fault of the header leads to no others. `doubtful` has
+    the names in lines with faults, of which nothing is known; `hides_names` says whether such a line hides the name of an
+    input, an event or a task, `is_header_bad` whether the trace's header has a byte that isn't allowed.
     """
 
     lines: list[Line]
+    version: int = VERSIONS[-1]
     policy: str | None = None
     until: Statement | None = None
     declarations: list[Statement] = field(default_factory=list)

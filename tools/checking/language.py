@@ -17,6 +17,8 @@ MOST_ROWS = 50_000
 MOST_OCCURRENCES = 100_000
 GREATEST_SLOT = 2**32 - 1
 GREATEST_DELAY = 8
+GREATEST_CPU = 7
+VERSIONS = (1, 2)
 
 
 @dataclass(frozen=True)
@@ -40,6 +42,7 @@ SPANS = {
     "cost": LENGTH,
     "prio": Span(0, 1_000_000),
     "pre": Span(1, GREATEST_DELAY),
+    "cpu": Span(0, GREATEST_CPU),
 }
 
 # How many there may be of a part: in the document, except for those of one task.
@@ -56,12 +59,12 @@ COUNTED = {
 }
 
 FORMS = {
-    "dbp": "dbp 1",
+    "dbp": "` or `".join(f"dbp {version}" for version in VERSIONS),
     "policy": "policy fp` or `policy edf",
     "until": "until N",
     "input": "input NAME = V",
     "event": "event NAME",
-    "task": "task NAME every N [from N] [prio N] [deadline N] cost N",
+    "task": "task NAME CLOCK cost N",
     "state": "state NAME = V",
     "sense": "sense NAME = NAME",
     "read": "read NAME = [pre [K]] NAME.NAME [at N]",
@@ -73,7 +76,11 @@ FORMS = {
     "done": "done",
 }
 
-TASK_ON_EVENT = "task NAME on NAME [prio N] [deadline N] cost N"
+# What stands after the clock in a `task` line, by the version of the document, in its order. Only `cost` must be there.
+AFTER_CLOCK = {
+    1: ("from", "prio", "deadline", "cost"),
+    2: ("from", "when", "prio", "deadline", "cost", "cpu"),
+}
 
 BODY = ("state", "sense", "read", "let", "next", "out")
 
@@ -91,3 +98,19 @@ STEP_FORMS = {
     "done": ("done T",),
     "end": ("end T",),
 }
+
+
+def parts_after(clock, version):
+    """Returns the words of what may stand after a clock in a `task` line; a task on an event has no offset."""
+    return [word for word in AFTER_CLOCK[version] if word != "from" or clock == "every"]
+
+
+def part_form(word):
+    """Returns a word of a `task` line and what stands after it."""
+    return f"{word} NAME" if word in ("on", "when") else f"{word} N"
+
+
+def task_form(clock, version):
+    """Returns the form of a `task` line with a clock."""
+    parts = [part_form(word) if word == "cost" else f"[{part_form(word)}]" for word in parts_after(clock, version)]
+    return " ".join(["task NAME", part_form(clock), *parts])

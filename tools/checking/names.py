@@ -39,7 +39,7 @@ class NameFaults:
             found += duplicate(outer, statement)
         for task in self.document.tasks:
             repeated = duplicate(outer, task.head) if task.head.name else []
-            found += repeated or (self.unknown_event(task.head) if task.is_whole else [])
+            found += repeated or (self.of_head(task.head) if task.is_whole else [])
             found += self.of_body(task)
         return sorted(found, key=lambda it: it.line)
 
@@ -55,16 +55,21 @@ class NameFaults:
                 or past_cost(task, statement)
             )
 
-    def unknown_event(self, head):
-        """Returns the message of a task on what is no event."""
-        if head.source is None or head.source.text in self.events or self.is_silent("event", head.source, self.document):
+    def of_head(self, head):
+        """Returns the messages of the names in a task's first line: `on` of no event, `when` of no input."""
+        events = self.unknown_outer(head, head.source, "event", self.events)
+        return [*events, *self.unknown_outer(head, head.condition, "input", self.inputs)]
+
+    def unknown_outer(self, statement, token, kind, names):
+        """Returns the message of a name, if a line has it, that is no event or no input of the document."""
+        if token is None or token.text in names or self.is_silent(kind, token, self.document):
             return []
-        return [self.not_there(head, head.source, "event", self.events)]
+        return [self.not_there(statement, token, kind, names)]
 
     def unknown(self, task, statement):
         """Returns the messages of the names of a line that aren't there."""
         if statement.word == "sense":
-            return self.unknown_input(statement)
+            return self.unknown_outer(statement, statement.source, "input", self.inputs)
         if statement.word == "read":
             return self.unknown_link(statement)
         return [*self.unknown_state(task, statement), *self.unknown_values(task, statement)]
@@ -76,12 +81,6 @@ class NameFaults:
             return []
         self.note_told("value", statement.name, task)
         return [self.not_there(statement, statement.name, "state", states, task)]
-
-    def unknown_input(self, statement):
-        """Returns the message of a sense of what is no input."""
-        if statement.source.text in self.inputs or self.is_silent("input", statement.source, self.document):
-            return []
-        return [self.not_there(statement, statement.source, "input", self.inputs)]
 
     def unknown_link(self, statement):
         """Returns the message of a read of no task, or of no out of that task."""

@@ -23,7 +23,7 @@ def missing_number(document, task):
     text = f"the task `{task.name}` has no `{word}`, by which `policy {document.policy}` ranks"
     if other in task.head.numbers:
         text += f"; its `{other}` ranks under the other policy alone"
-    cost = task.head.tokens[-2]
+    cost = next(token for token in task.head.tokens if token.says("cost"))
     return error_at(cost, task.head.line, code, f"{text}; `{word} N` stands before `{before(task, word)}`")
 
 

@@ -58,7 +58,8 @@ class Reader:
                 self.take_line(line)
         if not has_tokens:
             in_first = [fault for fault in self.faults if fault.line == 1]
-            self.faults = in_first or [error(1, 1, 8, "the text has no line with tokens; it must begin with `dbp 1`")]
+            text = f"the text has no line with tokens; it must begin with `{FORMS['dbp']}`"
+            self.faults = in_first or [error(1, 1, 8, text)]
         elif self.section is not Section.END and not self.is_end_doubtful():
             self.faults.append(self.missing_done())
         self.note_signs()
@@ -151,7 +152,7 @@ class Reader:
         if statement.head.kind is not Kind.WORD or statement.word not in FORMS:
             return None
         try:
-            FORM_OF[statement.word](cursor_of(statement.tokens), statement)
+            FORM_OF[statement.word](cursor_of(statement.tokens, self.document.version), statement)
         except LeavesForm as leaves:
             return leaves
         return None
@@ -161,8 +162,9 @@ class Reader:
         size_fault = node_fault(line, tokens) or depth_fault(line, tokens)
         form_fault = None if size_fault else self.take_form(statement)
         if self.section is Section.HEADER and (statement.word != "dbp" or form_fault or size_fault):
-            more = ", the only version" if statement.word == "dbp" else ""
-            return error_at(statement.head, line.number, 8, "the first line with tokens must be `dbp 1`" + more)
+            more = "; there are no other versions" if statement.word == "dbp" else ""
+            text = f"the first line with tokens must be `{FORMS['dbp']}`{more}"
+            return error_at(statement.head, line.number, 8, text)
         fault = size_fault or place_fault(statement, self.section, self.document)
         if fault is None and form_fault:
             more = self.about_next_line(line) if form_fault.is_at_end else ""
@@ -227,7 +229,9 @@ class Reader:
         is_kept = fault is None or fault.code == 3 and self.is_complete(statement)
         if self.section is Section.END or not is_kept:
             return
-        if word == "policy":
+        if word == "dbp" and fault is None:
+            document.version = statement.value.value
+        elif word == "policy":
             document.policy = statement.value.text
         elif word == "until":
             document.until = statement
@@ -288,8 +292,8 @@ def kind_of(words):
 
 
 def name_of_task(tokens):
-    """Returns the name in the line of a task that has a fault: it stands before the clock, or after `task`."""
-    clocks = [place for place, token in enumerate(tokens) if token.says("every", "on")]
+    """Returns the name in the line of a task that has a fault: it stands before the clock or `when`, or after `task`."""
+    clocks = [place for place, token in enumerate(tokens) if token.says("every", "on", "when")]
     place = clocks[0] - 1 if clocks else 1
     is_name = 0 <= place < len(tokens) and tokens[place].kind is Kind.NAME
     return tokens[place] if is_name else None

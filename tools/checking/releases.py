@@ -2,7 +2,7 @@
 
 from dataclasses import dataclass
 
-from checking.occurrences import times_of_events
+from checking.occurrences import Times
 from checking.steps import claims_of
 
 WAITING = ("closed", "notyet")
@@ -45,12 +45,9 @@ def party_of(words):
 
 def batches(document):
     """Yields the tasks that occur at each time, in the order of the times."""
-    events, end = times_of_events(document), document.until.number("until")
-    by_time = {}
+    times, by_time = Times(document), {}
     for task in document.tasks:
-        head = task.head
-        every = range(head.number("from", 0), end, head.number("every", 1))
-        for time in every if head.source is None else events.get(head.source.text, ()):
+        for time in times.of(task):
             by_time.setdefault(time, []).append(task)
     yield from (by_time[time] for time in sorted(by_time))
 

@@ -5,17 +5,19 @@ from __future__ import annotations
 from dataclasses import dataclass, field
 
 from checking.expressions import whole
-from checking.language import FORMS, GREATEST_DELAY, TASK_ON_EVENT
+from checking.language import GREATEST_DELAY, VERSIONS, part_form, parts_after, task_form
 from checking.text import listed
 from checking.tokens import Kind, Token
+
+NO_EXPRESSION = "`when` has the name of an input and no expression: the task occurs if the input isn't 0"
 
 
 @dataclass
 class Statement:
     """A line with tokens: its kind, and those of its parts that it has.
 
-    `source` and `port` are what a `read` names, `source` alone what `on` and `sense` name; `numbers` has the numbers by
-    the words before them, `names` the names in the expression.
+    `source` and `port` are what a `read` names, `source` alone what `on` and `sense` name, `condition` what `when` names;
+    `numbers` has the numbers by the words before them, `names` the names in the expression.
     """
 
     line: int
@@ -24,6 +26,7 @@ class Statement:
     value: Token | None = None
     source: Token | None = None
     port: Token | None = None
+    condition: Token | None = None
     numbers: dict[str, Token] = field(default_factory=dict)
     names: list[Token] = field(default_factory=list)
     is_delayed: bool = False
@@ -44,12 +47,13 @@ class Statement:
         return self.number("pre", 1) if self.is_delayed else 0
 
 
-def header(cursor, _):
-    """Takes `1` after `dbp`."""
-    version = cursor.number("the version `1`")
-    if version.value != 1:
+def header(cursor, statement):
+    """Takes the version after `dbp`."""
+    wanted = f"the version {listed(VERSIONS, 'or')}"
+    statement.value = cursor.number(wanted)
+    if statement.value.value not in VERSIONS:
         cursor.at -= 1
-        cursor.leave("the version `1`")
+        cursor.leave(wanted)
     cursor.end()
 
 
@@ -88,33 +92,59 @@ def event(cursor, statement):
 
 
 def task(cursor, statement):
-    """Takes a task's name, clock, priority, deadline and cost."""
+    """Takes a task's name, its clock and what stands after it."""
+    cursor.form = task_form("every", cursor.version)
     if cursor.says("every", "on"):
         cursor.leave("a name", "the name of the task comes before its clock")
     statement.name = cursor.name("a name")
-    if cursor.here is None or not cursor.says("every", "on"):
-        cursor.form = f"{FORMS['task']}` or `{TASK_ON_EVENT}"
-    if cursor.word("every", "on").text == "every":
-        if cursor.here is not None and cursor.here.kind is Kind.NAME:
-            cursor.leave("the period, a number,", f"a task that occurs with an event is `on {cursor.here.text}`")
+    if not cursor.says("every", "on"):
+        cursor.form = "` or `".join(task_form(word, cursor.version) for word in ("every", "on"))
+        cursor.leave("`every` or `on`", about_version(cursor))
+    word = cursor.word("every", "on").text
+    cursor.form = task_form(word, cursor.version)
+    clock(cursor, statement, word)
+    after_clock(cursor, statement, [word], parts_after(word, cursor.version))
+
+
+def clock(cursor, statement, word):
+    """Takes the period or the event of a clock, after its word."""
+    here = cursor.here
+    if word == "every":
+        if here is not None and here.kind is Kind.NAME:
+            cursor.leave("the period, a number,", f"a task that occurs with an event is `on {here.text}`")
         statement.numbers["every"] = cursor.number("the period, a number,")
-        left = ["from", "prio", "deadline", "cost"]
     else:
-        cursor.form = TASK_ON_EVENT
-        if cursor.here is not None and cursor.here.kind is Kind.NUMBER:
-            cursor.leave("the name of an event", f"a task with a period is `every {cursor.here.text}`")
+        if here is not None and here.kind is Kind.NUMBER:
+            cursor.leave("the name of an event", f"a task with a period is `every {here.text}`")
         statement.source = cursor.name("the name of an event")
-        left = ["prio", "deadline", "cost"]
-    given = ["every" if "every" in statement.numbers else "on"]
+
+
+def after_clock(cursor, statement, given, left):
+    """Takes what stands after the clock: of the words that are left, in their order, `cost` and any others."""
     while left:
-        taken = cursor.takes(*left)
+        first = left[: left.index("cost") + 1] if "cost" in left else left
+        taken = cursor.takes(*first)
+        if taken is None and "cost" in left:
+            cursor.leave(listed(map(part_form, first), "or"), about_task(cursor, given, left))
         if taken is None:
-            cursor.leave(listed([f"{word} N" for word in left], "or"), about_task(cursor, given, left))
-        statement.numbers[taken.text] = cursor.number(f"a number after `{taken.text}`")
+            break
+        if taken.text == "when":
+            statement.condition = condition(cursor)
+        else:
+            statement.numbers[taken.text] = cursor.number(f"a number after `{taken.text}`")
         given.append(taken.text)
         left = left[left.index(taken.text) + 1 :]
     if cursor.here is not None:
-        cursor.leave("the line's end", about_task(cursor, given, left))
+        wanted = " or ".join([*(f"`{part_form(word)}`" for word in left), "the line's end"])
+        cursor.leave(wanted, about_task(cursor, given, left))
+
+
+def condition(cursor):
+    """Takes the name of the input after `when`."""
+    here = cursor.here
+    if here is not None and (here.kind in (Kind.NUMBER, Kind.SYMBOL) or here.says("not", "if", "min", "max")):
+        cursor.leave("the name of an input", NO_EXPRESSION)
+    return cursor.name("the name of an input")
 
 
 def about_task(cursor, given, left):
@@ -126,9 +156,21 @@ def about_task(cursor, given, left):
         return f"`{here.text}` stands here a second time"
     if here.says("from") and given[0] == "on":
         return "only a task with `every` has an offset"
-    if here.says("from", "prio", "deadline"):
-        return f"`{here.text} N` comes before `{given[-1]} N`"
-    return "" if left else "`cost N` comes last"
+    if about_version(cursor):
+        return about_version(cursor)
+    if given[-1] == "when" and (here.kind is Kind.SYMBOL or here.says("and", "or")):
+        return NO_EXPRESSION
+    if here.says("from", "when", "prio", "deadline"):
+        return f"`{part_form(here.text)}` comes before `{part_form(given[-1])}`"
+    if here.says("cpu"):
+        return "`cpu N` comes after `cost N`"
+    return "" if left else f"`{part_form(given[-1])}` comes last"
+
+
+def about_version(cursor):
+    """Returns which documents have a word that those of this version don't have, or nothing."""
+    is_later = cursor.version == 1 and cursor.says("when", "cpu")
+    return f"`{cursor.here.text}` needs a document that begins with `dbp 2`" if is_later else ""
 
 
 def sense(cursor, statement):

@@ -8,7 +8,7 @@ from checking.bounds import bounded_names
 from checking.copies import Column, columns_of_copy, copy_of
 from checking.language import GREATEST_VALUE, LEAST_VALUE
 from checking.messages import warning
-from checking.occurrences import count_of_occurrences, times_of_events
+from checking.occurrences import Times, count_of_occurrences
 from checking.timing import is_surely_in_time, overrun_warnings
 from checking.tokens import Kind
 from checking.trees import expression_of, tree_of
@@ -151,19 +151,21 @@ def never_occurs(document, lines):
         missing.discard(line.split(",", 2)[1])
         if not missing:
             return
-    events = times_of_events(document)
+    times = Times(document)
     for task in document.tasks:
         if task.name in missing:
-            text = f"the task `{task.name}` never occurs: {why_never(document, task, events)}"
+            text = f"the task `{task.name}` never occurs: {why_never(document, task, times)}"
             yield warning(task.head.line, task.head.name, "NeverOccurs", text)
 
 
-def why_never(document, task, events):
+def why_never(document, task, times):
     """Returns why a task never occurs."""
-    source, end = task.head.source, document.until.number("until")
+    source, condition = task.head.source, task.head.condition
+    if condition is not None and times.base(task):
+        return f"the input `{condition.text}` of its `when` is 0 at each time of its clock"
     if source is None:
-        return f"its first time, {task.head.number('from', 0)}, isn't below `until {end}`"
-    if source.text in events:
+        return f"its first time, {task.head.number('from', 0)}, isn't below `until {times.end}`"
+    if source.text in times.events:
         return f"no row of the trace has `1` in the column `{source.text}`"
     if document.trace_at is None:
         return f"without a trace its event `{source.text}` never occurs"

@@ -34,11 +34,12 @@ def trace_after_script(document):
 
 def unused(document):
     """Yields a warning of each name that has no effect on any out."""
-    sensed = {sense.source.text for task in document.tasks for sense in task.lines("sense")}
+    used = used_inputs(document)
     on = {task.head.source.text for task in document.tasks if task.head.source is not None}
     for name, declaration in document.declared("input").items():
-        if name not in sensed:
-            yield of_name(declaration, "UnusedInput", f"no `sense` names the input `{name}`")
+        if name not in used:
+            also = " and no `when`" if document.version > 1 else ""
+            yield of_name(declaration, "UnusedInput", f"no `sense`{also} names the input `{name}`")
     for name, declaration in document.declared("event").items():
         if name not in on:
             yield of_name(declaration, "UnusedEvent", f"no task is on the event `{name}`")
@@ -51,14 +52,20 @@ def unused(document):
                 yield of_name(statement, f"Unused{kind.capitalize()}", text)
 
 
+def used_inputs(document):
+    """Returns the names of the inputs that a task senses, or that its `when` names."""
+    conditions = {task.head.condition.text for task in document.tasks if task.head.condition is not None}
+    return conditions | {sense.source.text for task in document.tasks for sense in task.lines("sense")}
+
+
 def kept_inputs(document):
-    """Yields a warning of each input that a task senses and no column of the trace gives values."""
+    """Yields a warning of each input that a task uses and no column of the trace gives values."""
     if any(step.text == "trace" for step in document.steps):
         return
     columns = [cell.text for cell in row_of(document.rows[0]).cells] if document.rows else []
-    sensed = {sense.source.text for task in document.tasks for sense in task.lines("sense")}
+    used = used_inputs(document)
     for name, declaration in document.declared("input").items():
-        if name in sensed and name not in columns[1:]:
+        if name in used and name not in columns[1:]:
             why = "the document has no trace" if document.trace_at is None else "the trace has no such column"
             text = f"the input `{name}` is always {declaration.value.value}: {why}"
             yield of_name(declaration, "KeptInput", text)
@@ -119,25 +126,34 @@ def equal_ranks(document):
 
 
 def long_costs(document):
-    """Yields a warning of each cost that is above its task's period or deadline."""
+    """Yields a warning of each cost that is above its task's period or deadline.
+
+    A task with a `when` may be in time though its cost is above its period: it needn't occur a period later.
+    """
     for task in document.tasks:
         cost = task.head.number("cost")
         for word, name, what in (("every", "CostAbovePeriod", "period"), ("deadline", "CostAboveDeadline", "deadline")):
             length = task.head.number(word)
-            if length is not None and cost > length:
+            may_fit = word == "every" and task.head.condition is not None
+            if length is not None and cost > length and not may_fit:
                 text = f"the cost {cost} of the task `{task.name}` is above its {what} {length}: it can't be in time"
                 note = Note(task.head.line, task.head.numbers[word].column, f"the {what}")
                 yield warning(task.head.line, task.head.numbers["cost"], name, text, note)
 
 
 def load(document):
-    """Yields a warning of the task with which the load of the tasks with a period goes above 1."""
-    periodic = [task for task in document.tasks if task.head.source is None]
+    """Yields a warning of the task with which the load of the tasks with a period goes above 1.
+
+    Tasks with a `when` aren't counted: they may be on in turn, or seldom.
+    """
+    periodic = [task for task in document.tasks if task.head.source is None and task.head.condition is None]
     shares = [Fraction(task.head.number("cost"), task.head.number("every")) for task in periodic]
     above = [task for task, total in zip(periodic, accumulate(shares)) if total > 1]
     if above:
         parts = ", ".join(f"{task.name} {share}" for task, share in zip(periodic, shares))
-        text = f"the load of the tasks with a period is {decimal(sum(shares))}, and one processor has 1: {parts}"
+        are_some = any(task.head.condition is not None for task in document.tasks)
+        which = "a period and no `when`" if are_some else "a period"
+        text = f"the load of the tasks with {which} is {decimal(sum(shares))}, and one processor has 1: {parts}"
         yield warning(above[0].head.line, above[0].head.name, "Overload", text)
 
 

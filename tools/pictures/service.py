@@ -7,7 +7,7 @@ import heapq
 from dataclasses import dataclass
 from typing import Optional, Tuple
 
-from canonical import Every, Policy
+from canonical import Policy
 
 
 @dataclass(frozen=True)
@@ -101,19 +101,12 @@ def rank_order(document):
     return sorted(range(len(tasks)), key=lambda at: -tasks[at].prio if is_fixed else tasks[at].deadline)
 
 
-def release_times(document, task):
-    """Returns the times of a task's occurrences."""
-    if isinstance(task.clock, Every):
-        return range(task.clock.offset, document.until, task.clock.period)
-    return document.event_times(task.clock.event)
-
-
 def batches(document):
     """Returns the time and the instances of each batch, in the order of time and of declaration."""
     found = {}
     is_fixed = document.policy is Policy.FIXED_PRIORITIES
     for at, task in enumerate(document.tasks):
-        for number, time in enumerate(release_times(document, task), 1):
+        for number, time in enumerate(document.times(task), 1):
             deadline = None if is_fixed else time + task.deadline
             found.setdefault(time, []).append(Instance(at, number, time, deadline))
     return sorted(found.items())
