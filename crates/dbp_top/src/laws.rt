@@ -7,8 +7,7 @@ ghost use Rattle.dbp_plan.specs.declared.plan.Plan.{Plan as AnyPlan};
 ghost use Rattle.dbp_replay.specs.Texts.{script_text};
 ghost use Rattle.dbp_rules.specs.declared.step.Step.{Step as AnyStep};
 ghost use Rattle.dia_read.specs.declared.document.Doc.{Doc as AnyDocument};
-ghost use Rattle.dia_read.specs.Documents.{Spells, with_script};
-ghost use Rattle.dia_read.specs.Printable.{IsPrintable};
+ghost use Rattle.dia_read.specs.Documents.{Spells, with_rest};
 ghost use Rattle.trace_io.specs.Texts.{Accepts};
 ghost use Rattle.virtual_sim.specs.Record.{IsRecord};
 ghost use Rattle.dbp_top.specs.Answer.{Answers};
@@ -18,9 +17,9 @@ ghost use Rattle.dbp_top.specs.declared.command.Command.TheVariants.{Replay};
 ghost use Rattle.dbp_top.specs.declared.status.Status.{Status as Ending};
 ghost use Rattle.dbp_top.specs.declared.status.Status.TheVariants.{Ok as Written};
 
-use dia_read::each_item_has_a_line;
+use dia_read::{a_document_can_be_printed, each_item_has_a_line};
 use sync_meaning::one_meaning;
-use trace_io::{accepted_with_another_script, one_plan};
+use trace_io::{another_version_or_script_is_accepted, one_plan};
 
 /// Words name one command at most.
 pub fn one_command()
@@ -37,15 +36,16 @@ pub fn one_answer()
 }
 
 /// If a text is accepted with a plan, `replay --ranked` returns status 0 for each text that spells a document with the
-/// same body, except that its script is that of the plan's recorded list. Each document that is read is printable, as
-/// `read_doc` says.
+/// same body, except that its script is that of the plan's recorded list; it may also be of another version.
 pub fn a_recorded_script_is_replayed()
     ensures { (input other : Items ℕ) (plan : AnyPlan) (steps : Items AnyStep)
         (accepted : Accepts input plan) (doc : AnyDocument)
-        → IsPrintable accepted.doc.body → IsRecord plan steps → Spells other doc
-        → doc.body ≡ with_script (Some (script_text plan.diagram steps)) accepted.doc.body
+        → IsRecord plan steps → Spells other doc
+        → doc.body
+        ≡ with_rest doc.body.version (Some (script_text plan.diagram steps)) accepted.doc.body
         → (text : Items ℕ) × Answers other (Replay true) Written text }
 {
+    a_document_can_be_printed();
     each_item_has_a_line();
-    accepted_with_another_script();
+    another_version_or_script_is_accepted();
 }

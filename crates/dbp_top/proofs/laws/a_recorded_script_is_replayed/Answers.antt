@@ -8,18 +8,19 @@ use Rattle.dbp_replay.specs.Texts.{script_text}
 use Rattle.dbp_replay.proofs.AllowedSteps.{all_slot_numbers, all_there}
 use Rattle.dbp_replay.proofs.CheckedNames.{checked-names}
 use Rattle.dbp_replay.proofs.PrintedScripts.{script-again}
-use Rattle.dia_read.specs.Documents.{with_script}
+use Rattle.dia_read.specs.Documents.{with_rest}
 use Rattle.virtual_sim.proofs.EndEvents.{record_leads}
 use Rattle.dbp_top.specs.Answer.{made, of_plan, replay}
 use Rattle.dbp_top.specs.declared.command.Command.TheVariants.{Replay}
 use Rattle.dbp_top.proofs.laws.a_recorded_script_is_replayed.Goals as goal
 
 pub returns : goal.returns
-returns c = λ input other plan steps accepted doc printable is spells same.
+returns c = λ input other plan steps accepted doc is spells same.
+    let printable = c.a_document_can_be_printed.ensures input accepted.doc accepted.spelled in
     let lines = c.each_item_has_a_line.ensures input accepted.doc accepted.spelled in
     let kept : doc.body.script ≡ Some (script_text plan.diagram steps) = ap (λ body. body.script) same in
-    let but_script : doc.body ≡ with_script doc.body.script accepted.doc.body = same ∙ sym (ap (λ script. with_script script accepted.doc.body) kept) in
-    let again = c.accepted_with_another_script.ensures input other plan accepted doc spells but_script in
+    let but_script : doc.body ≡ with_rest doc.body.version doc.body.script accepted.doc.body = same ∙ sym (ap (λ script. with_rest doc.body.version script accepted.doc.body) kept) in
+    let again = c.another_version_or_script_is_accepted.ensures input other plan accepted doc spells but_script in
     let leads = record_leads plan steps is in
     let names : HasNames plan.diagram = subst HasNames (sym accepted.planned.diagram) (checked-names accepted.doc accepted.diagram printable lines accepted.checked) in
     let script : IsScript plan.diagram again.0.doc steps =
