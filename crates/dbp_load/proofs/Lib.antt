@@ -12,6 +12,5 @@ pub mod GeneratedTraces
 pub mod LateReads
 pub mod ListedItems
 pub mod NameTexts
-pub mod Schedules
 pub mod SectionText
 pub mod TextLengths

@@ -6,6 +6,7 @@ ghost use Rattle.trace_io.specs.Texts.{Accepts};
 ghost use Rattle.dbp_load.specs.Texts.{generated_text};
 
 use dia_read::{canonical_text_spells, each_item_has_a_line};
+use trace_io::a_written_trace_makes_a_plan;
 
 /// The text of each generated document is accepted.
 pub fn generated_documents_are_accepted()
@@ -14,4 +15,5 @@ pub fn generated_documents_are_accepted()
 {
     canonical_text_spells();
     each_item_has_a_line();
+    a_written_trace_makes_a_plan();
 }

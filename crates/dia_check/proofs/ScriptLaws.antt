@@ -1,4 +1,4 @@
--- The script is not checked: documents that differ by it and by their lines alone have the same diagram.
+-- Neither the version nor the script is checked: documents that differ by them and by their lines alone have the same diagram.
 use Rattle.std.proofs.Common.{◌≡◌, ℕ, ◌≤◌, List, [], ◌∷◌, ◌++◌, length, map, drop, sum_by, Option, None, refl, sym, ap, ◌∙◌, subst, arith}
 use Rattle.std.specs.Prelude.{slice_get}
 use Rattle.std.specs.Option.{option_and_then}
@@ -15,7 +15,7 @@ use Rattle.dia_read.specs.declared.document.Body.{Body}
 use Rattle.dia_read.specs.declared.document.Doc.{Doc}
 use Rattle.dia_read.specs.declared.document.DocLines.{DocLines}
 use Rattle.dia_read.specs.declared.document.RawTask.{RawTask}
-use Rattle.dia_read.specs.Documents.{with_script}
+use Rattle.dia_read.specs.Documents.{with_rest}
 use Rattle.dia_read.specs.Printable.{HasItemLines}
 use Rattle.dia_check.specs.declared.shaped.ReadLine.{ReadLine}
 use Rattle.dia_check.specs.declared.shaped.Shaped.{Shaped}
@@ -39,8 +39,8 @@ none-again fault same are before (x ∷ xs) (n ∷ ns) (m ∷ ms) few none =
     let first : same before x ≡ None = sym (are before x) ∙ parts.0 in
     rw first (none-again fault same are (before ++ x ∷ []) xs ns ms (omega (arith, few)) parts.1)
 
-module _ (script : Option (List ℕ)) (body : Body) where
-  unknown-same : (t : RawTask) (p : Part) → is_unknown body t p ≡ is_unknown (with_script script body) t p
+module _ (version : ℕ) (script : Option (List ℕ)) (body : Body) where
+  unknown-same : (t : RawTask) (p : Part) → is_unknown body t p ≡ is_unknown (with_rest version script body) t p
   unknown-same t (State n first) = refl
   unknown-same t (Sense n input) = refl
   unknown-same t (Read n delay writer port at) = refl
@@ -48,11 +48,11 @@ module _ (script : Option (List ℕ)) (body : Body) where
   unknown-same t (Next n e) = refl
   unknown-same t (Out n first e) = refl
 
-  part-same : (t : RawTask) (before : List Part) (p : Part) → part_fault body t before p ≡ part_fault (with_script script body) t before p
+  part-same : (t : RawTask) (before : List Part) (p : Part) → part_fault body t before p ≡ part_fault (with_rest version script body) t before p
   part-same t before p = rw (unknown-same t p) refl
 
   tasks-again : (before ts : List RawTask) (ns ms parts others : List ℕ) → length ts ≤ length ns → sum_by (λ t. length t.parts) ts ≤ length parts
-      → first_fault (task_faults body before ts ns parts) ≡ None → first_fault (task_faults (with_script script body) before ts ms others) ≡ None
+      → first_fault (task_faults body before ts ns parts) ≡ None → first_fault (task_faults (with_rest version script body) before ts ms others) ≡ None
   tasks-again before [] ns ms parts others few enough none = refl
   tasks-again before (t ∷ ts) [] ms parts others few enough none = absurd (omega (arith, few))
   tasks-again before (t ∷ ts) (n ∷ ns) [] parts others few enough none = refl
@@ -62,11 +62,11 @@ module _ (script : Option (List ℕ)) (body : Body) where
       let rest = task_faults body (before ++ t ∷ []) ts ns (drop (length t.parts) parts) in
       let first = cons-none n (task_fault body before t) (after ++ rest) none in
       let both = append-none after rest first.1 in
-      let head : task_fault (with_script script body) before t ≡ None = first.0 in
-      let own = none-again (part_fault body t) (part_fault (with_script script body) t) (part-same t) [] t.parts parts others (omega (arith, sum, enough)) both.0 in
+      let head : task_fault (with_rest version script body) before t ≡ None = first.0 in
+      let own = none-again (part_fault body t) (part_fault (with_rest version script body) t) (part-same t) [] t.parts parts others (omega (arith, sum, enough)) both.0 in
       let later = tasks-again (before ++ t ∷ []) ts ns ms (drop (length t.parts) parts) (drop (length t.parts) others) (omega (arith, few)) (omega (arith, sum, enough, length-drop (length t.parts) parts)) both.1 in
-      let others_after = faults_after (part_fault (with_script script body) t) [] t.parts others in
-      let others_rest = task_faults (with_script script body) (before ++ t ∷ []) ts ms (drop (length t.parts) others) in
+      let others_after = faults_after (part_fault (with_rest version script body) t) [] t.parts others in
+      let others_rest = task_faults (with_rest version script body) (before ++ t ∷ []) ts ms (drop (length t.parts) others) in
       rw head (first-append others_after others_rest own ∙ later)
 
   module _ (lines others : DocLines) where
@@ -74,7 +74,7 @@ module _ (script : Option (List ℕ)) (body : Body) where
     doc = record { body = body; lines = lines }
 
     abbrev other : Doc
-    other = record { body = with_script script body; lines = others }
+    other = record { body = with_rest version script body; lines = others }
 
     lines-again : HasItemLines doc → first_fault (line_faults doc) ≡ None → first_fault (line_faults other) ≡ None
     lines-again items none =
@@ -82,11 +82,11 @@ module _ (script : Option (List ℕ)) (body : Body) where
         let tasks = task_faults body [] body.tasks lines.tasks lines.parts in
         let both = append-none decls tasks none in
         let others_decls = faults_after decl_fault [] body.decls others.decls in
-        let others_tasks = task_faults (with_script script body) [] body.tasks others.tasks others.parts in
+        let others_tasks = task_faults (with_rest version script body) [] body.tasks others.tasks others.parts in
         first-append others_decls others_tasks (none-again decl_fault decl_fault (λ before x. refl) [] body.decls lines.decls others.decls (omega (arith, items.decls)) both.0)
         ∙ tasks-again [] body.tasks lines.tasks others.tasks lines.parts others.parts (omega (arith, items.tasks)) (omega (arith, items.parts)) both.1
 
-    diagram-again : (d : Diagram) → IsDiagramOf body d → IsDiagramOf (with_script script body) d
+    diagram-again : (d : Diagram) → IsDiagramOf body d → IsDiagramOf (with_rest version script body) d
     diagram-again d is = record {
       policy = is.policy;
       until = is.until;
@@ -144,7 +144,7 @@ module _ (script : Option (List ℕ)) (body : Body) where
       is = is.is;
     }
 
-pub checked-again : (doc other : Doc) (d : Diagram) → other.body ≡ with_script other.body.script doc.body → HasItemLines doc → HasItemLines other → IsCheckedOf doc d → IsCheckedOf other d
+pub checked-again : (doc other : Doc) (d : Diagram) → other.body ≡ with_rest other.body.version other.body.script doc.body → HasItemLines doc → HasItemLines other → IsCheckedOf doc d → IsCheckedOf other d
 checked-again doc other d same items more is =
-    let there : HasItemLines (record { body = with_script other.body.script doc.body; lines = other.lines }) = subst (λ b. HasItemLines (record { body = b; lines = other.lines })) same more in
-    subst (λ b. IsCheckedOf (record { body = b; lines = other.lines }) d) (sym same) (checked other.body.script doc.body doc.lines other.lines d items there is)
+    let there : HasItemLines (record { body = with_rest other.body.version other.body.script doc.body; lines = other.lines }) = subst (λ b. HasItemLines (record { body = b; lines = other.lines })) same more in
+    subst (λ b. IsCheckedOf (record { body = b; lines = other.lines }) d) (sym same) (checked other.body.version other.body.script doc.body doc.lines other.lines d items there is)

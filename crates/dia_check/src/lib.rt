@@ -29,7 +29,7 @@ mod tasks;
 
 pub use fail::{CheckCode, CheckFail};
 pub use laws::{
-    bare_bodies_decide_shapes, one_check, one_shape, one_shape_fault, the_script_is_not_checked,
+    bare_bodies_decide_shapes, one_check, one_shape, one_shape_fault, version_and_script_are_not_checked,
 };
 pub use rank_faults::ranked;
 pub use ranking::{ranks, ranks_are_distinct};

@@ -12,4 +12,6 @@ pub mod TraceFaults
 pub mod TraceLines
 pub mod Timetables
 pub mod TextLaws
-mod OtherScripts
+pub mod TaskBatches
+pub mod WrittenTraces
+pub mod OtherLines

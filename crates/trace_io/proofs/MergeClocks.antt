@@ -40,14 +40,6 @@ pub plain-times : (d : Diagram) (samples : List Sample) (events : List (List ℕ
 plain-times d samples events t none =
     ap (λ (w : Option ℕ). filter (is_on d.inputs samples w) (base_times d.until events t.clock)) none ∙ filter-all (is_on d.inputs samples None) (base_times d.until events t.clock) (λ k e below. refl)
 
-pub plain-clocks : (d : Diagram) (samples : List Sample) (events : List (List ℕ)) (tasks : List Task) → All (λ t. t.when ≡ None) tasks
-    → map (base_times d.until events) (map (λ t. t.clock) tasks) ≡ map (times_in d samples events) tasks
-plain-clocks d samples events [] none = refl
-plain-clocks d samples events (t ∷ tasks) none =
-    let first : base_times d.until events t.clock ≡ times_in d samples events t = sym (plain-times d samples events t (none 0 t (omega arith))) in
-    let rest : map (base_times d.until events) (map (λ t. t.clock) tasks) ≡ map (times_in d samples events) tasks = plain-clocks d samples events tasks (λ k u below. none (suc k) u (omega arith)) in
-    cc
-
 -- a task with one has those at which the input isn't 0, by the input's own samples
 pub guarded-times : (d : Diagram) (samples : List Sample) (events : List (List ℕ)) (own : List (List Sample)) (t : Task) (input : ℕ) (i : Input) → t.when ≡ Some input → slice_get d.inputs input ≡ Some i
     → HasItsSamples samples own t → filter (is_on_by i.first (get_or own input [])) (base_times d.until events t.clock) ≡ times_in d samples events t
@@ -114,11 +106,11 @@ merge-more d samples events now more clocks clock i t at is one two are times sa
 
 -- ---- a timetable with one event more
 
-base-rising : (until : ℕ) (events : List (List ℕ)) (clock : Clock) → IsClockOf (length events) clock → IsTimetable until events → IsStrictlyIncreasing (base_times until events clock)
+pub base-rising : (until : ℕ) (events : List (List ℕ)) (clock : Clock) → IsClockOf (length events) clock → IsTimetable until events → IsStrictlyIncreasing (base_times until events clock)
 base-rising until events (Every period offset) is table = periodic_rises until period offset is.0
 base-rising until events (On event) is table = All-get_or IsStrictlyIncreasing events event [] is table.rising
 
-base-ends : (until : ℕ) (events : List (List ℕ)) (clock : Clock) → IsClockOf (length events) clock → IsTimetable until events → All (λ t. t < until) (base_times until events clock)
+pub base-ends : (until : ℕ) (events : List (List ℕ)) (clock : Clock) → IsClockOf (length events) clock → IsTimetable until events → All (λ t. t < until) (base_times until events clock)
 base-ends until events (Every period offset) is table = λ k d below.
     let times : List ℕ = periodic_times until period offset in
     let both = time-is until period offset k (get_or times k d) (sym (periodic_place until period offset is.0 k) ∙ slice_get-get_or times k d below) in

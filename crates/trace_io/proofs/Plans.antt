@@ -1,7 +1,6 @@
 -- What makes a document's ranked diagram, the samples of its trace and its batches a plan.
-use Rattle.std.proofs.Common.{◌≡◌, ◌≤◌, ◌<◌, ℕ, All, AllPairs, List, Some, length, get_or, map, slice_get, refl, ◌∙◌, ap}
+use Rattle.std.proofs.Common.{◌≡◌, ◌≤◌, ◌<◌, ℕ, All, AllPairs, List, Some, length, get_or, slice_get, refl, ◌∙◌, ap}
 use Rattle.std.specs.Prelude.{IsTrue, filter}
-use Rattle.std.proofs.lemmas.List.Elements.{All-map}
 use Rattle.std.proofs.lemmas.Option.{slice_get-get_or}
 use Rattle.dbp_plan.specs.declared.diagram.Clock.{Clock}
 use Rattle.dbp_plan.specs.declared.diagram.Clock.TheVariants.{Every, On}
@@ -27,10 +26,8 @@ clock_fits_at d closed i t at =
     let fits : IsClosedTask (length d.inputs) (length d.events) (length d.links) t = all_place (IsClosedTask (length d.inputs) (length d.events) (length d.links)) d.tasks i t closed.each at in
     clock_fits (length d.events) t.clock fits.periodic fits.on_event
 
-pub clocks_fit : (d : Diagram) → IsClosed d → All (IsClockOf (length d.events)) (map (λ t. t.clock) d.tasks)
-clocks_fit d closed =
-    All-map (IsClockOf (length d.events)) (λ (t : Task). t.clock) d.tasks
-    (λ k t below. clock_fits_at d closed k (get_or d.tasks k t) (slice_get-get_or d.tasks k t below))
+pub clocks_fit : (d : Diagram) → IsClosed d → All (λ t. IsClockOf (length d.events) t.clock) d.tasks
+clocks_fit d closed k t below = clock_fits_at d closed k (get_or d.tasks k t) (slice_get-get_or d.tasks k t below)
 
 -- the input of its `when` is there
 pub input_at : (d : Diagram) → IsClosed d → (i : ℕ) (t : Task) (input : ℕ) → slice_get d.tasks i ≡ Some t → t.when ≡ Some input → input < length d.inputs

@@ -7,6 +7,10 @@
 //! relations of reading, checking and this crate together, and `Refuses` has a case for the first fault of each; what a
 //! command makes of a document stands on these two. A text has one of both at most (`one_plan`).
 //!
+//! That there is a plan is no matter of running the code: tasks that don't occur too often have batches
+//! (`tasks_have_batches`), so a checked document with a trace section in plain form has a plan
+//! (`a_written_trace_makes_a_plan`), and it keeps this plan on other lines (`other_lines_keep_the_plan`).
+//!
 //! Occurrences are counted by division, and no loop walks ticks. Between two samples of its input a task with a `when`
 //! has all base times of its clock, or none; its times are made after all are counted, and handed to the merge as those
 //! of one more event (`guards`). A task without a `when` costs the merge what it did.
@@ -22,7 +26,11 @@ mod trace;
 
 pub use code::Code;
 pub use guards::{count_on, times_on};
-pub use laws::{accepted_with_another_script, count_is_exact, one_plan, one_schedule};
+pub use laws::{
+    a_written_trace_makes_a_plan, an_upgraded_text_is_accepted,
+    another_version_or_script_is_accepted, count_is_exact, one_plan, one_schedule,
+    other_lines_keep_the_plan, tasks_have_batches,
+};
 pub use printed::lines;
 pub use trace::read_trace;
 pub use trace_rows::{TraceCode, TraceFail};
