@@ -1,7 +1,8 @@
 #!/usr/bin/env python3
 """Measures every command of the program on documents at its limits, and prints a table.
 
-  bench/bench.py [--program PROGRAM] [--against OTHER] [--only TEXT] [--runs N] [--instructions] [--profiles FOLDER]
+  bench/bench.py [--program PROGRAM] [--against OTHER] [--only TEXT] [--runs N] [--load N] [--cores LIST]
+                 [--instructions] [--profiles FOLDER]
 
 Times and processor times are medians over the runs; with another program beside it, the runs of the two take turns,
 the outputs are compared, and each measure has its ratio. Instructions are counted in a run of their own, by valgrind,
@@ -9,12 +10,14 @@ the outputs are compared, and each measure has its ratio. Instructions are count
 """
 
 import argparse
+import os
 import sys
 from dataclasses import dataclass
 from pathlib import Path
 from statistics import median
 
 import documents
+from endure import load
 from running import add_program_option, counted_run, peak_megabytes, program, run
 
 MEASURES = ("Minstr", "wall s", "cpu s", "peak MB")  # Minstr: millions of instructions
@@ -77,6 +80,12 @@ def rows_of_texts():
         yield Row(command, "1 MB of steps of 32 tasks", documents.chain_script(32))
     for command in ("gen 7 32", "soak 7 8", "soak 7 32"):
         yield Row(command, "", b"")
+
+
+def rows_of_runs(path):
+    """Yields more rows of runs, one of a document that the program makes."""
+    yield Row("run", "99999 preemptions", documents.preempted(99_999))
+    yield Row("run", "gen 7 32", run([path, "gen", "7", "32"], b"").stdout)
 
 
 class Trial:
@@ -142,19 +151,24 @@ def main():
     parser.add_argument("--against", type=program, help="another program, measured side by side")
     parser.add_argument("--only", default="", help="the rows that have this text")
     parser.add_argument("--runs", type=int, default=3, help="timed runs of each row (3)")
+    parser.add_argument("--load", type=int, default=0, help="processes that compute beside the runs (0)")
+    parser.add_argument("--cores", default="", help="the processors for all this, as 2,3 (all)")
     parser.add_argument("--instructions", action="store_true", help="count instructions")
     parser.add_argument("--profiles", type=Path, help="a folder for the files of callgrind")
     options = parser.parse_args()
+    if options.cores:
+        os.sched_setaffinity(0, {int(it) for it in options.cores.split(",")})
     programs = [options.program] + ([options.against] if options.against else [])
     columns = [it for measure in MEASURES for it in [measure] + ["other", "ratio"] * (len(programs) - 1)]
     print(line_of("command and document", columns))
     print(line_of(":--", ["--:"] * len(columns)), flush=True)
     differing = []
-    for row in [*rows_of_tables(), *rows_of_texts()]:
-        if options.only in row.title():
-            trials = trials_of(programs, row, options)
-            differing += [] if are_alike(trials, row) else [row.title()]
-            print(line_of(row.title(), cells_of(it.figures() for it in trials)), flush=True)
+    with load(options.load):
+        for row in [*rows_of_tables(), *rows_of_texts(), *rows_of_runs(options.program)]:
+            if options.only in row.title():
+                trials = trials_of(programs, row, options)
+                differing += [] if are_alike(trials, row) else [row.title()]
+                print(line_of(row.title(), cells_of(it.figures() for it in trials)), flush=True)
     for title in differing:
         print(f"not all runs ended with the wanted status and the same output: {title}")
     return 1 if differing else 0

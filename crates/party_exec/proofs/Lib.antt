@@ -10,6 +10,7 @@ pub mod Releasers
 pub mod Shutting
 pub mod SameParties
 pub mod Jobs
+pub mod Concerns
 pub mod Ends
 pub mod EachPlace
 pub mod DrawnRounds

@@ -10,3 +10,4 @@ pub mod Turns
 -- What private functions, the inside of types and proofs cite.
 pub mod Booked
 pub mod Computed
+pub mod Concerns

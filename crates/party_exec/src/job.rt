@@ -4,67 +4,82 @@ ghost use Rattle.std.specs.Prelude.{◌≡◌, ◌<◌};
 ghost use Rattle.party_exec.specs.Jobs.{IsCounted, IsCountedTurn, IsJob, idle_after, number_of, turns_made};
 ghost use Rattle.party_exec.specs.Parties.{Belongs};
 
+use crate::bell::Bell;
+use crate::concern::{awaited, concerned, releaser_number};
 use crate::pace::Pace;
 use crate::party::Party;
-use crate::progress::Progress;
+use crate::round::Round;
 use crate::turn::Turn;
-use std::thread;
+use crate::waiting::Waiting;
+use std::sync::Wait;
 use word_rule::SlotWords;
 
 const MOST_TURNS: u32 = 4096;
 
 const MOST_IDLE: u32 = 64;
 
-// A job counts as busy until it has had so many idle turns in a row.
-const IDLE_BEFORE_STOP: u32 = 2;
+// After so many idle turns in a row a job begins to wait.
+const IDLE_BEFORE_WAIT: u32 = 2;
 
-// Makes turns of the party until it has finished, or until others are to have theirs.
-pub(crate) fn job<P: Pace>(pace: &P, words: &SlotWords, progress: &Progress, party: &mut Party)
+// Makes turns of the party until it has finished, or until others are to have theirs. In the latter case the round ends: the
+// others may wait for the steps that this job leaves.
+pub(crate) fn job<R: Wait, P: Pace>(
+    rt: &R,
+    pace: &P,
+    words: &SlotWords,
+    round: &Round,
+    party: &mut Party,
+)
     requires { Belongs words.now party.old }
     ensures { IsJob words.now party.old party.new }
 {
-    let idle = make_turns(pace, words, progress, party);
-    if idle < IDLE_BEFORE_STOP {
-        progress.stop();
+    let bell = round.bell(number_in(words, party));
+    make_turns(rt, pace, words, round, bell, party);
+    bell.say_awake();
+    if !party.has_finished(words) {
+        round.end();
     }
 }
 
-// The same, and returns how many turns in a row were idle at last.
-fn make_turns<P: Pace>(pace: &P, words: &SlotWords, progress: &Progress, party: &mut Party) -> u32
+fn make_turns<R: Wait, P: Pace>(
+    rt: &R,
+    pace: &P,
+    words: &SlotWords,
+    round: &Round,
+    bell: &Bell,
+    party: &mut Party,
+)
     requires { Belongs words.now party.old }
     ensures { IsJob words.now party.old party.new }
 {
+    let mut waiting = round.begin();
     let mut idle = 0;
     for _ in 0..MOST_TURNS {
         if party.has_finished(words) {
-            return idle;
+            return;
         }
-        let before = idle;
-        let turn = paced_turn(pace, words, party);
+        let turn = told_turn(pace, words, round, party);
         idle = idle_turns(idle, turn);
         if idle == MOST_IDLE {
-            return idle;
+            return;
         }
-        after_turn(progress, before, idle);
+        waiting = match idle {
+            0 => waiting.ended(bell),
+            idle if idle < IDLE_BEFORE_WAIT => waiting,
+            _ => waiting.going_on(rt, round, bell, awaited(words, party)),
+        };
     }
-    idle
 }
 
-// Says whether the job is busy, if that has changed. After an idle turn it yields the processor, but only while another job
-// may get on: on a busy machine a yield takes a time slice of another program.
-fn after_turn(progress: &Progress, idle_before: u32, idle: u32) {
-    if idle == 0 {
-        if idle_before >= IDLE_BEFORE_STOP {
-            progress.go_on();
-        }
-        return;
-    }
-    if idle == IDLE_BEFORE_STOP {
-        progress.stop();
-    }
-    if idle < IDLE_BEFORE_STOP || progress.is_expected() {
-        thread::yield_now();
-    }
+// One turn of the party. Then it rings for those who wait for its step.
+fn told_turn<P: Pace>(pace: &P, words: &SlotWords, round: &Round, party: &mut Party) -> Turn
+    requires { Belongs words.now party.old }
+    ensures { IsCountedTurn words.now party.old party.new result }
+{
+    let concern = concerned(words, party);
+    let turn = paced_turn(pace, words, party);
+    round.ring(words, number_in(words, party), concern);
+    turn
 }
 
 // One turn of the party, which the pace hears of.
@@ -102,7 +117,7 @@ fn number_in(words: &SlotWords, party: &Party) -> u32
     ensures { result ≡ number_of words.now party.now }
 {
     match party {
-        Party::Releaser(_) => words.plan().diagram.tasks.len(),
+        Party::Releaser(_) => releaser_number(words),
         Party::Task(party) => party.seat.task(),
     }
 }

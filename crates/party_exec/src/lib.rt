@@ -4,15 +4,17 @@
 //! has its `Work` and its rows, with room for all of them; its type keeps that they are what the meaning gives at its
 //! place (`Computed`), so when all have finished the rows are the meaning's table. A crew makes the turns of all
 //! parties until they have finished. A `ThreadCrew` gives each a thread for a round of at most 4,096 turns, which ends
-//! after 64 idle ones in a row; between idle turns a thread yields while another may get on. A `TurnCrew` makes all
-//! turns on one thread, in rounds that are drawn from its seed. `Jobs` says what one thread makes of its party, `Draws`
-//! what is drawn. No clause says that parties finish, in which order turns are made, what a pace does, when a thread
-//! yields, or that the threads of a round begin together; nor does a public clause of `ThreadCrew` say that a run goes
-//! in rounds.
+//! after 64 idle ones in a row; a thread whose party waits sleeps until the bell of the party is rung (`waiting`). A
+//! `TurnCrew` makes all turns on one thread, in rounds that are drawn from its seed. `Jobs` says what one thread makes
+//! of its party, `Draws` what is drawn. No clause says that parties finish, in which order turns are made, what a pace
+//! does, when a thread sleeps or is woken, or that the threads of a round begin together; nor does a public clause of
+//! `ThreadCrew` say that a run goes in rounds.
 #![tactic(auto)]
 
 mod all_parties;
 mod begin;
+mod bell;
+mod concern;
 mod crew;
 mod crew_entry;
 mod draws;
@@ -21,9 +23,9 @@ mod look_up;
 mod meeting;
 mod pace;
 mod party;
-mod progress;
 mod releaser_party;
 mod releaser_turns;
+mod round;
 mod rows;
 mod runs;
 mod table;
@@ -32,6 +34,7 @@ mod task_turns;
 mod thread_crew;
 mod turn;
 mod turn_crew;
+mod waiting;
 mod work_turns;
 
 pub use begin::parties;

@@ -3,8 +3,10 @@
 ghost use Rattle.std.specs.Prelude.{◌≡◌, ◌+◌, ◌<◌, length};
 ghost use Rattle.dbp_plan.specs.Lookups.{declared_task};
 ghost use Rattle.dbp_rules.specs.Lookups.{read_at, time, wired_task};
+ghost use Rattle.dbp_rules.specs.declared.parts.Place.TheVariants as place;
 ghost use Rattle.word_rule.specs.Seats.{TaskSits};
 
+use crate::task_party::TaskParty;
 use dbp_plan::Task;
 use dbp_rules::TaskWiring;
 use word_rule::{SlotWords, TaskSeat};
@@ -31,6 +33,14 @@ pub(crate) fn read_number(wired: &TaskWiring, turn: u32) -> u32
     ensures { result ≡ (read_at wired.now turn).read }
 {
     wired.reads.items()[turn as usize].read
+}
+
+// The task whose out is read by the read whose turn this is.
+pub(crate) fn writer_of_read(words: &SlotWords, party: &TaskParty, turn: u32) -> u32
+    requires here { TaskSits words.now party.now.seat }
+    requires place { party.now.seat.part.place ≡ place.Look turn }
+{
+    wired_of(words, &party.seat).reads.items()[turn as usize].writer
 }
 
 // The time of the instance after so many.

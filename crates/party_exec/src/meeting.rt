@@ -7,6 +7,9 @@ use std::thread;
 // fewer threads than jobs.
 const MOST_YIELDS: u32 = 16384;
 
+// Added once the meeting is given up. It is more than there are jobs.
+const GIVEN_UP: usize = 1 << 32;
+
 // The jobs that are to begin, and how many have come so far.
 #[derive(Drop)]
 pub(crate) struct Meeting {
@@ -22,20 +25,22 @@ impl Meeting {
         }
     }
 
-    // Waits until all jobs have come, or until none has come for so long as is said above. A job that began alone would
-    // soon have nothing but idle turns, and end its round before the others' threads are there.
-    pub(crate) fn attend(&self) {
+    // Waits until all jobs have come, or until none has come for so long as is said above, and returns whether all have: it
+    // returns the same to each job. If so each has a thread of its own, since none has ended before. A job that began alone
+    // would soon have nothing but idle turns, and end its round before the others' threads are there.
+    pub(crate) fn attend(&self) -> bool {
         self.come.fetch_add(1, Ordering::SeqCst);
         let mut come = 0;
         for _ in 0..self.jobs {
             come = self.await_more_than(come);
             if come >= self.jobs {
-                return;
+                break;
             }
         }
+        come < GIVEN_UP
     }
 
-    // Returns how many have come, once it is more than so many. If it stays, all count as come from then on.
+    // Returns how many have come, once it is more than so many.
     fn await_more_than(&self, before: usize) -> usize {
         for _ in 0..MOST_YIELDS {
             let come = self.come.load(Ordering::SeqCst);
@@ -44,7 +49,18 @@ impl Meeting {
             }
             thread::yield_now();
         }
-        self.come.store(self.jobs, Ordering::SeqCst);
-        self.jobs
+        self.give_up(before)
+    }
+
+    // Gives up if still so many have come, and returns how many have. The count tells both apart in one atomic step: all
+    // can't come after it was given up, nor be given up after all have come.
+    fn give_up(&self, before: usize) -> usize {
+        let change = self
+            .come
+            .compare_exchange(before, GIVEN_UP, Ordering::SeqCst, Ordering::SeqCst);
+        match change {
+            Ok(_) => GIVEN_UP,
+            Err(come) => come,
+        }
     }
 }

@@ -11,10 +11,9 @@ use crate::all_parties::have_finished;
 use crate::crew::Crew;
 use crate::crew_entry::CrewEntry;
 use crate::job::job;
-use crate::meeting::Meeting;
 use crate::pace::{FreePace, Pace};
 use crate::party::Party;
-use crate::progress::Progress;
+use crate::round::Round;
 use crate::runs::Runs;
 use dbp_plan::{NoMemory, Plan};
 use std::alloc::Global;
@@ -117,7 +116,12 @@ fn run_rounds<R: Threads + Wait + Sync, P: Pace>(
 }
 
 // A round: the job of each party, in as many threads as there are parties.
-fn round<R: Threads + Sync, P: Pace>(rt: &R, pace: &P, words: &SlotWords, parties: &mut [Party])
+fn round<R: Threads + Wait + Sync, P: Pace>(
+    rt: &R,
+    pace: &P,
+    words: &SlotWords,
+    parties: &mut [Party],
+)
     requires { All (Belongs words.now) parties.old }
     ensures { AreJobs words.now parties.old parties.new }
 {
@@ -125,8 +129,7 @@ fn round<R: Threads + Sync, P: Pace>(rt: &R, pace: &P, words: &SlotWords, partie
         return;
     }
     let threads = parties.len();
-    let meeting = Meeting::new(threads);
-    let progress = Progress::new(threads);
+    let round = Round::new(threads);
     thread::for_each_mut(
         rt,
         parties,
@@ -134,9 +137,6 @@ fn round<R: Threads + Sync, P: Pace>(rt: &R, pace: &P, words: &SlotWords, partie
         &|_: usize, party: &mut Party|
             requires { Belongs words.now party.now }
             ensures { IsJob words.entry.now party.entry.now party.exit.now }
-        {
-            meeting.attend();
-            job(pace, words, &progress, party)
-        },
+        { job(rt, pace, words, &round, party) },
     );
 }

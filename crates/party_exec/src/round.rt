@@ -1,0 +1,74 @@
+// What the jobs of a round share beside the words.
+
+ghost use Rattle.std.specs.Prelude.{◌<◌, ◌≤◌};
+ghost use Rattle.dbp_plan.specs.declared.limits.TheConstants.{MAX_TASKS};
+
+use crate::bell::Bell;
+use crate::meeting::Meeting;
+use crate::waiting::Waiting;
+use dbp_plan::MAX_TASKS;
+use std::array;
+use std::sync::atomic::{AtomicBool, Ordering};
+
+// The parties of a run, at most.
+const MOST_PARTIES: usize = MAX_TASKS as usize + 1;
+
+const _: () = prove!(MOST_PARTIES == 33);
+
+// So many loads are shared among the pairs of jobs: the more jobs there are, the sooner another one needs the processor.
+const LOADS: usize = 16384;
+
+// The meeting of its jobs, a bell for each party, by the party's number, and whether a job has ended before its party.
+#[derive(Drop)]
+pub(crate) struct Round {
+    meeting: Meeting,
+    bells: [Bell; MOST_PARTIES],
+    is_ending: AtomicBool,
+    // how often a job that waits loads the count of its bell before it sleeps
+    pub(crate) loads: usize,
+}
+
+impl Round {
+    pub(crate) fn new(jobs: usize) -> Round
+        requires { 0 < jobs }
+    {
+        Round {
+            meeting: Meeting::new(jobs),
+            bells: array::from_fn(|_: usize| Bell::new()),
+            is_ending: AtomicBool::new(false),
+            loads: LOADS / jobs / jobs,
+        }
+    }
+
+    // Waits for the other jobs to begin with them. A job doesn't wait in a round for which fewer threads than jobs were made:
+    // these run one after another, and one that sleeps would keep those after it from ever running.
+    pub(crate) fn begin(&self) -> Waiting {
+        if self.meeting.attend() {
+            Waiting::No
+        } else {
+            Waiting::Never
+        }
+    }
+
+    // The bell of the party with this number.
+    pub(crate) fn bell(&self, party: u32) -> &Bell
+        requires { party ≤ MAX_TASKS }
+    {
+        &self.bells[party as usize]
+    }
+
+    // Whether a job has ended before its party has finished.
+    pub(crate) fn is_ending(&self) -> bool {
+        self.is_ending.load(Ordering::SeqCst)
+    }
+
+    // A job has ended before its party has finished: the others may wait for its steps, so none may sleep from now on.
+    pub(crate) fn end(&self) {
+        if self.is_ending.swap(true, Ordering::SeqCst) {
+            return;
+        }
+        for bell in &self.bells {
+            bell.ring();
+        }
+    }
+}
