@@ -6,8 +6,6 @@ use Rattle.dbp_plan.specs.declared.diagram.Diagram.{Diagram}
 use Rattle.dbp_plan.specs.declared.diagram.Task.{Task}
 use Rattle.dbp_plan.specs.declared.limits.TheConstants.{MAX_OCCURRENCES}
 use Rattle.dbp_plan.specs.declared.schedule.Sample.{Sample}
-use Rattle.dbp_plan.specs.FirstFault.{first_fault}
-use Rattle.dbp_plan.proofs.FirstFaults.{first-append}
 use Rattle.dia_read.specs.declared.document.Body.{Body}
 use Rattle.dia_read.specs.declared.document.Doc.{Doc}
 use Rattle.dia_read.specs.declared.document.DocLines.{DocLines}
@@ -15,11 +13,11 @@ use Rattle.dia_read.specs.declared.document.RawTask.{RawTask}
 use Rattle.dia_check.specs.Checks.{IsCheckedOf}
 use Rattle.dia_check.specs.Diagrams.{task_of, IsDiagramOf}
 use Rattle.dia_lines.specs.declared.item.RawClock.TheVariants as raw_clock
-use Rattle.dia_check.specs.Faults.{decl_fault, line_faults, task_faults, HasNoShapeFault, IsWhole}
-use Rattle.dbp_plan.specs.FirstFault.{faults_after}
+use Rattle.dia_check.specs.Faults.{decl_fault, part_fault, task_fault, HasNoShapeFault, IsWhole}
 use Rattle.dia_check.specs.RankFaults.{ranked_diagram, HasNoRankFault}
 use Rattle.dia_check.specs.Shapes.{read_lines_of, IsShapeOf}
 use Rattle.dia_check.specs.declared.shaped.Shaped.{Shaped}
+use Rattle.dia_check.proofs.Faultless.{IsFaultless, no-line-fault}
 use Rattle.trace_rows.specs.Written.{written_samples}
 use Rattle.dia_check.specs.Names.{env_names}
 use Rattle.trace_io.specs.Batches.{times_in, total_of}
@@ -31,7 +29,7 @@ use Rattle.dbp_load.specs.Bodies.{early_count, few_early, generated_body, has_la
 use Rattle.dbp_load.specs.Draws.{after_draw, after_draws, drawn}
 use Rattle.dbp_load.specs.Listed.{first_items}
 use Rattle.dbp_load.proofs.DrawLaws.{drawn-below}
-use Rattle.dbp_load.proofs.FaultlessLines.{fine-faults, tasks-fine, IsFineTask}
+use Rattle.dbp_load.proofs.FaultlessLines.{AreFine, fine-at}
 use Rattle.dbp_load.proofs.GeneratedDiagrams.{diagram_of, is-diagram, no-rank-faults, whole}
 use Rattle.dbp_load.proofs.GeneratedNames.{new-name, parts-fine, ports, task_at}
 use Rattle.dbp_load.proofs.GeneratedShapes.{lets-none}
@@ -51,29 +49,35 @@ module _ (seed size : ℕ) (some : 1 ≤ size) (few : size ≤ 32) where
 
   -- ---- names and shape
 
-  task-fine : (i : ℕ) (t : RawTask) → slice_get body.tasks i ≡ Some t → IsFineTask body ([] ++ take i body.tasks) t
+  -- a task without a fault, after these
+  abbrev IsFine : List RawTask → RawTask → Type 0
+  IsFine before t = (task_fault body before t ≡ None) × AreFine (part_fault body t) [] t.parts
+
+  task-fine : (i : ℕ) (t : RawTask) → slice_get body.tasks i ≡ Some t → IsFine (take i body.tasks) t
   task-fine i t at =
       let is = listed-item task size i t at in
-      let front : [] ++ take i body.tasks ≡ first_items task i = take-listed task size i (omega (arith, is.0)) in
+      let front : take i body.tasks ≡ first_items task i = take-listed task size i (omega (arith, is.0)) in
       let new = new-name draws size few i is.0 in
-      subst (λ u. IsFineTask body ([] ++ take i body.tasks) u) (sym is.1)
-      (subst (λ before. IsFineTask body before (task i)) (sym front) (
+      subst (λ u. IsFine (take i body.tasks) u) (sym is.1)
+      (subst (λ before. IsFine before (task i)) (sym front) (
         rw new refl,
         parts-fine body size refl (ports draws size few) (after_draw (draws i)) i (raw_clock.Every (size + drawn size (draws i)) 0) (Some (size - i)) few is.0 (early_count i) (has_late size i) (few_early i) (omega arith) (λ more. ltb-true (i + 1) size more),
       ))
+
+  fine : IsFaultless body
+  fine = record {
+    decls = fine-at decl_fault [] body.decls (refl, tt);
+    tasks = λ i t at. (task-fine i t at).0;
+    parts = λ i j t p at at_part. fine-at (part_fault body t) [] t.parts (task-fine i t at).1 j p at_part;
+  }
 
   module _ (lines : DocLines) where
     abbrev doc : Doc
     doc = record { body = body; lines = lines }
 
-    faultless : first_fault (line_faults doc) ≡ None
-    faultless =
-        first-append (faults_after decl_fault [] body.decls lines.decls) (task_faults body [] body.tasks lines.tasks lines.parts) (fine-faults decl_fault [] body.decls lines.decls (refl, tt))
-        ∙ tasks-fine body [] body.tasks lines.tasks lines.parts task-fine
-
     none : HasNoShapeFault doc
     none = record {
-      lines = faultless;
+      lines = no-line-fault doc fine;
       whole = λ i t at. let is = listed-item task size i t at in subst IsWhole (sym is.1) (whole size (draws i) i);
     }
 

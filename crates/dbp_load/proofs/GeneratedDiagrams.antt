@@ -25,6 +25,7 @@ use Rattle.dia_check.specs.Faults.{IsWhole, base_of}
 use Rattle.dia_check.specs.Names.{env_names, event_name, out_name, task_names}
 use Rattle.dia_check.specs.RankFaults.{link_rank_fault, read_rank_fault, task_rank_fault, HasNoRankFault}
 use Rattle.dia_check.specs.declared.shaped.ReadLine.{ReadLine}
+use Rattle.dia_check.proofs.Faultless.{items-fine}
 use Rattle.dia_check.proofs.LinkLists.{all-firsts}
 use Rattle.dia_check.proofs.NoOuts.{no-cycle}
 use Rattle.dia_check.proofs.RankLaws.{no-rank-fault}
@@ -32,7 +33,7 @@ use Rattle.dbp_load.specs.Bodies.{parts_of, task_name, early_count, generated_ta
 use Rattle.dbp_load.specs.Draws.{after_draw, drawn, after_draws}
 use Rattle.dbp_load.specs.Listed.{first_items}
 use Rattle.dbp_load.proofs.DrawLaws.{drawn-below}
-use Rattle.dbp_load.proofs.FaultlessLines.{each-fine, map-fine, then-fine}
+use Rattle.dbp_load.proofs.FaultlessLines.{map-fine, then-fine}
 use Rattle.dbp_load.proofs.GeneratedParts.{by-reads}
 use Rattle.dbp_load.proofs.GeneratedShapes.{lets-none, outs-are}
 use Rattle.dbp_load.proofs.GeneratedNames.{task_at}
@@ -193,7 +194,7 @@ module _ (body : Body) (draws : ℕ → ℕ) (size : ℕ) (few_tasks : size ≤ 
   pub no-rank-faults : (task_lines : List ℕ) (read_lines : List ReadLine) → HasNoRankFault (record { diagram = diagram; task_lines = task_lines; read_lines = read_lines })
   no-rank-faults task_lines read_lines =
       no-rank-fault (record { diagram = diagram; task_lines = task_lines; read_lines = read_lines })
-      (sym (each-fine (task_rank_fault body.policy) [] (first_items (λ i. task_of body i (at i) []) size) task_lines (λ i t at_t.
+      (sym (items-fine (λ before t. task_rank_fault body.policy t) [] (first_items (λ i. task_of body i (at i) []) size) task_lines (λ i t at_t.
       let is = listed-item (λ k. task_of body k (at k) []) size i t at_t in
       subst (λ p. task_rank_fault p t ≡ None) (sym policy) (subst (λ u. task_rank_fault Fp u ≡ None) (sym is.1) refl))))
       (sym (map-fine (λ (r : ReadLine). r.line) (read_rank_fault (ranks_of body.policy (first_items (λ i. task_of body i (at i) []) size)) (links_of body.tasks)) read_lines (λ r.

@@ -23,6 +23,7 @@ use Rattle.dia_read.specs.Printable.{HasItemLines, IsPrintable, IsPrintablePart,
 use Rattle.dia_check.specs.Checks.{IsCheckedOf}
 use Rattle.dia_check.specs.Diagrams.{IsDiagramOf, out_of, read_of}
 use Rattle.dia_check.specs.Faults.{is_declared_in, is_repeated}
+use Rattle.dia_check.specs.ItemNames.{AreNamed}
 use Rattle.dia_check.specs.Names.{declared_name, decl_name, env_names, task_names}
 use Rattle.dia_check.specs.Tests.{is_decl, is_task}
 use Rattle.dia_check.proofs.Closedness.{closed}
@@ -31,7 +32,7 @@ use Rattle.dia_check.proofs.LinkLists.{all-made, any-at}
 use Rattle.dia_check.proofs.NameTests.{among_both}
 use Rattle.dia_check.proofs.PlaceLaws.{all-places}
 use Rattle.dia_check.proofs.DiagramTasks.{raw-at}
-use Rattle.dbp_replay.specs.Names.{AreNamed, HasNames}
+use Rattle.dbp_replay.specs.Names.{HasNames}
 
 -- a first test that finds no fault fails
 fails : {F : Type 0} (b : Bool) (fault : F) (other : Option F) → (if b then Some fault else other) ≡ None → b ≡ false

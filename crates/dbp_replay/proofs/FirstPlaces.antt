@@ -13,7 +13,8 @@ use Rattle.dbp_plan.specs.declared.diagram.Out.{Out}
 use Rattle.dbp_plan.specs.ListItems.{all_place, at_place}
 use Rattle.dbp_plan.specs.Lookups.{link_at, no_declared_task, no_link, no_read, task_at}
 use Rattle.dia_tokens.specs.Printable.{IsPrintableName}
-use Rattle.dbp_replay.specs.Names.{AreNamed, HasNames}
+use Rattle.dia_check.specs.ItemNames.{AreNamed}
+use Rattle.dbp_replay.specs.Names.{HasNames}
 use Rattle.dbp_replay.specs.NamedItems.{out_name, port_name, read_name}
 use Rattle.dbp_replay.specs.StepForms.{is_link, link_between, port_named, read_named, task_named, within}
 use Rattle.dbp_replay.proofs.There.{link-parts}

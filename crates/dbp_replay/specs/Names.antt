@@ -1,15 +1,10 @@
 -- Diagrams in which names tell apart what a step can name.
-use Rattle.std.specs.Prelude.{◌≢◌, ℕ, ◌≤◌, ◌<◌, ◌^◌, All, AllPairs, List}
+use Rattle.std.specs.Prelude.{◌≢◌, ◌≤◌, ◌<◌, ◌^◌, All, AllPairs}
 use Rattle.dbp_rules.specs.declared.step.Step.{Step}
 use Rattle.dbp_rules.specs.declared.step.Step.TheVariants.{Aim}
 use Rattle.dbp_plan.specs.declared.diagram.Diagram.{Diagram}
 use Rattle.dbp_plan.specs.Limits.{max_delay}
-use Rattle.dia_tokens.specs.Printable.{IsPrintableName}
-
--- each item has a name of the language, and no two have the same
-pub record AreNamed {X : Type 0} (name : X → List ℕ) (items : List X) : Type 0 where
-  pub each : All (λ x. IsPrintableName (name x)) items
-  pub apart : AllPairs (λ x y. name x ≢ name y) items
+use Rattle.dia_check.specs.ItemNames.{AreNamed}
 
 -- the diagram's tasks, and the reads and the outs of each, have names, and no two links are the same
 pub record HasNames (d : Diagram) : Type 0 where

@@ -1,6 +1,8 @@
 pub mod BareLaws
+pub mod CheckedRanks
 pub mod ClosedTasks
 pub mod Closedness
+pub mod DeclaredNames
 pub mod DiagramTasks
 pub mod Faultless
 pub mod LetLines
@@ -18,4 +20,4 @@ pub mod ShapeLaws
 pub mod TaskFaults
 pub mod TaskParts
 pub mod TasksSoFar
-pub mod ScriptLaws
+pub mod SameTasks

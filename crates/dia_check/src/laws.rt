@@ -2,8 +2,6 @@
 
 ghost use Rattle.std.specs.Prelude.{◌≡◌, ℕ};
 ghost use Rattle.dia_read.specs.declared.document.Doc.{Doc};
-ghost use Rattle.dia_read.specs.Documents.{with_rest};
-ghost use Rattle.dia_read.specs.Printable.{HasItemLines};
 ghost use Rattle.dia_check.specs.declared.fail.CheckCode.{CheckCode};
 ghost use Rattle.dia_check.specs.declared.shaped.Shaped.{Shaped};
 ghost use Rattle.dbp_plan.specs.BareDiagrams.{bare_diagram};
@@ -60,11 +58,3 @@ pub fn one_check()
     one_shape();
     one_shape_fault();
 }
-
-/// Neither the version nor the script is checked: a document with the same body, except for them, has the same diagram.
-/// `dia_read` says that each document that a text spells has a line of each item.
-pub fn version_and_script_are_not_checked()
-    ensures { (doc other : Doc) (d : Diagram) → other.body
-        ≡ with_rest other.body.version other.body.script doc.body
-        → HasItemLines doc → HasItemLines other → IsCheckedOf doc d → IsCheckedOf other d }
-{}

@@ -9,7 +9,7 @@ use Rattle.dbp_plan.proofs.FirstFaults.{append-none, cons-none, first-append}
 use Rattle.dia_lines.specs.Lines.{row, SaysInTrace}
 use Rattle.dia_read.specs.declared.document.Doc.{Doc}
 use Rattle.dia_read.specs.Printable.{HasItemLines, KeepsItself}
-use Rattle.dia_check.proofs.ScriptLaws.{none-again}
+use Rattle.dia_check.proofs.Faultless.{items-faultless, items-fine}
 use Rattle.trace_rows.specs.Headers.{kind_of_column}
 use Rattle.trace_rows.specs.Records.{records_of}
 use Rattle.trace_rows.specs.Rows.{fault_after, row_faults}
@@ -34,12 +34,10 @@ module _ (doc other : Doc) (d : Diagram) where
   section-again : length (rows_of doc) ≤ length (drop 1 doc.lines.trace) → first_fault (section_faults doc d) ≡ None → first_fault (section_faults alike d) ≡ None
   section-again few none =
       let kinds = map (kind_of_column d.inputs) (columns_of doc) in
-      let header = header_faults doc d doc.body.trace in
-      let rows = row_faults d.until kinds (rows_of doc) (drop 1 doc.lines.trace) in
-      let both = append-none header rows none in
-      let others_rows = row_faults d.until kinds (rows_of doc) (drop 1 other.lines.trace) in
-      first-append (header_faults alike d doc.body.trace) others_rows (header-again doc.body.trace both.0)
-      ∙ none-again (fault_after d.until kinds) (fault_after d.until kinds) (λ before x. refl) [] (rows_of doc) (drop 1 doc.lines.trace) (drop 1 other.lines.trace) few both.1
+      let fault = fault_after d.until kinds in
+      let both = append-none (header_faults doc d doc.body.trace) (row_faults d.until kinds (rows_of doc) (drop 1 doc.lines.trace)) none in
+      first-append (header_faults alike d doc.body.trace) (row_faults d.until kinds (rows_of doc) (drop 1 other.lines.trace)) (header-again doc.body.trace both.0)
+      ∙ items-fine fault [] (rows_of doc) (drop 1 other.lines.trace) (items-faultless fault [] (rows_of doc) (drop 1 doc.lines.trace) few both.1)
 
   faults-again : length (rows_of doc) ≤ length (drop 1 doc.lines.trace) → first_fault (trace_faults doc d) ≡ None → first_fault (trace_faults alike d) ≡ None
   faults-again few none =

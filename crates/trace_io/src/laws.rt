@@ -22,7 +22,7 @@ ghost use Rattle.trace_io.specs.Traces.{IsPlanOf, events_of, given_samples};
 ghost use Rattle.trace_io.specs.WrittenTraces.{HasWrittenTrace, written_events};
 ghost use Rattle.trace_rows.specs.Written.{WrittenRow, written_samples};
 
-use dia_check::{one_check, version_and_script_are_not_checked};
+use dia_check::{one_check, tasks_decide_the_diagram};
 use dia_read::{
     a_document_can_be_printed, an_upgraded_body_can_be_printed, canonical_text_spells,
     each_item_has_a_line, one_document, one_first_fault,
@@ -102,7 +102,7 @@ pub fn another_version_or_script_is_accepted()
 {
     a_document_can_be_printed();
     each_item_has_a_line();
-    version_and_script_are_not_checked();
+    tasks_decide_the_diagram();
     other_lines_keep_the_plan();
 }
 
