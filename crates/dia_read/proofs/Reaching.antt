@@ -112,30 +112,32 @@ module _ (bytes rest : List ℕ) (number : ℕ) (position : Position) (draft : D
       → (r : Reached bytes after (number + 1) next (drafted draft (number + 1) (text_in l next n) l)) × (r.before ≡ n.0 ∷ reached.before)
   reached-next l next (said, reads, held, later) =
       let size : length (reverse reached.before) + 1 ≡ number + 1 = omega (arith, reached.count, length-reverse reached.before) in
-      let add : ℕ = length rest - length after in
-      (record {
-        before = said ∷ reached.before;
-        seen = reached.seen ++ text ∷ [];
-        used = reached.used + add;
-        split = reached.split ∙ ap (λ ls. reached.seen ++ ls) first ∙ sym (append_assoc reached.seen (text ∷ []) (lines_of after));
-        run = run-more [] reached.before reached.seen text said reached.run reads;
-        count = omega (arith, reached.count);
-        lines = omega (arith, length-append reached.seen (text ∷ []), reached.lines);
-        after = later;
-        once = once-more reached.before text said reached.once reads;
-        holds =
-            let more = holds-more (reverse reached.before) draft reached.holds said l held (has-task reached.before said l reached.once reads held) in
-            rw reverse-more (subst (λ (k : ℕ). Holds (reverse reached.before ++ said ∷ []) (drafted draft k (kept_text said) l)) size more);
-        bounded =
-            let kept : KeptFits l (kept_text said) (2 * add) = kept-fits reached.before text said l add reads held (omega arith) (omega arith) in
-            subst (λ (k : ℕ). Bounded (drafted draft (number + 1) (kept_text said) l) (number + 1) k) (omega arith) (bounded-more draft (number + 1) number (2 * reached.used) (2 * add) (kept_text said) l reached.bounded kept);
-        paired = paired-more draft (number + 1) (kept_text said) l reached.paired (pairs l said reads held);
-        printing =
-            let sound : IsSoundLine draft.version (statements reached.before) said = subst (λ (v : ℕ). IsSoundLine v (statements reached.before) said) version-here (sound-line reached.before text said reads) in
-            prints-more reached.before said l draft (number + 1) reached.printing sound held (continues l said reads held);
-        few = omega (arith, reached.few);
-        within = omega (arith, reached.within);
-      }, refl)
+      let add : ℕ = length rest - length after in (
+        record {
+          before = said ∷ reached.before;
+          seen = reached.seen ++ text ∷ [];
+          used = reached.used + add;
+          split = reached.split ∙ ap (λ ls. reached.seen ++ ls) first ∙ sym (append_assoc reached.seen (text ∷ []) (lines_of after));
+          run = run-more [] reached.before reached.seen text said reached.run reads;
+          count = omega (arith, reached.count);
+          lines = omega (arith, length-append reached.seen (text ∷ []), reached.lines);
+          after = later;
+          once = once-more reached.before text said reached.once reads;
+          holds =
+              let more = holds-more (reverse reached.before) draft reached.holds said l held (has-task reached.before said l reached.once reads held) in
+              rw reverse-more (subst (λ (k : ℕ). Holds (reverse reached.before ++ said ∷ []) (drafted draft k (kept_text said) l)) size more);
+          bounded =
+              let kept : KeptFits l (kept_text said) (2 * add) = kept-fits reached.before text said l add reads held (omega arith) (omega arith) in
+              subst (λ (k : ℕ). Bounded (drafted draft (number + 1) (kept_text said) l) (number + 1) k) (omega arith) (bounded-more draft (number + 1) number (2 * reached.used) (2 * add) (kept_text said) l reached.bounded kept);
+          paired = paired-more draft (number + 1) (kept_text said) l reached.paired (pairs l said reads held);
+          printing =
+              let sound : IsSoundLine draft.version (statements reached.before) said = subst (λ (v : ℕ). IsSoundLine v (statements reached.before) said) version-here (sound-line reached.before text said reads) in
+              prints-more reached.before said l draft (number + 1) reached.printing sound held (continues l said reads held);
+          few = omega (arith, reached.few);
+          within = omega (arith, reached.within);
+        },
+        refl,
+      )
 
   pub reached-more : (l : Line) (next : Position) (n : Next l next) → Reached bytes after (number + 1) next (drafted draft (number + 1) (text_in l next n) l)
   reached-more l next n = (reached-next l next n).0

@@ -101,8 +101,7 @@ held-form ts s (a_task h cs ws ps ds us c w p d u) f few =
     let prio = natural-option h.prio 0 MAX_PRIO three.1 in
     let deadline = natural-option h.deadline 1 MAX_TIME two.1 in
     let cost = natural h.cost 1 MAX_TIME one.1 in
-    let cpu = held-cpu h.cpu all.1 in
-    (
+    let cpu = held-cpu h.cpu all.1 in (
       line.Task (record { name = h.name; clock = clock.0; when = h.when; prio = prio.0; deadline = deadline.0; cost = cost.0; cpu = cpu.0 }),
       (refl, clock.1, refl, prio.1, deadline.1, cost.1, cpu.1),
     )

@@ -108,11 +108,7 @@ fn push_task(printer: &mut Printer, version: u32, task: &RawTask) -> Result<(), 
     push_parts(printer, &task.parts)
 }
 
-fn push_tasks(
-    printer: &mut Printer,
-    version: u32,
-    tasks: &List<RawTask>,
-) -> Result<(), NoMemory>
+fn push_tasks(printer: &mut Printer, version: u32, tasks: &List<RawTask>) -> Result<(), NoMemory>
     requires { printer.old.edge ≡ Tight }
     ensures { OnOk result
         (printer.new ≡ with_bytes printer.old (flat_map (task_text version) tasks.now)) }
