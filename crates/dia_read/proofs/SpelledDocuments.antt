@@ -1,5 +1,5 @@
 -- What a text spells is what a reader's draft comes to, so it can be printed and has a line of each item.
-use Rattle.std.proofs.Common.{◌≡◌, ℕ, ℤ, pos, negsuc, ◌+◌, ◌≤◌, ◌<◌, Bool, true, false, List, [], ◌∷◌, length, reverse, Option, Some, None, refl, sym, ap, ◌∙◌, subst, arith}
+use Rattle.std.proofs.Common.{◌≡◌, ℕ, ℤ, pos, negsuc, ◌≤◌, ◌<◌, true, false, List, [], ◌∷◌, length, Option, Some, None, refl, sym, ap, ◌∙◌, subst, arith}
 use Rattle.std.specs.Prelude.{◌&&◌, nat_lt}
 use Rattle.std.specs.Option.{option_map}
 use Rattle.std.proofs.lemmas.Bool.{and_parts}
@@ -32,7 +32,7 @@ use Rattle.dia_lines.specs.Delays.{delay_of}
 use Rattle.dia_lines.specs.FirstLine.{cut_line}
 use Rattle.dia_lines.specs.Held.{IsClock, cpu_of, IsKept, IsHeld}
 use Rattle.dia_lines.specs.Limits.{lies_within, option_lies_within, clock_fits, delay_fits, numbers_fit}
-use Rattle.dia_lines.specs.Lines.{Said, says, row, step, expression_of, lacks_header, token_fault, place_after, statements, Reads, of_the_diagram, of_the_trace, of_the_script, an_empty_row, trace_ends, script_begins, a_row, no_step, script_ends, a_step}
+use Rattle.dia_lines.specs.Lines.{Said, expression_of, lacks_header, token_fault, place_after, statements, Reads, of_the_diagram, of_the_trace, of_the_script, an_empty_row, trace_ends, script_begins, a_row, no_step, script_ends, a_step}
 use Rattle.dia_lines.specs.Statements.{Statement, Clock, every, on, IsStatement, a_blank_line, in_version_1, in_version_2, fixed_priorities, earliest_deadline, an_until, an_input, an_event, a_task, a_state, a_sense, a_read, a_let_line, a_next_line, an_out, a_trace, a_script, an_end}
 use Rattle.dia_lines.specs.Text.{lines_of}
 use Rattle.dia_lines.proofs.TextLaws.{lines_of-nil, lines_of-cut_line, cut_line-shorter, cut_line-within}

@@ -1,4 +1,4 @@
-use Rattle.std.proofs.Common.{◌≡◌, arith}
+use Rattle.std.proofs.Common.{arith}
 use Rattle.dia_read.proofs.laws.an_upgraded_body_can_be_printed.Goals as goal
 
 pub returns : goal.returns
