@@ -8,9 +8,9 @@ use std::process::Abort;
 use std::sync::Wait;
 use std::sync::atomic::{AtomicU64, Ordering};
 use std::test::Fail;
+use std::thread;
 use std::thread::Threads;
-use std::{hint, thread};
-use test_inputs::{THREE_RATES, TWO_RATES, plan_in};
+use test_inputs::{THREE_RATES, plan_in};
 
 // How often a party looks for the others before it gives up: some 10 seconds, or 20 where the processors are busy.
 const MOST_POLLS: u32 = 4_000_000;
@@ -158,65 +158,4 @@ fn hold_up_in<R: Abort + Threads + Wait + Sync>(
 fn a_party_that_is_held_up_changes_nothing(rt: HostRuntime) -> Result<(), Fail> {
     hold_up_in(&rt, rt.alloc(), THREE_RATES)?;
     hold_up_in(&rt, rt.alloc(), METER)
-}
-
-// How often each document is run at a spinning pace.
-const SPINNING_RUNS: u64 = 100;
-
-// Each party spins before each of its turns, so often as is drawn from the run, the party and the turn.
-#[derive(Drop)]
-struct Spinning {
-    run: u64,
-}
-
-impl Spinning {
-    // From 0 to 63 at most turns, and up to 4032 at one of eight.
-    fn spins(&self, task: u32, turn: u64) -> u64 {
-        let drawn = self
-            .run
-            .wrapping_mul(1000003)
-            .wrapping_add(u64::from(task))
-            .wrapping_mul(1000003)
-            .wrapping_add(turn)
-            .wrapping_mul(0x9e37_79b9_7f4a_7c15);
-        let short = drawn >> 58;
-        if (drawn >> 32) % 8 == 0 {
-            short * 64
-        } else {
-            short
-        }
-    }
-}
-
-impl Pace for &Spinning {
-    fn at(&self, task: u32, turn: u64) {
-        for _ in 0..self.spins(task, turn) {
-            hint::spin_loop();
-        }
-    }
-}
-
-// Runs of the plan, each with other spins.
-fn spin<R: Abort + Threads + Wait + Sync>(rt: &R, alloc: Global, plan: &Plan) -> Result<(), Fail> {
-    for run in 0..SPINNING_RUNS {
-        let pace = Spinning { run };
-        assert!(rt; makes_meaning_at(rt, alloc, &pace, plan)?);
-    }
-    Ok(())
-}
-
-fn spin_in<R: Abort + Threads + Wait + Sync>(
-    rt: &R,
-    alloc: Global,
-    text: &str,
-) -> Result<(), Fail> {
-    let plan = plan_in(alloc, text)?;
-    spin(rt, alloc, &plan)
-}
-
-#[test]
-fn drawn_spins_change_nothing(rt: HostRuntime) -> Result<(), Fail> {
-    spin_in(&rt, rt.alloc(), TWO_RATES)?;
-    spin_in(&rt, rt.alloc(), THREE_RATES)?;
-    spin_in(&rt, rt.alloc(), METER)
 }
