@@ -69,11 +69,13 @@ def rows_of_texts():
     """Yields the rows of the other commands."""
     yield Row("plan", "0.9 MB of expressions", documents.expressions())
     yield Row("plan", "128 reads", documents.many_reads(100_000))
-    yield Row("form", "0.9 MB of expressions", documents.expressions())
-    yield Row("form", "50000 rows of 12 columns", documents.trace(50_000, 6, 6))
-    yield Row("form", "1,000,000 blank lines", documents.script_of(""))
-    yield Row("form", "500,000 steps of a letter", documents.script_of("a"))
-    yield Row("form", "a step of 500,000 names", documents.script_of("a " * 523_000))
+    for command in ("form", "upgrade"):
+        yield Row(command, "0.9 MB of expressions", documents.expressions())
+        yield Row(command, "50000 rows of 12 columns", documents.trace(50_000, 6, 6))
+        yield Row(command, "1,000,000 blank lines", documents.script_of(""))
+        yield Row(command, "500,000 steps of a letter", documents.script_of("a"))
+        yield Row(command, "a step of 500,000 names", documents.script_of("a " * 523_000))
+        yield Row(command, "32 tasks on and off, too often", documents.conditions(32, 20_000))
     for command in ("replay", "replay --ranked"):
         for n in (4_000, 8_000, 16_000):
             yield Row(command, f"{9 * n} steps of a task", documents.instances(n))

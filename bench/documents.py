@@ -96,6 +96,19 @@ def expressions():
     return text_of(*lines)
 
 
+def longest_lets():
+    """32 tasks with as many lets of 63 nodes as there may be, all of which count."""
+    lines = ["policy fp", "until 8"]
+    for task in range(32):
+        lines += [f"task t{task} every 1 prio {task} cost 1", "state n = 5"]
+        names = ["n", *(f"a_name_of_{let:03}" for let in range(61))]
+        for let in range(1, 62):
+            terms = [names[(let - 1 - term) % let] for term in range(32)]
+            lines.append(f"let {names[let]} = " + "+".join(terms))
+        lines += [f"next n = {names[61]} - 1", f"out y = 0 then {names[61]}"]
+    return text_of(*lines)
+
+
 def trace(rows, inputs, events):
     """A trace of so many rows and columns; one task senses all inputs, and one occurs at each event of the first
     column."""

@@ -30,8 +30,10 @@ sys.dont_write_bytecode = True
 import layout  # noqa: E402
 from checking import command as checking  # noqa: E402
 from checking.verdicts import NOT_FOUND, refusal_of  # noqa: E402
+from emitting import command as emitting  # noqa: E402
 from pictures import commands as pictures  # noqa: E402
 from program import run_program  # noqa: E402
+from responses import command as responses  # noqa: E402
 from running import add_program_option  # noqa: E402
 from waveforms import command as waveforms  # noqa: E402
 
@@ -43,12 +45,15 @@ WORDS = "task every on when cpu prio deadline cost state sense read let next out
 CALLS = {
     "check": (checking.main, []),
     "check --json": (checking.main, ["--json"]),
+    "response": (responses.main, ["-o", "OUT"]),
+    "response --json": (responses.main, ["--json", "-o", "OUT"]),
     "timeline": (pictures.timeline, ["-o", "OUT"]),
     "diagram": (pictures.diagram, ["-o", "OUT"]),
     "diagram --dot": (pictures.diagram, ["--dot", "-o", "OUT"]),
     "waves": (waveforms.main, ["-o", "OUT"]),
     "waves --format csv": (waveforms.main, ["--format", "csv", "--wide", "-o", "OUT"]),
     "format": (layout.main, []),
+    "emit_c": (emitting.main, ["--target", "trace", "-o", "FOLDER"]),
 }
 
 
@@ -100,6 +105,7 @@ def mutant_of(draw, text):
     lines = text.split(b"\n")
     for _ in range(draw.randint(1, 3)):
         draw.choice(CHANGES)(draw, lines)
+        lines[:] = lines or [b""]
     return b"\n".join(lines)
 
 
@@ -142,10 +148,10 @@ def fault_of_first(program, text, said):
 
 def faults_of(program, text, room):
     """Yields the faults of all tools on a document, each with the tool."""
-    document, out = room / "mutant.dbp", room / "out"
+    document, places = room / "mutant.dbp", {"OUT": str(room / "out"), "FOLDER": str(room / "made")}
     for name, (call, words) in CALLS.items():
         document.write_bytes(text)
-        words = [str(out) if word == "OUT" else word for word in words]
+        words = [places.get(word, word) for word in words]
         fault, said = fault_of_call(call, ["--program", str(program), *words, str(document)])
         yield name, fault or (fault_of_first(program, text, said) if name == "check" else None), said
 
@@ -168,7 +174,7 @@ def interrupted(program, draw, tool, words):
 def try_interrupts(program, draw, count):
     """Prints the faults of tools that are stopped, and returns their number."""
     faults = 0
-    calls = [("check", []), ("timeline", []), ("diagram", []), ("waves", []), ("format", ["--check"])]
+    calls = [("check", []), ("response", []), ("timeline", []), ("diagram", []), ("waves", []), ("format", ["--check"])]
     for number in range(count * len(calls)):
         tool, words = calls[number % len(calls)]
         fault = interrupted(program, draw, tool, [*words, "examples/speed_control.dbp"])

@@ -2,9 +2,10 @@
 """Refuses allocations of the built program: each of them in turn, and all from each of them on. Each run must end with
 status 6 and write nothing, or give the usual answer. Needs gcc, whose library stands before the C library's allocator.
 
-  bench/refuse_memory.py [--program PROGRAM] DOCUMENT WORDS
+  bench/refuse_memory.py [--program PROGRAM] DOCUMENT [WORDS]
 
-The words are the command, as `sim --record`. A command that reads nothing takes /dev/null as its document.
+The words are the command, as `sim --record`; without them each command is tried that reads a document. A command that
+reads nothing takes /dev/null as its document.
 """
 
 import argparse
@@ -17,6 +18,20 @@ from enum import Enum
 from pathlib import Path
 
 from running import add_program_option, run
+
+# The commands that read a document.
+COMMANDS = (
+    ["mean"],
+    ["sim"],
+    ["sim", "--record"],
+    ["run"],
+    ["run", "--turns", "1"],
+    ["form"],
+    ["upgrade"],
+    ["plan"],
+    ["replay"],
+    ["replay", "--ranked"],
+)
 
 REFUSING = r"""
 #include <errno.h>
@@ -111,22 +126,29 @@ def built(folder):
     return library
 
 
+def has_wrong_ends(program, words, document, library, folder):
+    """Refuses the allocations of a command, prints how its runs ended, and returns whether one ended wrongly."""
+    trial = Trial([program, *words], document.read_bytes(), library)
+    usual, count, found = run(trial.command, trial.document), trial.allocations(folder), False
+    for refusal in Refusal:
+        ends = Counter(trial.end(usual, refusal, number) for number in range(1, count + 1))
+        found |= bool(ends[End.WRONG])
+        told = ", ".join(f"{ends[it]} {it.value}" for it in End)
+        print(f"{' '.join(words)} {document}, {refusal.value}, {count} allocations: {told}", flush=True)
+    return found
+
+
 def main():
     parser = argparse.ArgumentParser(description=__doc__, formatter_class=argparse.RawDescriptionHelpFormatter)
     add_program_option(parser)
     parser.add_argument("document", type=Path)
     parser.add_argument("words", nargs=argparse.REMAINDER)
     options = parser.parse_args()
-    is_wrong = False
+    commands = [options.words] if options.words else COMMANDS
     with tempfile.TemporaryDirectory() as folder:
-        trial = Trial([options.program, *options.words], options.document.read_bytes(), built(folder))
-        usual, count = run(trial.command, trial.document), trial.allocations(folder)
-        for refusal in Refusal:
-            ends = Counter(trial.end(usual, refusal, number) for number in range(1, count + 1))
-            is_wrong |= bool(ends[End.WRONG])
-            told = ", ".join(f"{ends[it]} {it.value}" for it in End)
-            print(f"{' '.join(options.words)} {options.document}, {refusal.value}, {count} allocations: {told}")
-    return 1 if is_wrong else 0
+        library = built(folder)
+        wrong = [has_wrong_ends(options.program, words, options.document, library, folder) for words in commands]
+    return 1 if any(wrong) else 0
 
 
 if __name__ == "__main__":

@@ -7,10 +7,10 @@ import argparse
 import errno
 import os
 import stat
-from contextlib import suppress
+from contextlib import ExitStack, suppress
 from itertools import count
 
-from ending import ERRORS, OUTPUT, Ended, Status, kept_in, reason_of, say, unfinished_files, write_all
+from ending import ERRORS, OUTPUT, Ended, Status, held_stops, kept_in, reason_of, say, unfinished_files, write_all
 
 MOST_BYTES = 1_048_576  # that a document may have; one more is read, so that the program refuses a longer one
 STANDARD_INPUT = "-"
@@ -90,22 +90,42 @@ def is_replaced(name):
 
 def replace(name, pieces):
     """Writes a file beside another, and renames it then: until then the old one stands."""
-    old = os.stat(name) if os.path.exists(name) else None
-    if old and not os.access(name, os.W_OK):
+    replace_all({name: pieces})
+
+
+def replace_all(texts):
+    """Writes a file beside each of these, by their names, and renames all of them then: until then the old ones stand."""
+    with ExitStack() as kept:
+        places = {}
+        try:
+            for name, pieces in texts.items():
+                places[name] = kept.enter_context(kept_in(unfinished_files, place_beside(name)))
+                write_beside(name, places[name], pieces)
+            with held_stops():
+                for name, place in places.items():
+                    os.replace(place, name)
+        except BaseException:
+            for place in places.values():
+                with suppress(OSError):
+                    os.unlink(place)
+            raise
+
+
+def place_beside(name):
+    """Returns the name of a file that isn't there, in the folder of another that may be written."""
+    if os.path.exists(name) and not os.access(name, os.W_OK):
         raise PermissionError(errno.EACCES, os.strerror(errno.EACCES))
     folder = os.path.dirname(name)
     beside = next(it for it in map(beside_name, numbers) if not os.path.lexists(os.path.join(folder, it)))
-    with kept_in(unfinished_files, os.path.join(folder, beside)) as place:
-        try:
-            with open(place, "xb") as sink:
-                write_pieces(sink, pieces)
-            if old:
-                keep_rights(place, old)
-            os.replace(place, name)
-        except BaseException:
-            with suppress(OSError):
-                os.unlink(place)
-            raise
+    return os.path.join(folder, beside)
+
+
+def write_beside(name, place, pieces):
+    """Writes a new file, with the owner and the rights of the one that it is to replace, if that is there."""
+    with open(place, "xb") as sink:
+        write_pieces(sink, pieces)
+    if os.path.exists(name):
+        keep_rights(place, os.stat(name))
 
 
 def beside_name(number):

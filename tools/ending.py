@@ -88,6 +88,16 @@ def catch_stops():
             signal.signal(number, stop)
 
 
+@contextmanager
+def held_stops():
+    """Lets interrupts wait until what is done here is done."""
+    before = signal.pthread_sigmask(signal.SIG_BLOCK, STOPS)
+    try:
+        yield
+    finally:
+        signal.pthread_sigmask(signal.SIG_SETMASK, before)
+
+
 def fill_closed_streams():
     """Opens each standard stream that is closed so that its use fails, and no file gets its number."""
     for stream, way in ((0, os.O_WRONLY), (OUTPUT, os.O_RDONLY), (ERRORS, os.O_RDONLY)):

@@ -1,7 +1,7 @@
 """Documents of version 1 as documents of version 2, with and without processors of their tasks: what is printed stays.
 
-Only `form` prints `cpu`. So each document of examples/ and cases/ that another command accepts is tried without
-processors, and from each processor on.
+Only `form` and `upgrade` print `cpu`. So each document of examples/ and cases/ that another command accepts is tried
+without processors, and from each processor on.
 """
 
 import itertools
@@ -11,6 +11,7 @@ import re
 TOP = pathlib.Path(__file__).resolve().parents[2]
 
 TURNS = ["run", "--turns", "1"]
+PRINTING = (["form"], ["upgrade"])
 REFUSED = 1
 PROCESSORS = range(8)
 VERSION_1 = re.compile(rb"^[ \t]*dbp[ \t]+0*1\b", re.MULTILINE)
@@ -30,7 +31,7 @@ def tried():
     """Yields commands, each with a document, its status and what is printed; `mean` and runs print the same lines."""
     for words in sorted([*TOP.glob("examples/**/words"), *TOP.glob("cases/**/words")]):
         command = words.read_text().split()
-        commands = [["mean"], TURNS] if command in (["mean"], ["run"]) else [] if command == ["form"] else [command]
+        commands = [["mean"], TURNS] if command in (["mean"], ["run"]) else [] if command in PRINTING else [command]
         for document in accepted(words.parent):
             yield from ((it, *document) for it in commands)
 

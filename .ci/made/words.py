@@ -6,9 +6,17 @@ NO_COMMANDS = (
     "run --turns= 9", "run --turns=9 9", "run --turns 18446744073709551616", "run --turns 000000000000000000009", "run --turns=99999999999999999999", "--turns 9", "mean --turns 9",
     "gen", "soak", "gen -1", "gen +1", "gen 18446744073709551616", "gen 1 0", "gen 1 33", "gen 1 -1", "gen 1 +1", "gen 1 8 8", "gen 1 000000000000000000008", "gen x", "gen 1 x",
     "soak -1", "soak 18446744073709551616", "soak 1 0", "soak 1 33", "soak 1 8 8", "gen --seed 1", "soak 1 --turns 1",
+    "upgrade x", "upgrade 2", "upgrade --record", "upgrade --ranked", "upgrade --turns 1", "upgrade upgrade", "upgrade form", "form upgrade", "--upgrade", "Upgrade", "upgrad",
+    "upgrades", "form --record", "form form",
+)
+
+# Words that are empty, or have blanks in them.
+WITH_BLANKS = (
+    [""], [" "], ["", "mean"], ["mean", ""], ["upgrade", ""], ["", "upgrade"], ["upgrade", " "], ["upgrade "], [" upgrade"], ["upgrade x"], ["form", ""], ["sim --record"],
+    ["run", "--turns", ""], ["run", "--turns", " 9"],
 )
 
 
 def cases():
-    for words in NO_COMMANDS:
-        yield f"[{words}]", words.split(), b"dbp 1\n", 2, b""
+    for words in [*map(str.split, NO_COMMANDS), *WITH_BLANKS]:
+        yield f"{words}", words, b"dbp 1\n", 2, b""

@@ -25,6 +25,7 @@ from program import run_program  # noqa: E402
 
 MOST_MADE = 100_000
 COMMANDS = {("replay",): Command.REPLAY, ("replay", "--ranked"): Command.RANKED}
+READING_ALONE = (["form"], ["upgrade"])
 WITH_JSON = ("unknown_links", "accepted_with_warnings", "illegal_step")
 EXAMPLE = TOP / "examples" / "preempted.dbp"
 TOO_LARGE = b"#" * 1048577
@@ -64,7 +65,7 @@ def differs(program, words, text, stdout):
         if first != [(refusal.line, refusal.code, refusal.name)] or errors[0].text == NOT_FOUND or found != errors[:1]:
             return f"the first error is {errors[:1]}, found is {found}, and {refusal} is wanted"
         return None
-    found = [] if words == ["form"] else errors or it.faults(command)
+    found = [] if words in READING_ALONE else errors or it.faults(command)
     return f"it is accepted, and {found[0]} is told" if found else None
 
 

@@ -5,6 +5,7 @@ import json
 import re
 import shutil
 import subprocess
+import sys
 import tempfile
 from dataclasses import dataclass
 from enum import Enum
@@ -12,9 +13,14 @@ from functools import partial
 from pathlib import Path
 
 TOP = Path(__file__).resolve().parents[2]
+sys.path.insert(0, str(TOP / ".ci"))
+
+from stand_ins import write_program  # noqa: E402
+
 VIM = TOP / "editors" / "vim"
 VSCODE = TOP / "editors" / "vscode"
-TOKENS = Path(__file__).resolve().parent / "editors" / "tokens.dbp"
+WRITTEN = Path(__file__).resolve().parent / "editors"
+TOKENS = WRITTEN / "tokens.dbp"
 
 
 class Class(Enum):
@@ -48,7 +54,7 @@ LONGEST_NAME = 24
 
 def documents():
     """Returns the documents whose bytes are compared."""
-    return [TOKENS, *sorted((TOP / "examples").rglob("*.dbp"))]
+    return [*sorted(WRITTEN.glob("*.dbp")), *sorted((TOP / "examples").rglob("*.dbp"))]
 
 
 def lines_of(document):
@@ -218,8 +224,7 @@ def answer_of_vim():
     with tempfile.TemporaryDirectory() as room:
         answer, script, checker = (Path(room) / name for name in ("answer", "script.vim", "a checker"))
         script.write_text(VIM_SCRIPT)
-        checker.write_text("#!/bin/sh\ncat << 'END'\n{}\nEND\nexit 1\n".format("\n".join([*SAID, *SHOWN])))
-        checker.chmod(0o755)
+        write_program(checker, "#!/bin/sh\ncat << 'END'\n{}\nEND\nexit 1\n".format("\n".join([*SAID, *SHOWN])))
         values = {"documents": [str(it) for it in documents()], "checker": str(checker), "answer": str(answer)}
         settings = [f"let g:{name} = {json.dumps(value)}" for name, value in values.items()]
         settings += ["set encoding=latin1 fileencodings=latin1 fileformats=unix,dos", f"set runtimepath^={VIM}"]

@@ -11,8 +11,14 @@ from functools import partial
 from pathlib import Path
 
 TOP = Path(__file__).resolve().parents[2]
+sys.path.insert(0, str(TOP / ".ci"))
+
+from stand_ins import write_program  # noqa: E402
+
 GOOD, REFUSED = "examples/preempted.dbp", "examples/refused/18_undelayed_upward.dbp"
+LATE = ".ci/tried/response/alarm.dbp"
 TABLE = ["--format", "csv", "--task", "control"]
+NOWHERE = ["-o", "/dev/null/none"]  # a folder that can't be made
 
 # What the shell does to a stream so that its use fails. (Python itself gives up if its input is a folder.)
 FAILING = {
@@ -43,10 +49,21 @@ STREAMS = (
     ("waves", [*TABLE, GOOD], (0, 5, 0)),
     ("waves", [REFUSED], (1, 1, 1)),
     ("waves", ["--tick", "1", GOOD], (2, 2, 2)),
+    ("response", [GOOD], (0, 5, 0)),
+    ("response", ["--json", "-"], (4, 1, 1)),
+    ("response", [LATE], (1, 5, 1)),
+    ("response", ["--csv", REFUSED], (1, 1, 1)),
+    ("response", ["--chain", "a", GOOD], (2, 2, 2)),
+    ("emit_c", [*NOWHERE, GOOD], (5, 5, 5)),
+    ("emit_c", [*NOWHERE, REFUSED], (1, 1, 1)),
+    ("emit_c", [*NOWHERE, "-"], (4, 1, 1)),
+    ("emit_c", ["--help"], (0, 5, 0)),
+    ("emit_c", [GOOD], (2, 2, 2)),
 )
 
 # The tools with words that ask the program, and write a file.
-WRITERS = (("timeline", []), ("diagram", []), ("diagram", ["--dot"]), ("waves", []), ("waves", TABLE))
+PICTURES = (("timeline", []), ("diagram", []), ("diagram", ["--dot"]), ("response", ["--histogram", "control"]))
+WRITERS = (*PICTURES, ("waves", []), ("waves", TABLE), ("response", []))
 
 # A program that isn't dbp, and the status of each tool with it.
 OTHERS = {"/bin/true": (0, 70), "/bin/false": (70, 1), "/bin/echo": (70, 70), "/etc/passwd": (70, 70), "/etc": (70, 70)}
@@ -103,8 +120,7 @@ def pipe_fault(program, tool, words):
 def interrupting(program, room):
     """Returns a program that interrupts the tool that runs it, and answers only then."""
     between = room / "program"
-    between.write_text(f"#!/bin/sh\nkill -INT $PPID\nexec '{program}' \"$@\"\n")
-    between.chmod(0o755)
+    write_program(between, f"#!/bin/sh\nkill -INT $PPID\nexec '{program}' \"$@\"\n")
     return str(between)
 
 
@@ -215,9 +231,10 @@ def trials(program):
     for number in (signal.SIGINT, signal.SIGTERM, signal.SIGHUP):
         yield f"a file is half written at {number.name}", partial(half_fault, number)
     for other, (of_check, of_others) in OTHERS.items():
-        for tool in ("check", "timeline", "diagram", "waves"):
+        for tool in ("check", "response", "timeline", "diagram", "waves"):
             yield f"{tool} with {other}", partial(other_fault, tool, other, of_check if tool == "check" else of_others)
     for words, start in ((["./dbp", "mean"], "dbp: "), (["./try", "mean"], "try: no answer: ")):
         yield f"{words[0]} without rt", partial(no_rt_fault, words, start)
-    for words in (["tools/check", GOOD], ["tools/check", "--json", GOOD], ["tools/waves", GOOD], ["tools/diagram", GOOD]):
+    emit_c = ["tools/emit_c", "-o", "made", GOOD]
+    for words in (["tools/check", GOOD], ["tools/check", "--json", GOOD], ["tools/waves", GOOD], ["tools/diagram", GOOD], emit_c):
         yield f"{' '.join(words)} without rt", partial(no_rt_fault, words, f"{Path(words[0]).name}: dbp: ")

@@ -6,7 +6,9 @@ import tempfile
 from functools import partial
 from pathlib import Path
 
-EXAMPLE = Path(__file__).resolve().parents[2] / "examples" / "two_rates.dbp"
+EXAMPLES = Path(__file__).resolve().parents[2] / "examples"
+EXAMPLE = EXAMPLES / "two_rates.dbp"
+UNKNOWN = EXAMPLES / "refused" / "11_unknown.dbp"
 NO_LINES = b"dbp 1\npolicy fp\nuntil 0\ndone\n"
 
 # The name, the words, the document or None for one that can't be read, whether the output can't be written, and the
@@ -19,6 +21,13 @@ TRIALS = [
     ("unwritten refusal", ["mean"], b"", True, 5),
     ("unwritten overrun", ["sim"], EXAMPLE.read_bytes(), True, 5),
     ("unread document, and no output", ["mean"], None, True, 4),
+    ("unread document of an upgrade", ["upgrade"], None, False, 4),
+    ("unread document of an upgrade, and no output", ["upgrade"], None, True, 4),
+    ("unwritten upgrade", ["upgrade"], EXAMPLE.read_bytes(), True, 5),
+    ("unwritten upgrade of names that are not there", ["upgrade"], UNKNOWN.read_bytes(), True, 5),
+    ("unwritten refusal of an upgrade", ["upgrade"], b"", True, 5),
+    ("unread canonical text", ["form"], None, False, 4),
+    ("unwritten canonical text", ["form"], EXAMPLE.read_bytes(), True, 5),
     ("nothing to be written", ["mean"], NO_LINES, True, 0),
     ("no command", ["men"], None, True, 2),
     ("no document is needed", ["soak", "0", "1"], None, False, 0),

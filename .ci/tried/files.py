@@ -12,8 +12,10 @@ TOP = Path(__file__).resolve().parents[2]
 EXAMPLE = (TOP / "examples" / "preempted.dbp").read_bytes()
 NOBODY = 65534
 
-# The tools with their words; each writes to standard output or, as `check`, to standard error.
-TOOLS = (["check"], ["timeline"], ["diagram"], ["waves"], ["waves", "--format", "csv"], ["format", "--check"])
+# The tools with their words; each writes to standard output, to standard error as `check`, or into a folder.
+EMIT_C = ["emit_c", "-o", "made"]
+CSV = ["--format", "csv"]
+TOOLS = (["check"], ["response"], ["timeline"], ["diagram"], ["waves"], ["waves", *CSV], ["format", "--check"], EMIT_C)
 
 # A file's content, or None for a folder, and the status of each tool with it.
 CONTENTS = {
@@ -50,9 +52,11 @@ def fault_of(ran, status):
 
 
 def run_tool(program, tool, words, **how):
-    """Runs a tool on words that are bytes."""
+    """Runs a tool on words that are bytes, in a folder that is removed then unless another is named."""
     command = [sys.executable, TOP / "tools" / tool[0], *tool[1:], "--program", program, *words]
-    return subprocess.run(command, stdin=subprocess.DEVNULL, capture_output=True, timeout=60, check=False, **how)
+    with tempfile.TemporaryDirectory() as place:
+        how = {"cwd": place, "stdin": subprocess.DEVNULL, "capture_output": True, "timeout": 60, **how}
+        return subprocess.run(command, check=False, **how)
 
 
 def content_fault(program, tool, content, status):
@@ -138,6 +142,7 @@ def trials(program):
     for tool in (["timeline"], ["diagram"], ["waves"]):
         out = ["-o", "out"]
         yield f"{tool[0]}: a folder for reading alone", partial(right_fault, program, tool, out, 0o444, 0o555, 5)
+    yield "emit_c: a folder for reading alone", partial(right_fault, program, EMIT_C, [], 0o444, 0o555, 5)
     for right, folder in ((0o444, 0o777), (0o666, 0o555)):
         name = f"format: the rights {right:o} in {folder:o}"
         yield name, partial(right_fault, program, ["format"], [], right, folder, 5)

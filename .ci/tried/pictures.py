@@ -15,9 +15,23 @@ from xml.etree import ElementTree
 
 TOP = Path(__file__).resolve().parent.parent.parent
 WANTED = Path(__file__).resolve().parent / "pictures"
-sys.path.insert(0, str(TOP / "tools"))
+sys.path[:0] = [str(TOP / "tools"), str(TOP / ".ci")]
 
-from pictures import asking, commands, courses, diagram, dot, gallery, record, slot_rows, styles, svg, timeline  # noqa: E402
+from pictures import (  # noqa: E402
+    asking,
+    commands,
+    courses,
+    diagram,
+    dot,
+    gallery,
+    record,
+    service,
+    slot_rows,
+    styles,
+    svg,
+    timeline,
+)
+from stand_ins import write_program  # noqa: E402
 
 EXACT = {
     "modes.timeline.svg": (commands.timeline, "examples/modes.dbp"),
@@ -30,6 +44,33 @@ EXACT = {
     "modes.tasks.svg": (commands.timeline, "examples/modes.dbp", "--tasks", "pump,started"),
     "modes.tasks.diagram.svg": (commands.diagram, "examples/modes.dbp", "--tasks", "pump,started"),
     "modes.tasks.dot": (commands.diagram, "examples/modes.dbp", "--dot", "--tasks", "pump,started"),
+    "heater.timeline.svg": (commands.timeline, "examples/heater.dbp", "--from", "20", "--to", "41"),
+    "heater.slots.svg": (commands.timeline, "examples/heater.dbp", "--from", "15", "--to", "30", "--slots", "stay_warm"),
+    "heater.tasks.diagram.svg": (commands.diagram, "examples/heater.dbp", "--tasks", "current,stay_warm"),
+    "heater.dot": (commands.diagram, "examples/heater.dbp", "--dot"),
+    "version_2.diagram.svg": (commands.diagram, ".ci/tried/pictures/version_2.dbp"),
+    "version_2.timeline.svg": (commands.timeline, ".ci/tried/pictures/version_2.dbp"),
+    "version_2.dot": (commands.diagram, ".ci/tried/pictures/version_2.dbp", "--dot"),
+}
+
+# What pictures say below the name of each task, by its document: of version 1, and of version 2.
+ABOUT = {
+    "examples/modes.dbp": [
+        ["on go", "prio 3, cost 1"],
+        ["on halt", "prio 2, cost 1"],
+        ["every 5", "prio 1, cost 2"],
+    ],
+    "examples/heater.dbp": [
+        ["every 5", "when printing", "prio 3, cost 3, cpu 0"],
+        ["every 10", "when idle", "prio 2, cost 3, cpu 0"],
+        ["every 5", "prio 1, cost 1, cpu 0"],
+    ],
+    ".ci/tried/pictures/version_2.dbp": [
+        ["every 4 from 1", "when on_in_a_long_name_too", "deadline 4, cost 2, cpu 7"],
+        ["on press", "when ready", "deadline 3, cost 1, cpu 0"],
+        ["on press", "deadline 9, cost 1, cpu 3"],
+        ["every 6", "deadline 6, cost 1, cpu 0"],
+    ],
 }
 
 STATUSES = {
@@ -100,6 +141,28 @@ def exact_fault(program, file, tool, document, *words):
         return f"the status is {status}" if status else difference(out.read_bytes(), (WANTED / file).read_bytes())
 
 
+def about_of(picture):
+    """Returns the lines below the names of tasks that a picture has, in the order in which they are drawn."""
+    texts = ElementTree.fromstring(picture).iter("{http://www.w3.org/2000/svg}text")
+    return [it.text for it in texts if it.get("class") in ("about", "small") and it.text != "tick"]
+
+
+def about_fault(program, document, wanted):
+    """Returns how what the pictures of a document say of its tasks differs; a timeline has them in the order of ranks."""
+    found = asking.simulated(program, (TOP / document).read_bytes())
+    ranked = [wanted[at] for at in service.rank_order(found.document)]
+    told = {
+        "diagram": (about_of(diagram.draw_diagram(found.document, "document")), wanted),
+        "timeline": (about_of(timeline.draw_timeline(found, "document", (None, None))[0]), ranked),
+    }
+    for name, (lines, tasks) in told.items():
+        if lines != [line for task in tasks for line in task]:
+            return f"the {name} says {lines}"
+    dotted = dot.dot_text(found.document, "document")
+    missing = [task for task in wanted if r"\n".join(task) not in dotted]
+    return f"the text for dot lacks {missing}" if missing else None
+
+
 def status_fault(program, status, words, said):
     """Returns how the status of a call, or what it says on standard error, differs."""
     ran = run_tool(program, words)
@@ -111,12 +174,12 @@ def status_fault(program, status, words, said):
 def tampering(program, room, edit, status):
     """Returns a program that gives the lines of `sim --record` through sed, and ends with a status then."""
     between = Path(room) / "program"
-    between.write_text(
+    write_program(
+        between,
         "#!/bin/sh\n"
         f"""case "$*" in "sim --record") '{program}' "$@" | sed '{edit}'; exit {status};; esac\n"""
-        f"""exec '{program}' "$@"\n"""
+        f"""exec '{program}' "$@"\n""",
     )
-    between.chmod(0o755)
     return between
 
 
@@ -226,13 +289,14 @@ def drawn_fault(program, text):
         pictures.append(timeline.draw_timeline(found, "document", (None, None), None, sorted(set(tasks)))[0])
     dot.dot_text(document, "document")
     form, _ = asking.canonical_text(program, text)
-    lines, overrun = asking.record_of(program, form)
-    return next(filter(None, map(overlap, pictures)), None) or (None if overrun else heard_fault(program, found, form, lines))
+    steps, overrun = asking.record_text(program, form)
+    heard = None if overrun else heard_fault(program, found, form, steps.splitlines())
+    return next(filter(None, map(overlap, pictures)), None) or heard
 
 
 def documents():
     """Returns the documents whose pictures are tried."""
-    return sorted([*(TOP / "examples").rglob("*.dbp"), *(TOP / "cases" / "sim").rglob("*.dbp")])
+    return sorted([*(TOP / "examples").rglob("*.dbp"), *(TOP / "cases" / "sim").rglob("*.dbp"), *WANTED.glob("*.dbp")])
 
 
 def narrow_fault(program):
@@ -268,6 +332,8 @@ def trials(program):
     """Yields the trials: a name, and a call that returns what differs, or nothing."""
     for file, words in EXACT.items():
         yield f"exact {file}", lambda it=(file, *words): exact_fault(program, *it)
+    for document, wanted in ABOUT.items():
+        yield f"what is said of the tasks of {document}", lambda it=(document, wanted): about_fault(program, *it)
     for name, wanted in STATUSES.items():
         yield f"status of {name}", lambda it=wanted: status_fault(program, *it)
     for document, wanted in LATE.items():

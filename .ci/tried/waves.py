@@ -26,7 +26,14 @@ from waveforms.vcd import ONE_NANOSECOND, vcd_lines  # noqa: E402
 from waveforms.viewer import save_lines  # noqa: E402
 
 # The documents whose lines are read again, if `mean` accepts them.
-FOLDERS = ("examples", "cases/mean/documents", "cases/sim/documents", "cases/run/documents", ".ci/tried/waves")
+FOLDERS = (
+    "examples",
+    "cases/mean/documents",
+    "cases/mean/conditions",
+    "cases/sim/documents",
+    "cases/run/documents",
+    ".ci/tried/waves",
+)
 
 # What is compared byte by byte: the words of the call, a document, and the file with what is wanted.
 WRITTEN = (
@@ -36,6 +43,9 @@ WRITTEN = (
     (["--format", "csv"], "examples/preempted.dbp", "preempted.lines.csv"),
     (["--command", "run", "--format", "csv", "--task", "filter"], "examples/speed_control.dbp", "filter.csv"),
     (["--format", "csv", "--wide"], "examples/speed_control.dbp", "speed_control.csv"),
+    (["--tick", "1s"], "examples/heater.dbp", "heater.vcd"),
+    (["--format", "csv", "--wide"], "examples/heater.dbp", "heater.csv"),
+    (["--command", "sim", "--format", "csv", "--task", "stay_warm"], "examples/heater.dbp", "stay_warm.csv"),
     ([], ".ci/tried/waves/edges.dbp", "edges.vcd"),
     (["--format", "csv", "--wide"], ".ci/tried/waves/edges.dbp", "edges.csv"),
     ([], ".ci/tried/waves/nothing.dbp", "nothing.vcd"),

@@ -4,7 +4,6 @@ The program simulates a document, unless its periods and costs show that no rele
 """
 
 import re
-from fractions import Fraction
 
 from canonical import read_document
 from checking.messages import Note, warning
@@ -12,10 +11,11 @@ from checking.occurrences import times_of_events
 from checking.ranks import ranks_of
 from ending import Status
 from pictures.asking import cut_text
-from pictures.record import Disagreement, agreed_steps
-from pictures.service import End, is_late, serve
+from pictures.record import Disagreement, must_record
+from pictures.service import serve
+from responses.bounds import Demand, least_response
+from responses.lateness import first_late, least_distance
 
-MOST_ROUNDS = 1000
 NEVER = 10**20  # the period of a task that occurs once, or not at all
 OVERRUN_LINE = re.compile(rb"overrun: (\w+) ([0-9]+) at ([0-9]+)\n")
 
@@ -26,31 +26,20 @@ def is_surely_in_time(document):
     That is a test for the worst case: a document that it doesn't pass may be in time.
     """
     tasks, events = ranks_of(document), times_of_events(document)
-    costs = [(task.head.number("cost"), least_period(task, events)) for task in tasks]
-    lengths = [min(period, task.head.number("deadline", period)) for task, (_, period) in zip(tasks, costs)]
+    demands = [Demand(task.head.number("cost"), least_period(task, events)) for task in tasks]
+    lengths = [min(it.distance, task.head.number("deadline", it.distance)) for task, it in zip(tasks, demands)]
     if document.policy == "fp":
-        return all(ends_in_time(costs[:at], costs[at][0], length) for at, length in enumerate(lengths))
+        cases = enumerate(zip(demands, lengths))
+        return all(least_response(it.cost, demands[:at], length) is not None for at, (it, length) in cases)
     is_short = all(task.head.number("deadline") == length for task, length in zip(tasks, lengths))
-    return is_short and sum(Fraction(cost, length) for length, (cost, _) in zip(lengths, costs)) <= 1
+    return is_short and sum(Demand(it.cost, length).load for it, length in zip(demands, lengths)) <= 1
 
 
 def least_period(task, events):
     """Returns how far apart two releases of a task are at least."""
     if task.head.source is None:
         return task.head.number("every")
-    times = events.get(task.head.source.text, ())
-    return min((after - before for before, after in zip(times, times[1:])), default=NEVER)
-
-
-def ends_in_time(higher, cost, length):
-    """Whether an instance ends within a length if all tasks ranked above are released with it, which is the worst case."""
-    time, needed = 0, cost
-    for _ in range(MOST_ROUNDS):
-        if needed > length or needed == time:
-            break
-        time = needed
-        needed = cost + sum(-(-time // other) * own for own, other in higher)
-    return needed == time and time <= length
+    return least_distance(events.get(task.head.source.text, ())) or NEVER
 
 
 def overrun_warnings(document, ran):
@@ -70,27 +59,21 @@ def late_warnings(run, text, document):
         return
     form = run(["form"], text)
     canonical = read_document(form.stdout)
-    late = first_late(canonical)
-    if late and is_recorded(run, cut_text(form.stdout, canonical, late.time)):
+    service = serve(canonical)
+    late = first_late(canonical, service)
+    if late and is_recorded(run, cut_text(form.stdout, canonical, late.end or service.overrun.time)):
         head = document.tasks[late.instance.task].head
-        deadline, release = head.number("deadline"), late.instance.release
-        what = f"instance {late.instance.number} of the task `{head.name.text}`, released at tick {release},"
-        due = f"its deadline is {release + deadline}"
+        what = f"instance {late.instance.number} of the task `{head.name.text}`, released at tick {late.instance.release},"
+        ends = f"ends at {late.end}, and its deadline is" if late.end else "isn't done at its deadline"
         note = Note(head.line, head.numbers["cost"].column, f"it is served for {head.number('cost')} ticks")
-        yield warning(head.line, head.numbers["deadline"], "Late", f"{what} ends at {late.time}, and {due}", note)
-
-
-def first_late(document):
-    """Returns the end of the first instance that ends after its task's deadline, or nothing."""
-    late = (it for it in serve(document).of(End) if is_late(document, it.instance, it.time))
-    return next(late, None)
+        yield warning(head.line, head.numbers["deadline"], "Late", f"{what} {ends} {late.deadline}", note)
 
 
 def is_recorded(run, cut):
     """Whether the program's record of a text that is cut at an end is what the computed order gives."""
     document = read_document(cut)
     try:
-        agreed_steps(document, serve(document), run(["sim", "--record"], cut).stdout.decode().splitlines())
+        must_record(document, serve(document), run(["sim", "--record"], cut).stdout.decode())
     except Disagreement:
         return False
     return True

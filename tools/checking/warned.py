@@ -10,6 +10,7 @@ from checking.tabled import table_warnings
 from checking.timing import late_warnings
 from checking.trace import row_of
 from program import read_as_answer
+from responses.numbers import decimal
 
 VALUES = ("state", "sense", "read", "let")
 
@@ -155,12 +156,6 @@ def load(document):
         which = "a period and no `when`" if are_some else "a period"
         text = f"the load of the tasks with {which} is {decimal(sum(shares))}, and one processor has 1: {parts}"
         yield warning(above[0].head.line, above[0].head.name, "Overload", text)
-
-
-def decimal(value):
-    """Returns a fraction with three digits after the point, rounded up."""
-    thousandths = -(-value.numerator * 1000 // value.denominator)
-    return f"{thousandths // 1000}.{thousandths % 1000:03}"
 
 
 OF_DOCUMENT = (trace_after_script, unused, kept_inputs, delayed_downward, equal_ranks, long_costs, load)

@@ -45,8 +45,9 @@ def listed_crates():
 
 
 def is_library(crate, crates):
-    """Returns whether a crate is a library of the program: its own crates use it, and not only tests."""
-    return any(crate.name in it.libraries for it in crates if not is_of_tests(it, crates))
+    """Returns whether a crate is a library that isn't for tests: crates of the program use it, or it has a `lib.rt`."""
+    is_used = any(crate.name in it.libraries for it in crates if not is_of_tests(it, crates))
+    return is_used or crate.root.is_file() and not is_of_tests(crate, crates)
 
 
 def is_of_tests(crate, crates):

@@ -107,7 +107,8 @@ class Section:
         """Returns the section of the page; `users` are the names of the crates that use this one."""
         lines = [f"## {self.crate.name}", "", self.title, ""]
         used = f"It uses {list_of(self.crate.libraries)}." if self.crate.libraries else "It uses no other crate."
-        lines += [f"{used} {list_of(users)} {'use' if len(users) > 1 else 'uses'} it.", ""]
+        using = f"{list_of(users)} {'use' if len(users) > 1 else 'uses'} it." if users else "No crate uses it yet."
+        lines += [f"{used} {using}", ""]
         for library, names in sorted(self.handed_on.items()):
             lines += [f"It hands on of `{library}`: {list_of(sorted(names))}.", ""]
         lines += table_of("Type", "Keeps", self.types())

@@ -77,15 +77,15 @@ def overrun_of(line):
     return Overrun(task, int(number), int(time))
 
 
-def record_of(program, text):
-    """Returns the lines of the record, or the overrun that the program prints instead."""
+def record_text(program, text):
+    """Returns the text of the record, or the overrun that the program prints instead."""
     ran = run_program(program, ["sim", "--record"], text)
     if ran.status == Status.OVERRUN:
         with read_as_answer(program):
-            return [], overrun_of(ran.stdout.decode())
+            return "", overrun_of(ran.stdout.decode())
     if ran.status != Status.DONE:
         raise Refused(ran)
-    return ran.stdout.decode(errors="replace").splitlines(), None
+    return ran.stdout.decode(errors="replace"), None
 
 
 def cut_text(form, document, tick):
@@ -109,16 +109,25 @@ def must_agree(computed, told):
         raise Disagreement(tick, f"computed is `{lines[0]}`, and the program says `{lines[1]}`")
 
 
-def simulated(program, text):
-    """Returns the simulation of a document, in which the program's record and the computed order agree."""
+def agreed_service(program, text):
+    """Returns a document, how many slots each task has, its service, and the text of the record that must be its own.
+
+    The program tells the same overrun; then the record is that of the releases before it.
+    """
     form, plan = canonical_text(program, text)
     with read_as_answer(program):
         slots = tuple(int(line.split(",")[4]) for line in plan)
         document = read_document(form)
-    lines, overrun = record_of(program, text)
+    record, overrun = record_text(program, text)
     service = serve(document)
     must_agree(service.overrun, overrun)
     if overrun:
-        lines, _ = record_of(program, cut_text(form, document, overrun.time))
-    steps = agreed_steps(document, service, lines)
-    return Simulated(document, slots, service, steps, overrun, table_of(program, text))
+        record, _ = record_text(program, cut_text(form, document, overrun.time))
+    return document, slots, service, record
+
+
+def simulated(program, text):
+    """Returns the simulation of a document, in which the program's record and the computed order agree."""
+    document, slots, service, record = agreed_service(program, text)
+    steps = agreed_steps(document, service, record.splitlines())
+    return Simulated(document, slots, service, steps, service.overrun, table_of(program, text))

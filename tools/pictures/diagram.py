@@ -11,7 +11,7 @@ from pictures.words import about_policy, about_task
 
 MARGIN = 16
 TOP = 72
-HEAD = 54  # the height of a box's head, with its three lines
+NAME, LINE = 26, 14  # the heights of a box's name, and of each line below it
 PORT = 18  # the height of a line of ports
 SIZE = 11
 PAD = 12
@@ -46,15 +46,15 @@ class Box:
         self.lines = about_task(document, self.task)
         self.left = [read_words(document, read) for read in self.task.reads] + [sense_words(it) for it in self.task.senses]
         self.right = [out.name for out in self.task.outs]
-        self.height = HEAD + PORT * max(len(self.left), len(self.right)) + 8
+        self.head_height = NAME + LINE * len(self.lines)
+        self.height = self.head_height + PORT * max(len(self.left), len(self.right)) + 8
         head = [text_width(self.task.name, 13) * 1.15, *(text_width(line, SIZE) for line in self.lines)]
         ports = [max((text_width(words, SIZE) for words in side), default=0) for side in (self.left, self.right)]
         self.width = max(*head, sum(ports) + 24) + 2 * PAD
 
-
-def port_at(number):
-    """Returns how far below the top of a box the middle of a port's line is."""
-    return HEAD + PORT * number + PORT / 2 + 2
+    def port_at(self, number):
+        """Returns how far below the top of the box the middle of a port's line is."""
+        return self.head_height + PORT * number + PORT / 2 + 2
 
 
 def head_sample(canvas, x, y):
@@ -62,18 +62,18 @@ def head_sample(canvas, x, y):
     canvas.box(Layer.MARKS, x, y - 7, 26, 14, "event-head")
 
 
-def edges_of(document):
+def edges_of(boxes):
     """Returns an edge for each read of a task that is drawn."""
-    names = [task.name for task in document.tasks]
+    names = [box.task.name for box in boxes]
     edges = []
-    for target, task in enumerate(document.tasks):
-        for number, read in enumerate(task.reads):
+    for target, box in enumerate(boxes):
+        for number, read in enumerate(box.task.reads):
             if read.writer not in names:
                 continue
             source = names.index(read.writer)
-            port = [out.name for out in document.tasks[source].outs].index(read.port)
+            port = [out.name for out in boxes[source].task.outs].index(read.port)
             stem = (source, port, read.delay > 0)
-            edges.append(Edge(source, port_at(port), target, port_at(number), stem))
+            edges.append(Edge(source, boxes[source].port_at(port), target, box.port_at(number), stem))
     return edges
 
 
@@ -83,7 +83,7 @@ class Diagram:
     def __init__(self, document):
         self.document = document
         self.boxes = [Box(document, at) for at in range(len(document.tasks))]
-        self.layout = Layout([box.height for box in self.boxes], edges_of(document), rank_order(document))
+        self.layout = Layout([box.height for box in self.boxes], edges_of(self.boxes), rank_order(document))
         self.canvas = Canvas()
         self.lefts, self.widths = [], []
         self.place_layers()
@@ -150,15 +150,15 @@ class Diagram:
         """Draws the box of a task."""
         head = "event-head" if isinstance(box.task.clock, On) else "head"
         self.canvas.box(Layer.BARS, x, y, width, box.height, "box")
-        self.canvas.box(Layer.BARS, x, y, width, HEAD, head)
+        self.canvas.box(Layer.BARS, x, y, width, box.head_height, head)
         self.canvas.text(x + PAD, y + 19, box.task.name, "name")
         for number, line in enumerate(box.lines):
-            self.canvas.text(x + PAD, y + 33 + 14 * number, line, "about")
+            self.canvas.text(x + PAD, y + 33 + LINE * number, line, "about")
         for number, words in enumerate(box.left):
             is_read = number < len(box.task.reads)
-            self.draw_port(x, y + port_at(number), "in" if is_read else "sense", words)
+            self.draw_port(x, y + box.port_at(number), "in" if is_read else "sense", words)
         for number, words in enumerate(box.right):
-            self.draw_port(x + width, y + port_at(number), "out", words)
+            self.draw_port(x + width, y + box.port_at(number), "out", words)
 
     def draw_port(self, x, y, kind, words):
         """Draws a port: a dot, for a sense a diamond, and its words beside it inside the box."""

@@ -60,6 +60,8 @@ PICTURES = (
     Picture("examples/cascade.dbp", Kind.TIMELINE),
     Picture("examples/filter.dbp", Kind.DIAGRAM),
     Picture("examples/logger.dbp", Kind.DIAGRAM),
+    Picture("examples/heater.dbp", Kind.DIAGRAM),
+    Picture("examples/heater.dbp", Kind.TIMELINE, (15, 45)),
     Picture("examples/sim/late.dbp", Kind.TIMELINE),
     Picture("examples/sim/mended.dbp", Kind.TIMELINE),
     Picture("examples/feedback.dbp", Kind.DIAGRAM),

@@ -3,7 +3,6 @@
 The steps and their order are those of "The record of a simulation" in docs/PROTOCOL.md.
 """
 
-from dataclasses import dataclass
 from enum import Enum
 from typing import NamedTuple, Optional
 
@@ -30,8 +29,7 @@ class StepKind(Enum):
         self.word = word  # read for each step: quicker than `value`
 
 
-@dataclass(frozen=True)
-class Link:
+class Link(NamedTuple):
     """A link, by the places of its tasks; its delay is 0 without `pre`."""
 
     writer: int
@@ -39,8 +37,7 @@ class Link:
     delay: int
 
 
-@dataclass(frozen=True)
-class Order:
+class Order(NamedTuple):
     """What an aim or a claim names: a slot, and the number of the row that it is to hold."""
 
     slot: int
@@ -96,7 +93,8 @@ class Releaser:
         ranks = {task: rank for rank, task in enumerate(rank_order(document))}
         tasks = range(len(document.tasks))
         delays = [max((link.delay for link in links if link.writer == at), default=0) for at in tasks]
-        self.counted = [link for link in links if ranks[link.reader] > ranks[link.writer]]
+        self.into = links_of(document)
+        self.counted = [[it for it in links if it.writer == at and ranks[it.reader] > ranks[at]] for at in tasks]
         self.known = [0 for _ in tasks]
         self.aimed = [0 for _ in tasks]
         self.current = [0 for _ in tasks]
@@ -105,13 +103,18 @@ class Releaser:
 
     def aim(self, task):
         """Aims a task at the least slot that is allowed, and returns the order."""
-        taken = {self.current[task], *self.kept[task][:-1]} if self.kept[task] else set()
-        for link in self.counted:
+        kept, slot = self.kept[task], 0
+        taken = {self.current[task], *kept[:-1]} if kept else set()
+        for link in self.counted[task]:
             order, instance = self.claims.get(link, (None, 0))
-            if link.writer == task and instance > self.known[link.reader]:
+            if instance > self.known[link.reader]:
                 taken.add(order.slot)
-        self.kept[task] = [self.current[task], *self.kept[task]][: len(self.kept[task])]
-        self.current[task] = next(slot for slot in range(len(taken) + 1) if slot not in taken)
+        if kept:
+            kept.insert(0, self.current[task])
+            kept.pop()
+        while slot in taken:
+            slot += 1
+        self.current[task] = slot
         self.aimed[task] += 1
         return Order(self.current[task], self.aimed[task])
 
@@ -123,6 +126,14 @@ class Releaser:
         self.claims[link] = (order, self.aimed[link.reader])
         return order
 
+    def release(self, batch):
+        """Releases a batch: returns the order of each aim, and then, by instance, those of the claims into it."""
+        aims = []
+        for it in batch:
+            self.known[it.task] = it.number - 1
+            aims.append(self.aim(it.task))
+        return aims, [[self.claim(link) for link in self.into[it.task]] for it in batch]
+
 
 class Recorder:
     """Makes the steps of a record, one event after another."""
@@ -130,8 +141,8 @@ class Recorder:
     def __init__(self, document):
         self.document = document
         self.names = [task.name for task in document.tasks]
-        self.into = links_of(document)
         self.releaser = Releaser(document)
+        self.into = self.releaser.into
         self.count = 0
 
     def step(self, time, kind, instance, *operands, order=None, link=None):
@@ -150,17 +161,18 @@ class Recorder:
 
     def released(self, event):
         """Yields the steps of the release of a batch."""
-        for it in event.batch:
+        yield from self.release_steps(event, *self.releaser.release(event.batch))
+
+    def release_steps(self, event, aims, claims):
+        """Yields the steps of the release of a batch, with the orders that the releaser has made."""
+        for it, order in zip(event.batch, aims):
             if it.number > 1:
-                self.releaser.known[it.task] = it.number - 1
                 yield self.step(event.time, StepKind.SEEN, it)
-            order = self.releaser.aim(it.task)
             yield self.step(event.time, StepKind.AIM, it, str(order.slot), order=order)
-        for it in event.batch:
-            for link in self.into[it.task]:
+        for it, orders in zip(event.batch, claims):
+            for link, order in zip(self.into[it.task], orders):
                 delay = ["pre"] * (link.delay > 0) + [str(link.delay)] * (link.delay > 1)
                 operands = [*delay, self.names[link.writer]]
-                order = self.releaser.claim(link)
                 yield self.step(event.time, StepKind.CLAIM, it, *operands, order=order, link=link)
         for it in event.batch:
             yield self.step(event.time, StepKind.OPEN, it)
@@ -192,6 +204,43 @@ class Recorder:
 def steps_of(document, events):
     """Yields the steps of the record of a document whose events are computed."""
     return Recorder(document).steps(events)
+
+
+class Texts:
+    """The text of a record, event by event. The texts of like events are alike, and are made once."""
+
+    def __init__(self, document):
+        self.recorder = Recorder(document)
+        self.made = {}
+
+    def of_all(self, events):
+        """Returns the text of all events."""
+        made, found = self.made, []
+        for event in events:
+            if type(event) is Release:
+                found.append(self.of_release(event))
+            else:
+                key = (type(event), event[1][0], *event[2:])  # the task, and the place of a read
+                text = made.get(key)
+                found.append(text or self.kept(key, self.recorder.steps([event])))
+        return "".join(found)
+
+    def of_release(self, event):
+        """Returns the text of the release of a batch."""
+        aims, claims = self.recorder.releaser.release(event.batch)
+        key = tuple([(it.task, it.number > 1, order.slot) for it, order in zip(event.batch, aims)])
+        return self.made.get(key) or self.kept(key, self.recorder.release_steps(event, aims, claims))
+
+    def kept(self, key, steps):
+        """Keeps the lines of steps for the events that are alike, and returns them."""
+        self.made[key] = "".join(f"{step.line}\n" for step in steps)
+        return self.made[key]
+
+
+def must_record(document, service, record):
+    """Refuses a service whose record isn't the text that the program printed; the tick is named where the two differ."""
+    if Texts(document).of_all(service.events) != record:
+        agreed_steps(document, service, record.splitlines())
 
 
 def agreed_steps(document, service, lines):

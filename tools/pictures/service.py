@@ -5,13 +5,12 @@ The rules are those of "The order of service" in docs/PROTOCOL.md, taken from on
 
 import heapq
 from dataclasses import dataclass
-from typing import Optional, Tuple
+from typing import NamedTuple, Optional, Tuple
 
 from canonical import Policy
 
 
-@dataclass(frozen=True)
-class Instance:
+class Instance(NamedTuple):
     """An instance of a task, by the task's place in the document; its deadline is a time, under `edf` alone."""
 
     task: int
@@ -20,24 +19,21 @@ class Instance:
     deadline: Optional[int]
 
 
-@dataclass(frozen=True)
-class Release:
+class Release(NamedTuple):
     """The release of a batch."""
 
     time: int
     batch: Tuple[Instance, ...]
 
 
-@dataclass(frozen=True)
-class Begin:
+class Begin(NamedTuple):
     """An instance is served for the first time."""
 
     time: int
     instance: Instance
 
 
-@dataclass(frozen=True)
-class Reading:
+class Reading(NamedTuple):
     """A read of an instance is made, by the read's place among those of its task."""
 
     time: int
@@ -45,8 +41,7 @@ class Reading:
     read: int
 
 
-@dataclass(frozen=True)
-class End:
+class End(NamedTuple):
     """An instance ends."""
 
     time: int
@@ -59,8 +54,7 @@ def is_late(document, instance, end):
     return length is not None and end > instance.release + length
 
 
-@dataclass(frozen=True)
-class Span:
+class Span(NamedTuple):
     """Ticks in a row in which one instance is served, the last one not among them."""
 
     instance: Instance
@@ -91,7 +85,7 @@ class Service:
 
     def of(self, kind):
         """Returns the events of one kind."""
-        return [event for event in self.events if isinstance(event, kind)]
+        return [event for event in self.events if type(event) is kind]
 
 
 def rank_order(document):
@@ -112,19 +106,26 @@ def batches(document):
     return sorted(found.items())
 
 
-class Job:
-    """An instance that was released and hasn't ended."""
+def reads_by_tick(task):
+    """Returns the reads of a task in the order in which they are made: each one's tick, and its place."""
+    return sorted((read.at, place) for place, read in enumerate(task.reads))
 
-    def __init__(self, instance, task):
+
+class Job:
+    """An instance that was released and hasn't ended; `made` counts its reads that are made."""
+
+    __slots__ = ("instance", "cost", "reads", "served", "made")
+
+    def __init__(self, instance, cost, reads):
         self.instance = instance
-        self.cost = task.cost
+        self.cost = cost
+        self.reads = reads
         self.served = 0
-        self.due = sorted(range(len(task.reads)), key=lambda read: task.reads[read].at)
-        self.ticks = [task.reads[read].at for read in self.due]
+        self.made = 0
 
     def next_stop(self):
         """Returns how many ticks it is served until its next read or its end."""
-        return (self.ticks[0] if self.ticks else self.cost) - self.served
+        return (self.cost if self.made == len(self.reads) else self.reads[self.made][0]) - self.served
 
 
 class Processor:
@@ -133,6 +134,7 @@ class Processor:
     def __init__(self, document):
         self.document = document
         self.ranks = {task: rank for rank, task in enumerate(rank_order(document))}
+        self.reads = [reads_by_tick(task) for task in document.tasks]
         self.now = 0
         self.waiting = []
         self.events = []
@@ -143,7 +145,7 @@ class Processor:
         self.events.append(Release(time, tuple(batch)))
         for it in batch:
             key = (it.deadline or 0, self.ranks[it.task])
-            heapq.heappush(self.waiting, (key, Job(it, self.document.tasks[it.task])))
+            heapq.heappush(self.waiting, (key, Job(it, self.document.tasks[it.task].cost, self.reads[it.task])))
 
     def serve_until(self, limit):
         """Serves those that wait up to a time, or all to their ends if there is none."""
@@ -151,7 +153,7 @@ class Processor:
             job = self.waiting[0][1]
             self.work(job)
             stop = self.now + job.next_stop()
-            self.serve(job, stop if limit is None else min(stop, limit))
+            self.serve(job, stop if limit is None or stop < limit else limit)
             if job.served == job.cost:
                 heapq.heappop(self.waiting)
                 self.events.append(End(self.now, job.instance))
@@ -161,9 +163,9 @@ class Processor:
         """Lets the served instance begin, if it hasn't, and make the reads that are due."""
         if job.served == 0:
             self.events.append(Begin(self.now, job.instance))
-        while job.ticks and job.ticks[0] == job.served:
-            job.ticks.pop(0)
-            self.events.append(Reading(self.now, job.instance, job.due.pop(0)))
+        while job.made < len(job.reads) and job.reads[job.made][0] == job.served:
+            self.events.append(Reading(self.now, job.instance, job.reads[job.made][1]))
+            job.made += 1
 
     def serve(self, job, stop):
         """Serves an instance up to a time."""
@@ -176,6 +178,8 @@ class Processor:
 
     def late_of(self, batch):
         """Returns the highest-ranked instance of a batch that is late, or nothing."""
+        if not self.waiting:
+            return None
         unfinished = {job.instance.task for _, job in self.waiting}
         late = [it for it in batch if it.task in unfinished]
         return min(late, key=lambda it: self.ranks[it.task], default=None)

@@ -11,14 +11,17 @@ def about_policy(document):
 
 
 def about_clock(task):
-    """Returns when a task occurs."""
+    """Returns the clock of a task."""
     if not isinstance(task.clock, Every):
         return f"on {task.clock.event}"
     return f"every {task.clock.period}" + (f" from {task.clock.offset}" if task.clock.offset else "")
 
 
 def about_task(document, task):
-    """Returns the two lines below the name of a task: when it occurs, and its rank's number and its cost."""
+    """Returns the lines below the name of a task: its clock, its condition if it has one, and its numbers: that of its
+    rank, its cost and, in version 2, its processor."""
     is_fixed = document.policy is Policy.FIXED_PRIORITIES
     rank = f"prio {task.prio}" if is_fixed else f"deadline {task.deadline}"
-    return about_clock(task), f"{rank}, cost {task.cost}"
+    condition = [] if task.when is None else [f"when {task.when}"]
+    processor = f", cpu {task.cpu}" if document.version > 1 else ""
+    return [about_clock(task), *condition, f"{rank}, cost {task.cost}{processor}"]

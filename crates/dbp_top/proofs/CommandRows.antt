@@ -9,9 +9,9 @@ use Rattle.std.proofs.lemmas.List.{length-map}
 use Rattle.std.proofs.lemmas.Option.{slice_get-map, slice_get-get_or, slice_get_within}
 use Rattle.dbp_top.specs.Commands.{HasAllCommands, CommandRow, Names, by_row, command_list, command_table, first_numbers, row_of, with_numbers}
 use Rattle.dbp_top.specs.Patterns.{AllFit, listed_forms}
-use Rattle.dbp_top.specs.declared.command.Command.{Command}
-use Rattle.dbp_top.specs.declared.command.Command.TheVariants.{Mean}
-use Rattle.dbp_top.specs.declared.command.Numbers.{Numbers}
+use Rattle.dbp_answers.specs.declared.command.Command.{Command}
+use Rattle.dbp_answers.specs.declared.command.Command.TheVariants.{Mean}
+use Rattle.dbp_top.specs.declared.numbers.Numbers.{Numbers}
 use Rattle.dbp_top.specs.declared.table.Row.{Row}
 use Rattle.dbp_top.proofs.WordForms.{all-fit-once, are_apart, not-both}
 

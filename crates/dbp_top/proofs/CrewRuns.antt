@@ -3,16 +3,17 @@ use Rattle.std.proofs.Common.{◌≡◌, ℕ, List, Option, Some, Result, Ok as 
 use Rattle.std.specs.Prelude.{IfOk, MatchResult}
 use Rattle.std.specs.Io.KnownBytes.{Consumes, IsAtEnd}
 use Rattle.party_exec.specs.declared.crew_entry.CrewEntry.{CrewEntry}
+use Rattle.dbp_plan.specs.declared.plan.Plan.{Plan}
 use Rattle.trace_io.specs.declared.code.Code.{Code}
 use Rattle.trace_io.specs.Texts.{Accepts, Refuses}
-use Rattle.dbp_top.specs.Answer.{Answers, made, overran, refused}
-use Rattle.dbp_top.specs.Runs.{HasRefusedInput, HasRunInput, RunsAfter}
-use Rattle.dbp_top.specs.Stops.{status_of_stop}
-use Rattle.dbp_top.specs.declared.command.Command.TheVariants.{Run}
-use Rattle.dbp_top.specs.declared.status.Status.{Status}
-use Rattle.dbp_top.specs.declared.status.Status.TheVariants.{NoMemory, WriteFault}
-use Rattle.dbp_top.specs.declared.stop.Stop.{Stop}
-use Rattle.dbp_top.specs.declared.stop.Stop.TheVariants as stop
+use Rattle.dbp_answers.specs.Answer.{Answers, made, overran, refused}
+use Rattle.dbp_top.specs.Runs.{HasRefusedInput, HasRunInput, RanOnce, RunsAfter}
+use Rattle.dbp_answers.specs.Stops.{status_of_stop}
+use Rattle.dbp_answers.specs.declared.command.Command.TheVariants.{Run}
+use Rattle.dbp_answers.specs.declared.status.Status.{Status}
+use Rattle.dbp_answers.specs.declared.status.Status.TheVariants.{NoMemory, WriteFault}
+use Rattle.dbp_answers.specs.declared.stop.Stop.{Stop}
+use Rattle.dbp_answers.specs.declared.stop.Stop.TheVariants as stop
 use Rattle.std.proofs.KnownBytes.{Consumes-whole}
 
 -- after an answer without a text: of a run that was refused nothing was run, and out of memory may come at any time
@@ -45,3 +46,12 @@ module _ (old new : Option (List ℕ)) (input : List ℕ) (taken : Consumes old 
   pub runs-out-of-memory : RunsAfter NoMemory (Some input) a b → RunsAfter NoMemory old a b
   runs-out-of-memory (inl same) = inl same
   runs-out-of-memory (inr runs) = inr (run-known runs)
+
+-- ---- one run of a plan
+
+-- of the plan that a text has
+pub run-of-text : {A E : Type 0} (text : List ℕ) (p : Plan) (a b : List CrewEntry) (r : Result A E) → Accepts text p → RanOnce p a b r
+    → MatchResult r (λ _. HasRunInput (Some text) a b) (λ _. RunsAfter NoMemory (Some text) a b)
+run-of-text text p a b (Fine summary) accepted more = (p, more, accepted)
+run-of-text text p a b (Err fail) accepted (inl same) = inl same
+run-of-text text p a b (Err fail) accepted (inr more) = inr (p, more, accepted)

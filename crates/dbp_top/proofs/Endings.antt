@@ -3,12 +3,13 @@ use Rattle.std.proofs.Common.{◌≡◌, ◌≤◌, ℕ, Bool, true, List, Optio
 use Rattle.std.proofs.KnownBytes.{Consumes-whole}
 use Rattle.std.specs.Io.KnownBytes.{Appends, Consumes, IsAtEnd}
 use Rattle.dbp_plan.specs.Faults.{Rose}
-use Rattle.dbp_top.specs.Answer.{Answers, made, overran, refused}
-use Rattle.dbp_top.specs.Commands.{Names, reads_input}
+use Rattle.dbp_answers.specs.Answer.{Answers, made, overran, refused}
+use Rattle.dbp_answers.specs.Commands.{reads_input}
+use Rattle.dbp_top.specs.Commands.{Names}
 use Rattle.dbp_top.specs.Ends.{Answered, Ends, EndsAs, ReadWhole, WhereRead, WroteWhole, no_command, no_memory, overrun, refusal, text, too_large, whole}
-use Rattle.dbp_top.specs.declared.command.Command.{Command}
-use Rattle.dbp_top.specs.declared.status.Status.{Status}
-use Rattle.dbp_top.specs.declared.status.Status.TheVariants.{Ok, Overrun, Refused, Usage, ReadFault, WriteFault, NoMemory, TooLarge}
+use Rattle.dbp_answers.specs.declared.command.Command.{Command}
+use Rattle.dbp_answers.specs.declared.status.Status.{Status}
+use Rattle.dbp_answers.specs.declared.status.Status.TheVariants.{Ok, Overrun, Refused, Usage, ReadFault, WriteFault, NoMemory, TooLarge}
 use Rattle.dbp_top.specs.declared.top.TheConstants.{MAX_DOCUMENT}
 
 -- of a command that reads, and of one that doesn't

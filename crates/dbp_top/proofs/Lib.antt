@@ -1,11 +1,6 @@
 pub mod CommandRows
 pub mod CrewRuns
 pub mod Endings
-pub mod GeneratedPlans
-pub mod MeantTables
 pub mod NamedSizes
-pub mod AnswerLaws
-pub mod StopLaws
 pub mod Streams
-pub mod SlotLineLaws
 pub mod WordForms

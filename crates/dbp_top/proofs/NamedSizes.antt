@@ -5,9 +5,9 @@ use Rattle.std.specs.declared.alloc.Global.{Global}
 use Rattle.std.specs.declared.string.String.{String}
 use Rattle.dbp_top.specs.Commands.{Names, by_row, first_numbers, with_numbers}
 use Rattle.dbp_top.specs.Patterns.{AllFit, Fits, WordForm, number, size, word}
-use Rattle.dbp_top.specs.declared.command.Command.{Command}
-use Rattle.dbp_top.specs.declared.command.Command.TheVariants.{Form, Gen, Mean, Plan, Replay, Run, Sim, Soak}
-use Rattle.dbp_top.specs.declared.command.Numbers.{Numbers}
+use Rattle.dbp_answers.specs.declared.command.Command.{Command}
+use Rattle.dbp_answers.specs.declared.command.Command.TheVariants.{Form, Gen, Mean, Plan, Replay, Run, Sim, Soak, Upgrade}
+use Rattle.dbp_top.specs.declared.numbers.Numbers.{Numbers}
 
 abbrev pub HasSize : Numbers → Type 0
 HasSize given = (1 ≤ given.size) × (given.size ≤ 32)
@@ -35,6 +35,7 @@ sized (Sim record_it) given has = tt
 sized (Run None) given has = tt
 sized (Run (Some turns)) given has = tt
 sized Form given has = tt
+sized Upgrade given has = tt
 sized Plan given has = tt
 sized (Replay ranked) given has = tt
 sized (Gen seed of_size) given has = has

@@ -10,7 +10,7 @@ use Rattle.std.proofs.lemmas.List.{append-nil, at_drop_more, drop_at}
 use Rattle.dbp_top.specs.Patterns.{AllFit, Fits, WordForm, IsNumber, IsSize, form_of, number, size, word}
 use Rattle.dbp_top.specs.declared.pattern.Pattern.{Pattern}
 use Rattle.dbp_top.specs.declared.pattern.Pattern.TheVariants.{Word}
-use Rattle.dbp_top.specs.declared.command.Numbers.{Numbers}
+use Rattle.dbp_top.specs.declared.numbers.Numbers.{Numbers}
 
 -- what is left after a prefix is one text
 pub after-prefix : (prefix rest other : List ℕ) → prefix ++ rest ≡ prefix ++ other → rest ≡ other

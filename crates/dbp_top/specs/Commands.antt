@@ -3,9 +3,9 @@ use Rattle.std.specs.Prelude.{◌≡◌, ℕ, Bool, true, false, Some, None, Lis
 use Rattle.std.specs.List.{flat_map}
 use Rattle.std.specs.declared.alloc.Global.{Global}
 use Rattle.std.specs.declared.string.String.{String}
-use Rattle.dbp_top.specs.declared.command.Command.{Command}
-use Rattle.dbp_top.specs.declared.command.Command.TheVariants.{Gen, Mean, Form, Plan, Replay, Run, Sim, Soak}
-use Rattle.dbp_top.specs.declared.command.Numbers.{Numbers}
+use Rattle.dbp_answers.specs.declared.command.Command.{Command}
+use Rattle.dbp_answers.specs.declared.command.Command.TheVariants.{Gen, Mean, Form, Plan, Replay, Run, Sim, Soak, Upgrade}
+use Rattle.dbp_top.specs.declared.numbers.Numbers.{Numbers}
 use Rattle.dbp_top.specs.declared.table.Row.{Row}
 use Rattle.dbp_top.specs.Patterns.{AllFit, WordForm, form_of, listed_forms, number, size, word}
 
@@ -23,6 +23,7 @@ command_table =
     ∷ (word (codes "run") ∷ word (codes "--turns") ∷ number [] ∷ [], Run (Some 0))
     ∷ (word (codes "run") ∷ number (codes "--turns=") ∷ [], Run (Some 0))
     ∷ (word (codes "form") ∷ [], Form)
+    ∷ (word (codes "upgrade") ∷ [], Upgrade)
     ∷ (word (codes "plan") ∷ [], Plan)
     ∷ (word (codes "replay") ∷ [], Replay false)
     ∷ (word (codes "replay") ∷ word (codes "--ranked") ∷ [], Replay true)
@@ -56,13 +57,7 @@ pub data Names (words : List (String Global)) : Command → Type 0 where
   by_row : (k : ℕ) (row : CommandRow) (given : Numbers) → slice_get command_table k ≡ Some row
       → AllFit row.0 (map (λ w. string_bytes w) words) first_numbers given → Names words (with_numbers row.1 given)
 
--- ---- what is asked of a command
-
--- whether it reads the input: not if it makes its document by itself
-abbrev pub reads_input : Command → Bool
-reads_input (Gen seed size_of) = false
-reads_input (Soak seed size_of) = false
-reads_input _ = true
+-- ---- who serves a command
 
 -- who runs the tasks: nobody, the crew at hand, or the crew of drawn turns, which draws from this number
 pub data Runner : Type 0 where
@@ -76,15 +71,9 @@ runner_of (Run (Some seed)) = drawn_turns seed
 runner_of (Soak seed size_of) = the_crew
 runner_of _ = nobody
 
--- whether a call that has these crews serves it: the whole program serves each command, and a call without crews those
--- that run no tasks
+-- whether a call that has these crews serves it: the whole program serves each command
 abbrev pub serves_all : Command → Bool
 serves_all _ = true
-
-abbrev pub serves_plain : Command → Bool
-serves_plain (Run turns) = false
-serves_plain (Soak seed size_of) = false
-serves_plain _ = true
 
 -- the words name no command that the call serves
 abbrev pub NamesNone : (Command → Bool) → List (String Global) → Type 0

@@ -4,12 +4,13 @@ use Rattle.std.specs.Io.KnownBytes.{Appends, IsAtEnd}
 use Rattle.std.specs.declared.alloc.Global.{Global}
 use Rattle.std.specs.declared.string.String.{String}
 use Rattle.dbp_plan.specs.Faults.{Rose}
-use Rattle.dbp_top.specs.Answer.{Answers}
-use Rattle.dbp_top.specs.Commands.{Names, NamesNone, NamesSome, reads_input}
+use Rattle.dbp_answers.specs.Answer.{Answers}
+use Rattle.dbp_answers.specs.Commands.{reads_input}
+use Rattle.dbp_top.specs.Commands.{Names, NamesNone, NamesSome}
 use Rattle.dbp_top.specs.Outside.{LosesFront, AppendsFront}
-use Rattle.dbp_top.specs.declared.command.Command.{Command}
-use Rattle.dbp_top.specs.declared.status.Status.{Status}
-use Rattle.dbp_top.specs.declared.status.Status.TheVariants.{Ok, Overrun, Refused, Usage, ReadFault, WriteFault, NoMemory, TooLarge}
+use Rattle.dbp_answers.specs.declared.command.Command.{Command}
+use Rattle.dbp_answers.specs.declared.status.Status.{Status}
+use Rattle.dbp_answers.specs.declared.status.Status.TheVariants.{Ok, Overrun, Refused, Usage, ReadFault, WriteFault, NoMemory, TooLarge}
 use Rattle.dbp_top.specs.declared.top.TheConstants.{MAX_DOCUMENT}
 
 -- the statuses with which a command's answer is written

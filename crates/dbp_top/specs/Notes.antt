@@ -1,7 +1,7 @@
 -- What a user reads of a call's end.
 use Rattle.std.specs.Prelude.{ℕ, List, codes}
-use Rattle.dbp_top.specs.declared.status.Status.{Status}
-use Rattle.dbp_top.specs.declared.status.Status.TheVariants.{Ok, Overrun, Refused, Usage, ReadFault, WriteFault, NoMemory, TooLarge}
+use Rattle.dbp_answers.specs.declared.status.Status.{Status}
+use Rattle.dbp_answers.specs.declared.status.Status.TheVariants.{Ok, Overrun, Refused, Usage, ReadFault, WriteFault, NoMemory, TooLarge}
 
 -- the line for the standard error
 abbrev pub note_text : Status → List ℕ

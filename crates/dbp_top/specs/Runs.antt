@@ -11,12 +11,12 @@ use Rattle.party_exec.specs.declared.turn_crew.TurnCrew.{TurnCrew}
 use Rattle.trace_io.specs.declared.code.Code.{Code}
 use Rattle.trace_io.specs.Texts.{Accepts, Refuses}
 use Rattle.dbp_top.specs.Commands.{Names, Runner, drawn_turns, nobody, runner_of, the_crew}
-use Rattle.dbp_top.specs.declared.command.Command.{Command}
-use Rattle.dbp_top.specs.declared.command.Command.TheVariants.{Soak}
-use Rattle.dbp_top.specs.Stops.{status_of_stop}
-use Rattle.dbp_top.specs.declared.status.Status.{Status}
-use Rattle.dbp_top.specs.declared.status.Status.TheVariants.{Ok, Overrun, Refused, Usage, ReadFault, WriteFault, NoMemory, TooLarge}
-use Rattle.dbp_top.specs.declared.stop.Stop.{Stop}
+use Rattle.dbp_answers.specs.declared.command.Command.{Command}
+use Rattle.dbp_answers.specs.declared.command.Command.TheVariants.{Soak}
+use Rattle.dbp_answers.specs.Stops.{status_of_stop}
+use Rattle.dbp_answers.specs.declared.status.Status.{Status}
+use Rattle.dbp_answers.specs.declared.status.Status.TheVariants.{Ok, Overrun, Refused, Usage, ReadFault, WriteFault, NoMemory, TooLarge}
+use Rattle.dbp_answers.specs.declared.stop.Stop.{Stop}
 
 -- the runs grew by the entry of one run of this plan
 abbrev pub IsOneRunMore : Plan → List CrewEntry → List CrewEntry → Type 0

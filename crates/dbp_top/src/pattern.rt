@@ -3,9 +3,9 @@
 ghost use Rattle.std.specs.Prelude.{◌≡◌, ◌↔◌, ℕ, Some};
 ghost use Rattle.std.specs.Str.Parse.{digits_value};
 ghost use Rattle.dbp_top.specs.Patterns.{Fits, IsNumber, IsSize, form_of};
-ghost use Rattle.dbp_top.specs.declared.command.Numbers.{Numbers as Given};
+ghost use Rattle.dbp_top.specs.declared.numbers.Numbers.{Numbers as Given};
 
-use crate::command::Numbers;
+use crate::numbers::Numbers;
 
 /// What may stand where a command has a word.
 pub(crate) enum Pattern {

@@ -2,19 +2,15 @@
 
 ghost use Rattle.std.specs.Prelude.{◌≡◌, ◌≤◌, ℕ, List as Items, Option as Maybe, Some, length, IfErr, IfOk, MatchResult};
 ghost use Rattle.dbp_plan.specs.declared.limits.TheConstants.{MAX_TEXT};
-ghost use Rattle.dia_read.specs.declared.document.Doc.{Doc as Document};
 ghost use Rattle.sync_meaning.specs.SomeMeaning.{meaning_of};
 ghost use Rattle.trace_io.specs.Texts.{Accepts};
-ghost use Rattle.dbp_top.specs.Answer.{Answers, Makes};
+ghost use Rattle.dbp_answers.specs.Answer.{Answers, Makes};
 ghost use Rattle.dbp_top.specs.Runs.{HasDrawn, RanOnce, RunsAfter, RunsAfterText};
-ghost use Rattle.dbp_top.specs.Stops.{IsStopOf};
-ghost use Rattle.dbp_top.specs.declared.command.Command.TheVariants.{Run};
-ghost use Rattle.dbp_top.specs.declared.status.Status.TheVariants.{NoMemory as OutOfMemory};
+ghost use Rattle.dbp_answers.specs.Stops.{IsStopOf};
+ghost use Rattle.dbp_answers.specs.declared.command.Command.TheVariants.{Run};
+ghost use Rattle.dbp_answers.specs.declared.status.Status.TheVariants.{NoMemory as OutOfMemory};
 
-use crate::Status;
-use crate::answer::stop_answer;
-use crate::plan::plan_of;
-use crate::stop::Stop;
+use dbp_answers::{Status, Stop, plan_of, stop_answer};
 use dbp_plan::{NoMemory, Plan, Table};
 use party_exec::{Crew, parties, table_of};
 use std::alloc::Global;

@@ -3,11 +3,12 @@
 ghost use Rattle.std.specs.Prelude.{◌≡◌, ◌++◌, ◌↔◌, List as Items, ℕ, Some, map, string_bytes, IfOk, OnOk};
 ghost use Rattle.dbp_top.specs.Commands.{HasAllCommands, Names, command_list, first_numbers};
 ghost use Rattle.dbp_top.specs.Patterns.{AllFit, form_of, listed_forms, form_text};
-ghost use Rattle.dbp_top.specs.declared.command.Command.{Command as Named};
-ghost use Rattle.dbp_top.specs.declared.command.Numbers.{Numbers as Given};
+ghost use Rattle.dbp_answers.specs.declared.command.Command.{Command as Named};
+ghost use Rattle.dbp_top.specs.declared.numbers.Numbers.{Numbers as Given};
 
-use crate::command::{Command, Numbers, with_numbers};
+use crate::numbers::{Numbers, with_numbers};
 use crate::pattern::{Pattern, after_word};
+use dbp_answers::Command;
 use dbp_plan::NoMemory;
 use std::alloc::Global;
 
@@ -19,7 +20,7 @@ struct Row {
 
 // All commands. What a user reads of them is made of this table too. The numbers of a command's words stand in the
 // place of those that it has here.
-static ROWS: [Row; 14] = [
+static ROWS: [Row; 15] = [
     Row {
         patterns: &[Pattern::Word("mean")],
         command: Command::Mean,
@@ -51,6 +52,10 @@ static ROWS: [Row; 14] = [
     Row {
         patterns: &[Pattern::Word("form")],
         command: Command::Form,
+    },
+    Row {
+        patterns: &[Pattern::Word("upgrade")],
+        command: Command::Upgrade,
     },
     Row {
         patterns: &[Pattern::Word("plan")],

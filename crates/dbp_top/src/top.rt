@@ -3,19 +3,18 @@
 ghost use Rattle.std.specs.Prelude.{◌≡◌, ◌≤◌, ℕ, true, List as Items, Option as Maybe, Some};
 ghost use Rattle.dbp_plan.specs.Faults.{Rose};
 ghost use Rattle.dbp_load.specs.Texts.{generated_text};
-ghost use Rattle.dbp_top.specs.Commands.{reads_input, serves_all, serves_plain};
+ghost use Rattle.dbp_answers.specs.Commands.{reads_input, serves_plain};
+ghost use Rattle.dbp_top.specs.Commands.{serves_all};
 ghost use Rattle.dbp_top.specs.Ends.{Answered, Ends, EndsAs};
 ghost use Rattle.dbp_top.specs.Outside.{status_of_read};
 ghost use Rattle.dbp_top.specs.Runs.{Crews, HasDrawn, RunsAfter};
-ghost use Rattle.dbp_top.specs.declared.command.Command.TheVariants.{Gen, Run, Soak};
+ghost use Rattle.dbp_answers.specs.declared.command.Command.TheVariants.{Gen, Run, Soak};
 
-use crate::Status;
-use crate::answer::answer;
-use crate::command::Command;
 use crate::outside::{ReadStop, read_all, write_all};
 use crate::run::run_answer;
 use crate::soak::soak_text;
 use crate::table::command_of;
+use dbp_answers::{Command, Status, answer};
 use dbp_load::generate;
 use dbp_plan::{Sink, Source};
 use party_exec::{Crew, TurnCrew};

@@ -28,10 +28,23 @@ fn is_space_byte(byte: u8) -> bool
     matches!(byte, b' ' | b'\t')
 }
 
+const ALLOWED: u8 = 1;
+
+// For each byte a digit, whose low bit says whether the byte may stand in the trace section.
+static TRACE_BYTES: [u8; 256] = *b"\
+    00000000010000000000000000000000\
+    10000000000011001111111111000000\
+    01111111111111111111111111100001\
+    01111111111111111111111111100000\
+    00000000000000000000000000000000\
+    00000000000000000000000000000000\
+    00000000000000000000000000000000\
+    00000000000000000000000000000000";
+
 fn is_allowed_byte(byte: u8) -> bool
     ensures { result ≡ is_trace_byte byte }
 {
-    byte.is_ascii_alphanumeric() || matches!(byte, b'_' | b'-' | b',') || is_space_byte(byte)
+    TRACE_BYTES[byte as usize] & ALLOWED != 0
 }
 
 fn all_allowed(line: &[u8]) -> bool

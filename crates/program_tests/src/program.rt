@@ -164,8 +164,32 @@ fn words_that_are_no_command_read_and_write_nothing(rt: HostRuntime) -> Result<(
 fn commands_are_listed(rt: HostRuntime) -> Result<(), Fail> {
     assert_eq!(rt;
         command_lines(rt.alloc())?.as_str(),
-        "  mean\n  sim\n  sim --record\n  run\n  run --turns N\n  run --turns=N\n  form\n  plan\n  replay\n  replay --ranked\n  gen N\n  gen N SIZE\n  soak N\n  soak N SIZE\n"
+        "  mean\n  sim\n  sim --record\n  run\n  run --turns N\n  run --turns=N\n  form\n  upgrade\n  plan\n  replay\n  replay --ranked\n  gen N\n  gen N SIZE\n  soak N\n  soak N SIZE\n"
     );
+    Ok(())
+}
+
+// The canonical text of the document in version 2.
+const TWO_RATES_UPGRADED: &str = "dbp 2
+policy fp
+until 6
+task a every 2 from 0 prio 2 cost 1 cpu 0
+  state n = 0
+  next n = n + 1
+  out y = 0 then n + 1
+task b every 3 from 0 prio 1 cost 2 cpu 0
+  read x = a.y at 0
+  out z = 0 then x * 10
+done
+";
+
+#[test]
+fn a_document_is_upgraded(rt: HostRuntime) -> Result<(), Fail> {
+    for document in [TWO_RATES, TWO_RATES_UPGRADED] {
+        let ended = call(&rt, rt.alloc(), &["upgrade"], document, (64, 0), (512, 0))?;
+        assert_eq!(rt; ended.0, Status::Ok);
+        assert_eq!(rt; ended.1.as_slice(), TWO_RATES_UPGRADED.as_bytes());
+    }
     Ok(())
 }
 

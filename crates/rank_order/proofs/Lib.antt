@@ -1,5 +1,7 @@
+pub mod BusyPeriods
 pub mod Choices
 pub mod EditedItems
+pub mod InstanceEnds
 pub mod Jump
 pub mod Keys
 pub mod OneService
@@ -10,3 +12,5 @@ pub mod Releases
 pub mod ServedTicks
 pub mod SomeOverrun
 pub mod SomeService
+pub mod Sums
+pub mod Work

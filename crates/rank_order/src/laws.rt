@@ -3,7 +3,7 @@
 ghost use Rattle.std.specs.Prelude.{◌≡◌, ◌⊎◌, ℕ, Option};
 ghost use Rattle.dbp_plan.specs.declared.plan.Plan.{Plan};
 ghost use Rattle.rank_order.specs.Ends.{IsEnd, IsOverrun, NoOverrun};
-ghost use Rattle.rank_order.specs.Instances.{Instance};
+ghost use Rattle.rank_order.specs.Instances.{Instance, IsInstance};
 ghost use Rattle.rank_order.specs.Service.{IsService};
 ghost use Rattle.rank_order.specs.ServiceOf.{service};
 
@@ -18,6 +18,12 @@ pub fn each_plan_has_one_service()
 pub fn a_service_has_one_end_of_each_instance()
     ensures { (serve : ℕ → Option Instance) (x : Instance) (e f : ℕ)
         → IsEnd serve x e → IsEnd serve x f → e ≡ f }
+{}
+
+/// In the service of each plan each instance has an end.
+pub fn each_instance_ends()
+    ensures { (p : Plan) (serve : ℕ → Option Instance) (x : Instance) → IsService p serve
+        → IsInstance p x → (e : ℕ) × IsEnd serve x e }
 {}
 
 /// Whatever is left of the instances, either no release comes too early or there is an overrun, of one time and one

@@ -6,7 +6,8 @@
 //! one service as a function of the plan, for contracts; `each_plan_has_one_service` ties both, so a reader needs the
 //! relation alone. Each instance has a key of two numbers (`key_of`), and the smaller key is served first. `Ready`
 //! keeps what it holds in this order. `MadeFor` says which diagrams a queue is for: those with as many tasks that give
-//! these keys.
+//! these keys. The crate also has what others prove with: lemmas on served ticks, on what is asked for and served in sums
+//! over all instances, and on busy periods.
 #![tactic(auto)]
 
 mod held;
@@ -15,6 +16,7 @@ mod laws;
 mod ready;
 
 pub use laws::{
-    a_service_has_one_end_of_each_instance, a_service_has_one_overrun, each_plan_has_one_service,
+    a_service_has_one_end_of_each_instance, a_service_has_one_overrun, each_instance_ends,
+    each_plan_has_one_service,
 };
 pub use ready::Ready;

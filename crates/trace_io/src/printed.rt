@@ -2,7 +2,7 @@
 
 ghost use Rattle.std.specs.Prelude.{◌≡◌, ◌++◌, IfOk, OnOk};
 ghost use Rattle.dbp_plan.specs.Table.{HasRows};
-ghost use Rattle.trace_io.specs.Lines.{cells_of, line_text, lines_of};
+ghost use Rattle.trace_io.specs.Lines.{cells_of, line_after, lines_of};
 ghost use Rattle.trace_io.specs.Printing.{CanPrint, Counts, numbered_lines};
 
 use dbp_plan::{Batch, NoMemory, Plan, Table, Task};
@@ -40,28 +40,30 @@ fn push_batch(
         ++ numbered_lines tasks.now table.now batch.now.time counts.old batch.now.tasks) }
     ensures counts { OnOk result (Counts counts.old counts.new batch.now.tasks) }
 {
+    let mut digits = Buffer::new();
+    let time = digits.format(batch.time).as_bytes();
     for task in batch.tasks.items() {
         let place = *task as usize;
         let number = counts[place] + 1;
         counts[place] = number;
         let name = tasks[place].name.bytes();
-        push_line(text, batch.time, name, number, table.row(*task, number))?;
+        push_line(text, time, name, number, table.row(*task, number))?;
     }
     Ok(())
 }
 
-// Adds the line of one occurrence.
+// Adds the line of one occurrence, whose time has these digits.
 fn push_line(
     text: &mut Vec<u8>,
-    time: u64,
+    time: &[u8],
     name: &[u8],
     number: u32,
     row: &[i64],
 ) -> Result<(), NoMemory>
     ensures { OnOk result (text.new.items
-        ≡ text.old.items ++ line_text time name.now number row.now) }
+        ≡ text.old.items ++ line_after time.now name.now number row.now) }
 {
-    push_number(text, time)?;
+    text.extend_from_slice(time)?;
     text.push(b',')?;
     text.extend_from_slice(name)?;
     text.push(b',')?;

@@ -1,15 +1,16 @@
 -- A record without white space is its own trimmed one.
 use Rattle.std.proofs.Common.{◌≡◌, ℕ, zero, suc, ◌-◌, false, List, [], ◌∷◌, length, map, take, drop, refl, sym, ap, ◌∙◌, arith}
-use Rattle.std.specs.Prelude.{◌==◌, ◌&&◌}
+use Rattle.std.specs.Prelude.{◌==◌, ◌&&◌, nat_le}
 use Rattle.std.specs.Char.{is_ascii_whitespace}
 use Rattle.std.specs.List.{list_any}
 use Rattle.std.proofs.Math.Bool.{and-false}
 use Rattle.std.proofs.lemmas.Bool.{or_from, or_parts}
+use Rattle.std.proofs.lemmas.Bool.Decides.{nat_tests}
 use Rattle.std.proofs.lemmas.List.{take_all}
 use Rattle.csv.specs.Records.{Row, cut_from, fields_of, text_of, trim_end, trim_start, trimmed}
 
 -- there is no white space among the bytes
-abbrev IsBare : List ℕ → Type 0
+abbrev pub IsBare : List ℕ → Type 0
 IsBare bytes = list_any is_ascii_whitespace bytes ≡ false
 
 bare-drop : (n : ℕ) (bytes : List ℕ) → IsBare bytes → IsBare (drop n bytes)
@@ -48,6 +49,17 @@ bare-cut start [] bytes bare = refl
 bare-cut start (end ∷ ends) bytes bare =
     let first = bare-field (take (end - start) (drop start bytes)) (bare-take (end - start) (drop start bytes) (bare-drop start bytes bare)) in
     λ j. first j ∷ bare-cut end ends bytes bare j
+
+-- ---- records without a byte up to the space
+
+high-byte : (b : ℕ) → nat_le b 32 ≡ false → is_ascii_whitespace b ≡ false
+high-byte b high = grind (arith, nat_tests)
+
+pub bare-above-space : (bytes : List ℕ) → list_any (λ b. nat_le b 32) bytes ≡ false → IsBare bytes
+bare-above-space [] high = refl
+bare-above-space (b ∷ bytes) high =
+    let both = or_parts (nat_le b 32) (list_any (λ b. nat_le b 32) bytes) high in
+    or_from (is_ascii_whitespace b) (list_any is_ascii_whitespace bytes) (high-byte b both.0) (bare-above-space bytes both.1)
 
 pub bare-cells : (row : Row) → list_any is_ascii_whitespace (text_of row) ≡ false → fields_of row ≡ map trimmed (fields_of row)
 bare-cells row bare = sym (bare-cut 0 row.ends row.bytes bare)

@@ -1,7 +1,6 @@
 // The records of a trace section.
 
-ghost use Rattle.std.specs.Prelude.{◌≡◌, OnOk, map};
-ghost use Rattle.std.specs.Char.{is_ascii_whitespace};
+ghost use Rattle.std.specs.Prelude.{◌≡◌, OnOk, map, nat_le};
 ghost use Rattle.std.specs.List.{list_any};
 ghost use Rattle.csv.specs.Reading.{error_kind};
 ghost use Rattle.csv.specs.Records.{fields_of, trimmed};
@@ -22,18 +21,18 @@ fn want_of_memory(error: &Error) -> NoMemory
     }
 }
 
-/// Whether white space is among the bytes.
-fn has_space(bytes: &[u8]) -> bool
-    ensures { result ≡ list_any is_ascii_whitespace bytes.now }
+/// Whether one of the bytes is at most a space, as white space is.
+fn may_have_space(bytes: &[u8]) -> bool
+    ensures { result ≡ list_any (λ b. nat_le b 32) bytes.now }
 {
-    bytes.iter().any(|byte| byte.is_ascii_whitespace())
+    bytes.iter().any(|byte| *byte <= b' ')
 }
 
 /// Takes the white space around the cells away. A record without any is left as it is.
 fn trim_cells(cells: &mut ByteRecord) -> Result<(), NoMemory>
     ensures { OnOk result (fields_of cells.new ≡ map trimmed (fields_of cells.old)) }
 {
-    if !has_space(cells.as_slice()) {
+    if !may_have_space(cells.as_slice()) {
         return Ok(());
     }
     cells.trim()?;

@@ -1,5 +1,5 @@
-use Rattle.dbp_top.specs.Answer.{made}
-use Rattle.dbp_top.proofs.StopLaws.{run-stop-answered}
+use Rattle.dbp_answers.specs.Answer.{made}
+use Rattle.dbp_answers.proofs.StopLaws.{run-stop-answered}
 use Rattle.dbp_top.proofs.run.run_answer.Goals as goal
 
 pub returns-in-Ok-clause-answer : goal.returns-in-Ok-clause-answer

@@ -1,10 +1,11 @@
 use Rattle.std.proofs.Common.{ℕ, List, refl, sym, subst, inl, inr}
 use Rattle.std.proofs.lemmas.Result.{err_from_is_err_and}
 use Rattle.dbp_plan.proofs.TableRows.{has_rows}
-use Rattle.dbp_top.specs.Answer.{Makes, of_plan, run_of}
-use Rattle.dbp_top.specs.declared.command.Command.TheVariants.{Run}
-use Rattle.dbp_top.proofs.StopLaws.{document-stop}
-use Rattle.dbp_top.proofs.MeantTables.{meant}
+use Rattle.dbp_answers.specs.Answer.{Makes, of_plan, table_lines}
+use Rattle.dbp_answers.specs.Commands.{the_table}
+use Rattle.dbp_answers.specs.declared.command.Command.TheVariants.{Run}
+use Rattle.dbp_answers.proofs.StopLaws.{document-stop}
+use Rattle.dbp_answers.proofs.MeantTables.{meant}
 use Rattle.dbp_top.proofs.run.run_text.Goals as goal
 
 pub returns-in_err-plan-clause-stop : goal.returns-in_err-plan-clause-stop
@@ -32,4 +33,4 @@ returns-clause-text g c = λ turns.
     let p = c.in_ok-plan.plan in
     let table = c.in_ok-table.table in
     subst (λ (text : List ℕ). Makes c.args.input.now (Run turns) text) (sym c.in_ok-lines.ensures)
-    (of_plan (Run turns) p _ c.in_ok-plan.ensures.plan (run_of turns table (meant p table c.in_ok-table.ensures.table)))
+    (of_plan (Run turns) the_table p _ c.in_ok-plan.ensures.plan refl (table_lines table (meant p table c.in_ok-table.ensures.table)))

@@ -1,6 +1,6 @@
 use Rattle.std.proofs.Common.{◌≡◌, sym, subst, ap, ◌∙◌}
 use Rattle.std.proofs.lemmas.Result.{IfOk-weaker}
-use Rattle.dbp_top.specs.Summaries.{IsSummary, of_table, summary}
+use Rattle.dbp_answers.specs.Summaries.{IsSummary, of_table, summary}
 use Rattle.dbp_top.proofs.soak.plan_summary.Goals as goal
 
 pub returns-clause-text : goal.returns-clause-text

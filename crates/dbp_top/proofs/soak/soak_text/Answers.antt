@@ -1,10 +1,10 @@
 use Rattle.std.proofs.Common.{ℕ, List}
 use Rattle.std.proofs.lemmas.Result.{IfOk-weaker}
 use Rattle.dbp_load.specs.Texts.{generated_text}
-use Rattle.dbp_top.specs.Answer.{Makes, of_generated}
-use Rattle.dbp_top.specs.Summaries.{IsSummary}
-use Rattle.dbp_top.specs.declared.command.Command.TheVariants.{Soak}
-use Rattle.dbp_top.proofs.GeneratedPlans.{run-of-text}
+use Rattle.dbp_answers.specs.Answer.{Makes, of_generated}
+use Rattle.dbp_answers.specs.Summaries.{IsSummary}
+use Rattle.dbp_answers.specs.declared.command.Command.TheVariants.{Soak}
+use Rattle.dbp_top.proofs.CrewRuns.{run-of-text}
 use Rattle.dbp_top.proofs.soak.soak_text.Goals as goal
 
 pub returns-clause-text : goal.returns-clause-text

@@ -1,8 +1,8 @@
 use Rattle.std.proofs.Common.{◌≡◌, ℕ, ◌<◌, Some, String, Global, List, length, map, get_or, string_bytes, refl, sym, ap, subst, ◌∙◌, arith, below_more}
 use Rattle.dbp_top.specs.Commands.{HasAllCommands, CommandRow, Names, by_row, first_numbers, row_of, with_numbers}
 use Rattle.dbp_top.specs.Patterns.{AllFit}
-use Rattle.dbp_top.specs.declared.command.Command.{Command}
-use Rattle.dbp_top.specs.declared.command.Numbers.{Numbers}
+use Rattle.dbp_answers.specs.declared.command.Command.{Command}
+use Rattle.dbp_top.specs.declared.numbers.Numbers.{Numbers}
 use Rattle.dbp_top.specs.declared.table.Row.{Row}
 use Rattle.dbp_top.proofs.CommandRows.{listed-row, no_row, one-command, row-listed}
 use Rattle.dbp_top.proofs.table.command_of.Goals as goal

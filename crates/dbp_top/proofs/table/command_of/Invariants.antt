@@ -1,7 +1,7 @@
 use Rattle.std.proofs.Common.{ℕ, ◌<◌, get_or, map, string_bytes}
 use Rattle.dbp_top.specs.Commands.{first_numbers, row_of}
 use Rattle.dbp_top.specs.Patterns.{AllFit}
-use Rattle.dbp_top.specs.declared.command.Numbers.{Numbers}
+use Rattle.dbp_top.specs.declared.numbers.Numbers.{Numbers}
 use Rattle.dbp_top.proofs.CommandRows.{no_row}
 use Rattle.dbp_top.proofs.table.command_of.Given as goal
 

@@ -3,7 +3,7 @@ use Rattle.std.specs.Prelude.{◌↔◌}
 use Rattle.std.proofs.lemmas.List.{length-map}
 use Rattle.dbp_top.specs.Commands.{first_numbers}
 use Rattle.dbp_top.specs.Patterns.{Fits, form_of}
-use Rattle.dbp_top.specs.declared.command.Numbers.{Numbers}
+use Rattle.dbp_top.specs.declared.numbers.Numbers.{Numbers}
 use Rattle.dbp_top.proofs.WordForms.{all-fit-length, next-word, no_pattern, none-fits, one-more}
 use Rattle.dbp_top.proofs.table.numbers_in.Goals as goal
 

@@ -1,7 +1,7 @@
 use Rattle.std.proofs.Common.{◌↔◌, drop, map, string_bytes}
 use Rattle.dbp_top.specs.Commands.{first_numbers}
 use Rattle.dbp_top.specs.Patterns.{AllFit, form_of}
-use Rattle.dbp_top.specs.declared.command.Numbers.{Numbers}
+use Rattle.dbp_top.specs.declared.numbers.Numbers.{Numbers}
 use Rattle.dbp_top.proofs.table.numbers_in.Given as goal
 
 abbrev pub invariant-loop-place : goal.invariant-loop-place

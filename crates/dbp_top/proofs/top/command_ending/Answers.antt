@@ -1,6 +1,6 @@
 use Rattle.std.proofs.Common.{ℕ, List, subst}
 use Rattle.std.specs.Io.KnownBytes.{Appends}
-use Rattle.dbp_top.specs.Answer.{Answers}
+use Rattle.dbp_answers.specs.Answer.{Answers}
 use Rattle.dbp_top.proofs.Endings.{ends-written}
 use Rattle.dbp_top.proofs.top.command_ending.Goals as goal
 

@@ -3,8 +3,8 @@ use Rattle.party_exec.specs.Crews.{last_seed_of, turn_runs}
 use Rattle.party_exec.specs.declared.crew_entry.CrewEntry.{CrewEntry}
 use Rattle.dbp_top.specs.Commands.{Names, runner_of, serves_all}
 use Rattle.dbp_top.specs.Runs.{CrewsAfter, HasDrawn, RunsAfter, text_to_run}
-use Rattle.dbp_top.specs.declared.command.Command.{Command}
-use Rattle.dbp_top.specs.declared.command.Command.TheVariants.{Run, Soak}
+use Rattle.dbp_answers.specs.declared.command.Command.{Command}
+use Rattle.dbp_answers.specs.declared.command.Command.TheVariants.{Run, Soak}
 use Rattle.dbp_top.proofs.CommandRows.{one-command}
 use Rattle.dbp_top.proofs.NamedSizes.{named-size}
 use Rattle.dbp_top.proofs.Endings.{ends-named}

@@ -1,10 +1,10 @@
 use Rattle.std.proofs.Common.{◌≡◌, ℕ, List, [], refl, sym, subst}
 use Rattle.std.specs.Io.KnownBytes.{Appends}
 use Rattle.dbp_load.specs.Texts.{generated_text}
-use Rattle.dbp_top.specs.Answer.{Answers, Makes, made, of_seed}
+use Rattle.dbp_answers.specs.Answer.{Answers, Makes, made, of_seed}
 use Rattle.dbp_top.specs.Outside.{AppendsFront}
-use Rattle.dbp_top.specs.declared.command.Command.TheVariants.{Gen}
-use Rattle.dbp_top.specs.declared.status.Status.TheVariants.{Ok}
+use Rattle.dbp_answers.specs.declared.command.Command.TheVariants.{Gen}
+use Rattle.dbp_answers.specs.declared.status.Status.TheVariants.{Ok}
 use Rattle.dbp_top.proofs.top.gen_ending.Goals as goal
 
 -- the text is the command's answer

@@ -1,4 +1,4 @@
-use Rattle.dbp_top.specs.declared.command.Command.TheVariants.{Gen}
+use Rattle.dbp_answers.specs.declared.command.Command.TheVariants.{Gen}
 use Rattle.dbp_top.proofs.NamedSizes.{named-size}
 use Rattle.dbp_top.proofs.top.plain_ending.Goals as goal
 

@@ -1,4 +1,4 @@
-use Rattle.dbp_top.specs.Commands.{serves_plain}
+use Rattle.dbp_answers.specs.Commands.{serves_plain}
 use Rattle.dbp_top.proofs.Endings.{answered-without-faults}
 use Rattle.dbp_top.proofs.top.plain_main.Goals as goal
 

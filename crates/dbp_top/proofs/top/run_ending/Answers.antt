@@ -1,9 +1,9 @@
 use Rattle.std.proofs.Common.{ℕ, List, Some, None, refl, subst}
 use Rattle.std.specs.Io.KnownBytes.{Appends}
-use Rattle.dbp_top.specs.Answer.{Answers}
+use Rattle.dbp_answers.specs.Answer.{Answers}
 use Rattle.dbp_top.specs.Runs.{RunsAfter}
-use Rattle.dbp_top.specs.declared.command.Command.TheVariants.{Run}
-use Rattle.dbp_top.specs.declared.status.Status.TheVariants.{NoMemory}
+use Rattle.dbp_answers.specs.declared.command.Command.TheVariants.{Run}
+use Rattle.dbp_answers.specs.declared.status.Status.TheVariants.{NoMemory}
 use Rattle.dbp_top.proofs.CrewRuns.{runs-not-written, runs-out-of-memory, runs-written}
 use Rattle.dbp_top.proofs.Endings.{ends-written}
 use Rattle.dbp_top.proofs.top.run_ending.Goals as goal

@@ -1,8 +1,8 @@
 use Rattle.std.proofs.Common.{ℕ, List, [], refl, subst, inr}
 use Rattle.std.specs.Io.KnownBytes.{Appends}
-use Rattle.dbp_top.specs.Answer.{made}
+use Rattle.dbp_answers.specs.Answer.{made}
 use Rattle.dbp_top.specs.Outside.{AppendsFront}
-use Rattle.dbp_top.specs.declared.status.Status.TheVariants.{Ok}
+use Rattle.dbp_answers.specs.declared.status.Status.TheVariants.{Ok}
 use Rattle.dbp_top.proofs.top.soak_ending.Goals as goal
 
 pub returns-in-Ok-write_all-clause-ends : goal.returns-in-Ok-write_all-clause-ends

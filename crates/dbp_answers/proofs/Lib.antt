@@ -1,0 +1,6 @@
+pub mod AnswerLaws
+pub mod GeneratedPlans
+pub mod MeantTables
+pub mod PrintedTexts
+pub mod SlotLineLaws
+pub mod StopLaws

@@ -1,0 +1,5 @@
+use Rattle.dbp_answers.proofs.AnswerLaws.{one-answer}
+use Rattle.dbp_answers.proofs.laws.one_answer.Goals as goal
+
+pub returns : goal.returns
+returns c = one-answer c.one_plan.ensures.one c.one_plan.ensures.none c.one_plan.ensures.one_fault c.one_meaning.ensures

@@ -1,0 +1,105 @@
+-- What is answered if no read and no write fails.
+use Rattle.std.specs.Prelude.{◌≡◌, ℕ, Bool, true, false, List}
+use Rattle.dbp_rules.specs.declared.step.Count.{Count}
+use Rattle.dbp_rules.specs.declared.step.Illegal.{Illegal as Broken}
+use Rattle.dbp_rules.specs.declared.step.Step.{Step}
+use Rattle.dbp_plan.specs.Lookups.{declared_task}
+use Rattle.dbp_plan.specs.declared.plan.Plan.{Plan}
+use Rattle.dbp_plan.specs.declared.table.Table.{Table}
+use Rattle.dbp_load.specs.Texts.{generated_text}
+use Rattle.dbp_replay.specs.Replays.{IsIllegal, IsReplay}
+use Rattle.dbp_replay.specs.Scripts.{IsScript, IsScriptFault}
+use Rattle.dbp_replay.specs.Texts.{script_text}
+use Rattle.dbp_replay.specs.declared.fail.ScriptCode.{ScriptCode}
+use Rattle.dia_lines.specs.declared.fault.ReadCode.{ReadCode}
+use Rattle.dia_read.specs.declared.document.Body.{Body}
+use Rattle.dia_read.specs.declared.document.Doc.{Doc}
+use Rattle.dia_read.specs.Documents.{Spells, IsFirstFault}
+use Rattle.rank_order.specs.Ends.{IsOverrun, NoOverrun}
+use Rattle.rank_order.specs.Instances.{Instance}
+use Rattle.rank_order.specs.Service.{left_of}
+use Rattle.rank_order.specs.ServiceOf.{service}
+use Rattle.sync_meaning.specs.Meaning.{IsMeaning}
+use Rattle.trace_io.specs.declared.code.Code.{Code}
+use Rattle.trace_io.specs.declared.code.Code.TheVariants.{Reading}
+use Rattle.trace_io.specs.Lines.{lines_of}
+use Rattle.trace_io.specs.Texts.{Accepts, Refuses}
+use Rattle.virtual_sim.specs.Record.{IsRecord}
+use Rattle.dbp_answers.specs.declared.command.Command.{Command}
+use Rattle.dbp_answers.specs.declared.command.Command.TheVariants.{Gen, Soak}
+use Rattle.dbp_answers.specs.declared.refusal.Refusal.{Refusal}
+use Rattle.dbp_answers.specs.declared.refusal.Refusal.TheVariants.{Document, Script, Illegal}
+use Rattle.dbp_answers.specs.declared.status.Status.{Status}
+use Rattle.dbp_answers.specs.declared.status.Status.TheVariants.{Ok, Overrun, Refused}
+use Rattle.dbp_answers.specs.Commands.{Output, a_replay, a_simulation, a_text_of_it, at_plan, at_text, looks, needs_plan, the_table}
+use Rattle.dbp_answers.specs.OverrunLines.{overrun_line}
+use Rattle.dbp_answers.specs.Refusals.{refusal_line}
+use Rattle.dbp_answers.specs.Summaries.{IsSummary}
+
+-- no release of the plan meets an unfinished instance
+abbrev pub IsInTime : Plan → Type 0
+IsInTime plan = NoOverrun plan (left_of plan (service plan))
+
+-- what is printed of an accepted document and its plan: the lines of the one table that meets the plan's equations (of a
+-- simulation if no release overruns), the recorded steps of its simulation, the text that is made of the plan, or the
+-- steps of the document's script with what they hear
+pub data PlanText (doc : Doc) (plan : Plan) : Output → List ℕ → Type 0 where
+  table_lines : (table : Table) → IsMeaning plan.diagram plan.samples plan.batches table
+      → PlanText doc plan the_table (lines_of plan.diagram plan.batches table)
+  simulated_lines : (table : Table) → IsInTime plan → IsMeaning plan.diagram plan.samples plan.batches table
+      → PlanText doc plan (a_simulation false) (lines_of plan.diagram plan.batches table)
+  recorded_steps : (steps : List Step) → IsRecord plan steps → PlanText doc plan (a_simulation true) (script_text plan.diagram steps)
+  made_of_plan : (make : Plan → List ℕ) → PlanText doc plan (a_text_of_it make) (make plan)
+  heard_steps : (count : Count) (steps : List Step) (text : List ℕ) → IsScript plan.diagram doc steps → IsReplay plan count steps text
+      → PlanText doc plan (a_replay count) text
+
+-- why an accepted document is refused: a replay for the first fault of the script, and after that for the first step that
+-- isn't allowed
+pub data PlanRefusal (doc : Doc) (plan : Plan) : Output → Refusal → Type 0 where
+  no_script : (count : Count) (line : ℕ) (code : ScriptCode) → IsScriptFault plan.diagram doc line code
+      → PlanRefusal doc plan (a_replay count) (Script line code)
+  illegal : (count : Count) (steps : List Step) (step : ℕ) (why : Broken) → IsScript plan.diagram doc steps
+      → IsIllegal plan count steps step why → PlanRefusal doc plan (a_replay count) (Illegal step why)
+
+-- the overrun of a simulation: the release of an instance, and its time
+pub data PlanOverrun (plan : Plan) : Output → Instance → ℕ → Type 0 where
+  overrun : (record_it : Bool) (x : Instance) (time : ℕ) → IsOverrun plan (left_of plan (service plan)) time x
+      → PlanOverrun plan (a_simulation record_it) x time
+
+-- the text that a command makes of an input: what it prints of the document's body, or of the plan of an accepted
+-- input; or, of no input, the generated document or its summary
+pub data Makes (input : List ℕ) : Command → List ℕ → Type 0 where
+  of_body : (command : Command) (make : Body → List ℕ) (doc : Doc) → looks command ≡ at_text make → Spells input doc
+      → Makes input command (make doc.body)
+  of_plan : (command : Command) (output : Output) (plan : Plan) (text : List ℕ) (accepted : Accepts input plan)
+      → looks command ≡ at_plan output → PlanText accepted.doc plan output text → Makes input command text
+  of_seed : (seed size : ℕ) → Makes input (Gen seed size) (generated_text seed size)
+  of_generated : (seed size : ℕ) (plan : Plan) (text : List ℕ) → Accepts (generated_text seed size) plan → IsSummary plan text
+      → Makes input (Soak seed size) text
+
+-- why a command refuses an input: one that looks at the text for a fault of reading; one that looks at the plan for the
+-- first fault of the document, and of an accepted one for what is refused besides
+pub data IsRefused (input : List ℕ) (command : Command) : Refusal → Type 0 where
+  no_text : (make : Body → List ℕ) (line : ℕ) (code : ReadCode) → looks command ≡ at_text make → IsFirstFault input line code
+      → IsRefused input command (Document line (Reading code))
+  no_plan : (line : ℕ) (code : Code) → needs_plan command ≡ true → Refuses input line code
+      → IsRefused input command (Document line code)
+  of_plan_refused : (output : Output) (plan : Plan) (refusal : Refusal) (accepted : Accepts input plan)
+      → looks command ≡ at_plan output → PlanRefusal accepted.doc plan output refusal → IsRefused input command refusal
+
+-- a command meets an overrun in the plan of an accepted input: the name of the task whose release it is, the number of the
+-- released instance, and the time
+pub data Overruns (input : List ℕ) (command : Command) : List ℕ → ℕ → ℕ → Type 0 where
+  of_plan_overrun : (output : Output) (plan : Plan) (x : Instance) (time : ℕ) → Accepts input plan → looks command ≡ at_plan output
+      → PlanOverrun plan output x time → Overruns input command (declared_task plan x.task).name x.number time
+
+-- the line that says so
+pub data IsOverrunLine (input : List ℕ) (command : Command) : List ℕ → Type 0 where
+  line_of : (name : List ℕ) (number time : ℕ) → Overruns input command name number time
+      → IsOverrunLine input command (overrun_line name number time)
+
+-- the status and the text that a command gives to an input
+pub data Answers (input : List ℕ) (command : Command) : Status → List ℕ → Type 0 where
+  made : (text : List ℕ) → Makes input command text → Answers input command Ok text
+  refused : (refusal : Refusal) → IsRefused input command refusal → Answers input command Refused (refusal_line refusal)
+  overran : (line : List ℕ) → IsOverrunLine input command line → Answers input command Overrun line

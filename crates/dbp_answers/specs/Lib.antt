@@ -1,0 +1,8 @@
+-- Definitions that public clauses cite.
+pub mod Answer
+pub mod Commands
+pub mod OverrunLines
+pub mod Refusals
+pub mod SlotLines
+pub mod Stops
+pub mod Summaries

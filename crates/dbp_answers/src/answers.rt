@@ -1,0 +1,218 @@
+// What a command makes of an input.
+
+ghost use Rattle.std.specs.Prelude.{◌≡◌, ◌≤◌, ℕ, Bool, true, List as Items, length, Err, IfErr, IfOk, None};
+ghost use Rattle.dbp_plan.specs.declared.limits.TheConstants.{MAX_TEXT};
+ghost use Rattle.trace_io.specs.Texts.{Accepts};
+ghost use Rattle.virtual_sim.specs.Outcomes.{IsSimFail};
+ghost use Rattle.dbp_replay.specs.declared.fail.ScriptCode.TheVariants.{NoScript};
+ghost use Rattle.dia_read.specs.Printable.{HasItemLines, IsPrintable};
+ghost use Rattle.dia_read.specs.declared.document.Doc.{Doc as Document};
+ghost use Rattle.dbp_answers.specs.Answer.{Answers, Makes, PlanText};
+ghost use Rattle.dbp_answers.specs.Commands.{a_replay, a_simulation, count_of, reads_input, serves_plain};
+ghost use Rattle.dbp_answers.specs.Stops.{IsStopOf, status_of_stop};
+ghost use Rattle.dbp_answers.specs.declared.command.Command.{Command as Named};
+ghost use Rattle.dbp_answers.specs.declared.refusal.Refusal.TheVariants.{Script};
+ghost use Rattle.dbp_answers.specs.declared.stop.Stop.TheVariants.{Refused};
+ghost use Rattle.dbp_answers.specs.declared.command.Command.TheVariants.{Mean, Form, Plan as Slots, Replay, Sim, Upgrade};
+
+use crate::Status;
+use crate::command::Command;
+use crate::overrun_line::overrun_after;
+use crate::plan::{accepted, plan_of};
+use crate::refusal::refusal_line;
+use crate::slot_lines::slot_lines;
+use crate::stop::Stop;
+use dbp_core::Count;
+use dbp_plan::{NoMemory, Plan};
+use dbp_replay::{print_script, read_script, replay_owned};
+use dia_read::{Doc, an_upgraded_body_can_be_printed, print_doc, read_doc, upgrade};
+use std::alloc::Global;
+use std::rc::Rc;
+use sync_meaning::mean;
+use trace_io::lines;
+use virtual_sim::{SimFail, simulate_shared, simulate_table_shared};
+
+/// The status and the text of a command that reads the input and runs no tasks. Out of memory is no answer.
+pub fn answer(alloc: Global, command: Command, input: &[u8]) -> Result<(Status, Vec<u8>), NoMemory>
+    requires size { length input.now ≤ MAX_TEXT }
+    requires plain { serves_plain command ≡ true }
+    requires reads { reads_input command ≡ true }
+    ensures { IfOk result (λ (status, text). Answers input.now command status text.items) }
+{
+    match text_of(alloc, command, input) {
+        Ok(text) => Ok((Status::Ok, text)),
+        Err(stop) => stop_answer(alloc, stop),
+    }
+}
+
+/// The status and the line of an input of which a command makes no text, also of a command that runs tasks.
+pub fn stop_answer(alloc: Global, stop: Stop) -> Result<(Status, Vec<u8>), NoMemory>
+    ensures answer { IfOk result
+        (λ (status, line). (input : Items ℕ) (command : Named) → IsStopOf input command stop
+        → Answers input command status line.items) }
+    ensures status { IfOk result (λ (status, line). status ≡ status_of_stop stop) }
+{
+    match stop {
+        Stop::Refused(refusal) => Ok((Status::Refused, refusal_line(alloc, &refusal)?)),
+        Stop::Overrun(line) => Ok((Status::Overrun, line)),
+        Stop::NoMemory => Err(NoMemory),
+    }
+}
+
+// The text that the command makes of the input, or why it makes none.
+fn text_of(alloc: Global, command: Command, input: &[u8]) -> Result<Vec<u8>, Stop>
+    requires size { length input.now ≤ MAX_TEXT }
+    requires plain { serves_plain command ≡ true }
+    requires reads { reads_input command ≡ true }
+    ensures text { IfOk result (λ text. Makes input.now command text.items) }
+    ensures stop { IfErr result (λ stop. IsStopOf input.now command stop) }
+{
+    match command {
+        Command::Mean => meaning_of(alloc, input),
+        Command::Sim { record_it } => simulation_of(alloc, record_it, input),
+        Command::Run { .. } | Command::Gen { .. } | Command::Soak { .. } => unreachable!(),
+        Command::Form => form_of(alloc, input),
+        Command::Upgrade => upgrade_of(alloc, input),
+        Command::Plan => slots_of(alloc, input),
+        Command::Replay { ranked } => replay_of(alloc, ranked, input),
+    }
+}
+
+// The lines of the meaning of the input's plan.
+fn meaning_of(alloc: Global, input: &[u8]) -> Result<Vec<u8>, Stop>
+    requires { length input.now ≤ MAX_TEXT }
+    ensures text { IfOk result (λ text. Makes input.now Mean text.items) }
+    ensures stop { IfErr result (λ stop. IsStopOf input.now Mean stop) }
+{
+    let plan = plan_of(alloc, input)?;
+    let table = mean(alloc, &plan)?;
+    Ok(lines(alloc, &plan, &table)?)
+}
+
+// What the simulation of the input's plan writes.
+fn simulation_of(alloc: Global, record_it: bool, input: &[u8]) -> Result<Vec<u8>, Stop>
+    requires { length input.now ≤ MAX_TEXT }
+    ensures text { IfOk result (λ text. Makes input.now (Sim record_it) text.items) }
+    ensures stop { IfErr result (λ stop. IsStopOf input.now (Sim record_it) stop) }
+{
+    let plan = plan_of(alloc, input)?;
+    let shared = shared_plan(alloc, plan)?;
+    let text = simulation_text(alloc, record_it, &shared)?;
+    Ok(text)
+}
+
+// The plan, so that it can be shared.
+fn shared_plan(alloc: Global, plan: Plan) -> Result<Rc<Plan>, NoMemory>
+    ensures { IfOk result (λ shared. shared.value ≡ plan) }
+{
+    Ok(Rc::new(alloc, plan)?)
+}
+
+// What the simulation of the plan writes: the steps of its record, or the lines of its table.
+fn simulation_text(alloc: Global, record_it: bool, shared: &Rc<Plan>) -> Result<Vec<u8>, Stop>
+    ensures text { IfOk result
+        (λ text. (doc : Document) → PlanText doc shared.now.value (a_simulation record_it) text.items) }
+    ensures stop { IfErr result
+        (λ stop. (input : Items ℕ) → Accepts input shared.now.value
+        → IsStopOf input (Sim record_it) stop) }
+{
+    let plan: &Plan = shared;
+    if record_it {
+        match simulate_shared(alloc, shared) {
+            Ok(run) => Ok(print_script(alloc, &plan.diagram, &run.script)?),
+            Err(fail) => Err(stop_of(alloc, plan, fail)),
+        }
+    } else {
+        match simulate_table_shared(alloc, shared) {
+            Ok(table) => Ok(lines(alloc, plan, &table)?),
+            Err(fail) => Err(stop_of(alloc, plan, fail)),
+        }
+    }
+}
+
+// Why the simulation of the plan has no text.
+fn stop_of(alloc: Global, plan: &Plan, fail: SimFail) -> Stop
+    requires { IsSimFail plan.now fail }
+    ensures { (input : Items ℕ) (record_it : Bool) → Accepts input plan.now
+        → IsStopOf input (Sim record_it) result }
+{
+    match fail {
+        SimFail::Overrun {
+            task,
+            instance,
+            time,
+        } => {
+            let name = plan.diagram.tasks.items()[task as usize].name.bytes();
+            match overrun_after(alloc, b"overrun: ", name, instance, time) {
+                Ok(line) => Stop::Overrun(line),
+                Err(_) => Stop::NoMemory,
+            }
+        }
+        SimFail::NoMemory => Stop::NoMemory,
+    }
+}
+
+// The canonical text of the input's document.
+fn form_of(alloc: Global, input: &[u8]) -> Result<Vec<u8>, Stop>
+    requires { length input.now ≤ MAX_TEXT }
+    ensures text { IfOk result (λ text. Makes input.now Form text.items) }
+    ensures stop { IfErr result (λ stop. IsStopOf input.now Form stop) }
+{
+    let doc = read_doc(alloc, input)?;
+    Ok(print_doc(alloc, &doc.body)?)
+}
+
+// The canonical text of the input's document in version 2.
+fn upgrade_of(alloc: Global, input: &[u8]) -> Result<Vec<u8>, Stop>
+    requires { length input.now ≤ MAX_TEXT }
+    ensures text { IfOk result (λ text. Makes input.now Upgrade text.items) }
+    ensures stop { IfErr result (λ stop. IsStopOf input.now Upgrade stop) }
+{
+    an_upgraded_body_can_be_printed();
+    let doc = read_doc(alloc, input)?;
+    Ok(print_doc(alloc, &upgrade(doc.body))?)
+}
+
+// The slots of the tasks of the input's plan.
+fn slots_of(alloc: Global, input: &[u8]) -> Result<Vec<u8>, Stop>
+    requires { length input.now ≤ MAX_TEXT }
+    ensures text { IfOk result (λ text. Makes input.now Slots text.items) }
+    ensures stop { IfErr result (λ stop. IsStopOf input.now Slots stop) }
+{
+    let plan = plan_of(alloc, input)?;
+    Ok(slot_lines(alloc, &plan.diagram)?)
+}
+
+// The steps of the input's script, with what they hear.
+fn replay_of(alloc: Global, ranked: bool, input: &[u8]) -> Result<Vec<u8>, Stop>
+    requires { length input.now ≤ MAX_TEXT }
+    ensures text { IfOk result (λ text. Makes input.now (Replay ranked) text.items) }
+    ensures stop { IfErr result (λ stop. IsStopOf input.now (Replay ranked) stop) }
+{
+    let (doc, plan) = accepted(alloc, input)?;
+    let text = replay_text(alloc, ranked, &doc, plan)?;
+    Ok(text)
+}
+
+// The steps of the document's script, with what they hear on its plan.
+fn replay_text(alloc: Global, ranked: bool, doc: &Doc, plan: Plan) -> Result<Vec<u8>, Stop>
+    requires printable { IsPrintable doc.now.body }
+    requires lines { HasItemLines doc.now }
+    ensures text { IfOk result (λ text. PlanText doc.now plan (a_replay (count_of ranked)) text.items) }
+    ensures stop { IfErr result (λ stop. (input : Items ℕ) (accepted : Accepts input plan)
+        → accepted.doc ≡ doc.now → IsStopOf input (Replay ranked) stop) }
+    // A document without a script section is refused so whatever memory there is.
+    ensures no_script { doc.now.body.script ≡ None
+        → result ≡ Err (Refused (Script doc.now.lines.done_at NoScript)) }
+{
+    let steps = read_script(alloc, &plan.diagram, doc)?;
+    let text = replay_owned(alloc, plan, count_of(ranked), &steps)?;
+    Ok(text)
+}
+
+// By which slots and in which order the steps of a replay are taken.
+fn count_of(ranked: bool) -> Count
+    ensures { result ≡ count_of ranked }
+{
+    if ranked { Count::Ranked } else { Count::All }
+}

@@ -1,0 +1,43 @@
+// The commands.
+
+/// What the program is to do.
+#[derive(Clone, Copy, Debug, PartialEq, Eq)]
+pub enum Command {
+    /// Writes the lines of the meaning's table.
+    Mean,
+    /// Simulates the plan in virtual time, and writes the lines of the table or the steps of the record.
+    Sim {
+        /// The steps.
+        record_it: bool,
+    },
+    /// Runs the plan, and writes the lines of the table: by the crew at hand, or by turns drawn from a number.
+    Run {
+        /// The number that turns are drawn from.
+        turns: Option<u64>,
+    },
+    /// Writes the canonical text.
+    Form,
+    /// Writes the canonical text in version 2 of the language.
+    Upgrade,
+    /// Writes the slots of each task.
+    Plan,
+    /// Takes the steps of the script, and writes what each hears: in any order of the tasks, or by their ranks.
+    Replay {
+        /// By their ranks.
+        ranked: bool,
+    },
+    /// Writes the generated document. It doesn't read.
+    Gen {
+        /// What the document is drawn from.
+        seed: u64,
+        /// Its tasks, from 1 to 32.
+        size: u32,
+    },
+    /// Evaluates, simulates and runs the generated document, and writes what came of it. It doesn't read.
+    Soak {
+        /// What the document is drawn from.
+        seed: u64,
+        /// Its tasks, from 1 to 32.
+        size: u32,
+    },
+}

@@ -1,6 +1,0 @@
-use Rattle.std.proofs.Common.{◌≡◌}
-use Rattle.dbp_top.proofs.SlotLineLaws.{lines_to}
-use Rattle.dbp_top.proofs.slot_lines.slot_lines.Given as goal
-
-abbrev pub invariant-loop-i : goal.invariant-loop-i
-invariant-loop-i l = l.text.items ≡ lines_to l.diagram l.i

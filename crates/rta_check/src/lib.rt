@@ -1,0 +1,15 @@
+//! Response times under fixed priorities: how long after its release each instance of a task ends at the latest, in
+//! whatever phase the tasks are.
+//!
+//! A window of r ticks holds at most r over the period, rounded up, releases of a periodic task. So a task and the tasks
+//! above it ask for at most `request_bound` ticks within it, and a least r that is its own request bound is the task's
+//! least response time (`IsResponse`), if it is within the period. Nothing else of the diagram is read: no offset, no
+//! end, no sample, no lower task, and no other task's bound. `each_bound_holds_by_itself` is the theorem; its proof goes
+//! by the busy periods of `rank_order`, and uses of releases only that those of a task are a period apart.
+#![tactic(auto)]
+
+mod bound;
+mod laws;
+
+pub use bound::Bound;
+pub use laws::{bounded_tasks_do_not_overrun, each_bound_holds_by_itself, one_bound};

@@ -1,0 +1,307 @@
+"""The files of a diagram for every target: NAME.h, what a system calls and writes, and NAME.c."""
+
+from emitting.blocks import expression_text, names_in, number_text, ordered_lets, tree_of
+from emitting.plan import is_periodic, local_names, row_names, set_text
+
+MARK = "/* Written by tools/emit_c of dbp: it writes this file anew at each call. */"
+WIDTH = 120
+
+STEPS = """
+/* What a system calls. */
+
+/* Gives all words and states their first values: call it once, before all else. */
+void NAME_begin(void);
+
+/* The tasks with a period that occur at this tick, to be released then. */
+uint32_t NAME_tasks_at(uint64_t tick);
+
+/* Releases the tasks of a set at their time; those whose `when` says no aren't released. If a task's last instance
+ * hasn't ended, the outcome is DBP_LATE, and no task is released yet: call it again with the same set, until the release
+ * is made, before you ask for another one. The inputs keep the values of the first call. If a task has had as many
+ * instances as there are numbers, the outcome is DBP_SPENT, and nothing was released. */
+dbp_released NAME_release(uint32_t tasks);
+
+/* The same in single steps: it begins the release, and each call of the second one makes a step. */
+dbp_released NAME_begin_release(uint32_t tasks);
+dbp_step NAME_release_step(void);
+
+/* Sees the first task whose last instance isn't known to have ended; DBP_NO_STEP says that all have. */
+dbp_step NAME_see_unended(void);
+"""
+
+
+def c_array(kind, name, items):
+    """Returns the definition of a constant array, or nothing without items."""
+    if not items:
+        return []
+    line = f"static const {kind} {name}[] = {{{', '.join(map(str, items))}}};"
+    if len(line) <= WIDTH:
+        return [line]
+    return [f"static const {kind} {name}[] = {{", *(f"    {item}," for item in items), "};"]
+
+
+def variables(kind, name, count):
+    """Returns the definition of an array of variables, or nothing if there are none."""
+    return [f"static {kind} {name}[{count}];"] if count else []
+
+
+def pointer(name, items):
+    """Returns a pointer to an array that is there if it has items."""
+    return name if items else "NULL"
+
+
+def beside(code, comment):
+    """Returns a line of code with its comment beside it, or above it if both are too long for one line."""
+    line = f"{code}  {comment}"
+    indent = " " * (len(code) - len(code.lstrip()))
+    return [line] if len(line) <= WIDTH else [f"{indent}{comment}", code]
+
+
+def header_of_task(plan, number):
+    """Yields the lines of NAME.h for a task."""
+    task, own = plan.document.tasks[number], plan.of(plan.tasks[number])
+    row = ", ".join(f"int64_t {name}" for name in row_names(plan, task))
+    yield ""
+    yield plan.comments[task.name, "task", task.name]
+    yield f"#define {plan.of('set_' + plan.tasks[number])} {set_text(1 << number)}"
+    yield f"dbp_step {own}_step(void);  /* the next step of its running instance */"
+    yield f"dbp_step {own}(void);       /* the steps up to its end, or to one that must wait: call it again then */"
+    yield f"void {own}_row(uint32_t instance, {row});"
+
+
+def header(plan):
+    """Returns the text of NAME.h."""
+    guard = plan.of("H")
+    lines = [MARK, "", f"/* The tasks of {plan.title} in C. A set of tasks has a bit for each. */", ""]
+    lines += [f"#ifndef {guard}", f"#define {guard}", "", '#include "dbp_protocol.h"']
+    lines += STEPS.replace("NAME_", plan.of("")).rstrip("\n").split("\n")
+    if plan.document.events:
+        lines += ["", "/* The tasks that occur at the times of an event, to be released then. */"]
+    for event, own in plan.events.items():
+        lines.append(f"#define {plan.of('on_' + own)} {set_text(plan.tasks_on(event))}")
+    lines += ["", "/* The tasks, each as a set of its own, with its calls. You write the functions that end with `_row`: they get",
+              " * the outs of each instance before it ends. */"]
+    lines += [line for number in range(len(plan.tasks)) for line in header_of_task(plan, number)]
+    if plan.inputs:
+        lines += ["", "/* You write these: each returns the value of an input at the release that is begun. */", ""]
+    for name, own in plan.inputs.items():
+        lines += beside(f"int64_t {plan.of('input_' + own)}(void);", plan.comments[None, "input", name])
+    lines += ["", f"extern const dbp_diagram {plan.of('diagram')};", "", "#endif", ""]
+    return "\n".join(lines)
+
+
+def tables_of_task(plan, number):
+    """Yields the constant arrays of a task."""
+    task, wired = plan.document.tasks[number], plan.wiring.tasks[number]
+    own, inputs = plan.of(plan.tasks[number]), plan.numbered_inputs()
+    reads = [f"{{{it.read}, {it.order}, {it.writer}, {it.port}}}" for it in wired.reads]
+    yield from c_array("uint8_t", f"{own}_links", wired.links)
+    yield from c_array("uint8_t", f"{own}_leaving", wired.leaving)
+    yield from c_array("dbp_read", f"{own}_reads", reads)
+    yield from c_array("uint8_t", f"{own}_senses", [inputs[sense.input] for sense in task.senses])
+    yield from c_array("int64_t", f"{own}_first", [number_text(out.first) for out in task.outs])
+
+
+def entry_of_task(plan, number):
+    """Yields the entry of a task in the table of tasks."""
+    task, wired = plan.document.tasks[number], plan.wiring.tasks[number]
+    own = plan.of(plan.tasks[number])
+    period, offset = (task.clock.period, task.clock.offset) if is_periodic(task) else (0, 0)
+    condition = "DBP_ALWAYS" if task.when is None else plan.numbered_inputs()[task.when]
+    yield f"    {{  {plan.comments[task.name, 'task', task.name]}"
+    yield f"        .period = {period}, .offset = {offset}, .condition = {condition},"
+    yield f"        .first_slot = {wired.first_slot}, .ports = {len(task.outs)}, .slots = {wired.slots}, .kept = {wired.kept},"
+    yield f"        .link_count = {len(wired.links)}, .leaving_count = {len(wired.leaving)},"
+    yield f"        .read_count = {len(wired.reads)}, .sense_count = {len(task.senses)},"
+    pointers = {"links": wired.links, "leaving": wired.leaving, "reads": wired.reads, "senses": task.senses, "first": (0,)}
+    fields = [f".{name} = {pointer(own + '_' + name, items)}" for name, items in pointers.items()]
+    yield f"        {', '.join(fields)},"
+    yield "    },"
+
+
+def tables(plan):
+    """Yields the lines of the constant tables."""
+    numbers = range(len(plan.tasks))
+    links = [f"{{{link.writer}, {link.reader}, {link.delay}}}" for link in plan.wiring.links]
+    for number in numbers:
+        yield from tables_of_task(plan, number)
+    yield from c_array("dbp_link", plan.of("links"), links)
+    if plan.tasks:
+        yield f"static const dbp_task {plan.of('tasks')}[] = {{"
+        for number in numbers:
+            yield from entry_of_task(plan, number)
+        yield "};"
+    counts = f"{len(plan.tasks)}, {len(links)}, {plan.wiring.word_count}"
+    yield f"const dbp_diagram {plan.of('diagram')} = {{"
+    yield f"    {counts}, {pointer(plan.of('tasks'), plan.tasks)}, {pointer(plan.of('links'), links)},"
+    yield "};"
+
+
+def variables_of_task(plan, number):
+    """Yields what a task alone uses."""
+    task, own = plan.document.tasks[number], plan.of(plan.tasks[number])
+    yield from variables("int64_t", f"{own}_states", len(task.states))
+    yield from variables("int64_t", f"{own}_sensed", len(task.senses))
+    yield from variables("int64_t", f"{own}_taken", len(task.reads))
+    yield from variables("dbp_order", f"{own}_heard", 1 + len(plan.wiring.tasks[number].links))
+    yield from variables("int64_t", f"{own}_outs", len(task.outs))
+
+
+def part_of_task(plan, number):
+    """Returns the entry of a task in the table of parts."""
+    task, own = plan.document.tasks[number], plan.of(plan.tasks[number])
+    sensed, taken = pointer(f"{own}_sensed", task.senses), pointer(f"{own}_taken", task.reads)
+    return f"    {{.heard = {own}_heard, .sensed = {sensed}, .taken = {taken}, .outs = {own}_outs}},"
+
+
+def all_variables(plan):
+    """Yields the lines of the shared words, and of what each party alone uses."""
+    links, inputs = plan.wiring.links, plan.inputs
+    yield f"static dbp_word {plan.of('words')}[{plan.wiring.word_count}];"
+    yield from variables("dbp_entry", plan.of("entries"), len(plan.tasks))
+    yield from variables("dbp_claimed", plan.of("claims"), len(links))
+    yield from variables("int64_t", plan.of("inputs"), len(inputs))
+    pointers = {"entries": plan.tasks, "claims": links, "inputs": inputs}
+    fields = ", ".join(f".{name} = {pointer(plan.of(name), items)}" for name, items in pointers.items())
+    yield f"static dbp_releaser {plan.of('releaser')} = {{{fields}}};"
+    for number in range(len(plan.tasks)):
+        yield from variables_of_task(plan, number)
+    if plan.tasks:
+        yield f"static dbp_part {plan.of('parts')}[] = {{"
+        yield from (part_of_task(plan, number) for number in range(len(plan.tasks)))
+        yield "};"
+    parts = pointer(plan.of("parts"), plan.tasks)
+    yield f"static const dbp_system {plan.of('system')} = {{"
+    yield f"    &{plan.of('diagram')}, {plan.of('words')}, &{plan.of('releaser')}, {parts},"
+    yield "};"
+
+
+def places_of(task, own):
+    """Yields the lines of a task that name what is there when it computes: the word, the name, and the place in C."""
+    for word, parts, kind in (("state", task.states, "states"), ("sense", task.senses, "sensed"), ("read", task.reads, "taken")):
+        for number, part in enumerate(parts):
+            yield word, part.name, f"{own}_{kind}[{number}]"
+
+
+def results_of(task, own):
+    """Yields the lines of a task that say what it computes: the word, the name, the expression, and the place in C."""
+    for number, out in enumerate(task.outs):
+        yield "out", out.name, out.expression, f"{own}_outs[{number}]"
+    numbers = {state.name: number for number, state in enumerate(task.states)}
+    for it in task.nexts:
+        yield "next", it.state, it.expression, f"{own}_states[{numbers[it.state]}]"
+
+
+def block(plan, number):
+    """Yields the function that computes the outs and the next states of a task."""
+    task, own = plan.document.tasks[number], plan.of(plan.tasks[number])
+    names, lets = local_names(plan, task), ordered_lets(task.lets)
+    results = [(word, name, tree_of(text), place) for word, name, text, place in results_of(task, own)]
+    used = set().union(*(names_in(tree) for tree in [*(tree for _, tree in lets), *(tree for _, _, tree, _ in results)]))
+
+    def declared(word, name, value):
+        yield from beside(f"    const int64_t {names[name]} = {value};", plan.comments[task.name, word, name])
+        if name not in used:
+            yield f"    (void){names[name]};"
+
+    yield ""
+    yield plan.comments[task.name, "task", task.name]
+    yield f"static void {own}_compute(void)"
+    yield "{"
+    for word, name, place in places_of(task, own):
+        yield from declared(word, name, place)
+    for let, tree in lets:
+        yield from declared("let", let.name, expression_text(tree, names))
+    for word, name, tree, place in results:
+        yield from beside(f"    {place} = {expression_text(tree, names)};", plan.comments[task.name, word, name])
+    yield "}"
+
+
+def calls_of_task(plan, number):
+    """Yields the two functions by which a system lets a task step."""
+    task, own = plan.document.tasks[number], plan.of(plan.tasks[number])
+    outs = ", ".join(f"{own}_outs[{port}]" for port in range(len(task.outs)))
+    yield f"""
+dbp_step {own}_step(void)
+{{
+    const dbp_part *part = &{plan.of('parts')}[{number}];
+    if (part->place == DBP_AT_SHUT) {{
+        {own}_compute();
+    }} else if (part->place == DBP_AT_END) {{
+        {own}_row(part->ended + 1, {outs});
+    }}
+    return dbp_task_step(&{plan.of('system')}, {number});
+}}
+
+dbp_step {own}(void)
+{{
+    dbp_step step;
+    do {{
+        step = {own}_step();
+    }} while (!step.must_wait && step.kind != DBP_END);
+    return step;
+}}"""
+
+
+def sampling(plan):
+    """Yields the function that begins a release with the inputs of its time, each if one of the tasks uses it."""
+    yield f"""
+dbp_released {plan.of('begin_release')}(uint32_t tasks)
+{{"""
+    if plan.inputs:
+        yield f"    const uint32_t sampled = dbp_is_releasing(&{plan.of('system')}) ? 0 : tasks;"
+    for number, (name, own) in enumerate(plan.inputs.items()):
+        yield f"    if ((sampled & {set_text(plan.users_of(name))}) != 0) {{"
+        yield f"        {plan.of('inputs')}[{number}] = {plan.of('input_' + own)}();"
+        yield "    }"
+    yield f"    return dbp_begin_release(&{plan.of('system')}, tasks);"
+    yield "}"
+
+
+def beginning(plan):
+    """Yields the function that gives words and states their first values."""
+    yield f"void {plan.of('begin')}(void)"
+    yield "{"
+    yield f"    dbp_begin(&{plan.of('system')});"
+    for number, task in enumerate(plan.document.tasks):
+        for at, state in enumerate(task.states):
+            code = f"    {plan.of(plan.tasks[number])}_states[{at}] = {number_text(state.first)};"
+            yield from beside(code, plan.comments[task.name, "state", state.name])
+    yield "}"
+
+
+RELEASES = """
+uint32_t NAME_tasks_at(uint64_t tick)
+{
+    return dbp_tasks_at(&NAME_diagram, tick);
+}
+
+dbp_step NAME_release_step(void)
+{
+    return dbp_release_step(&NAME_system);
+}
+
+dbp_released NAME_release(uint32_t tasks)
+{
+    const dbp_released begun = NAME_begin_release(tasks);
+    return begun.outcome == DBP_RELEASED ? dbp_release(&NAME_system) : begun;
+}
+
+dbp_step NAME_see_unended(void)
+{
+    return dbp_see_unended(&NAME_system);
+}"""
+
+
+def body(plan):
+    """Returns the text of NAME.c."""
+    numbers = range(len(plan.tasks))
+    about = f"/* The tasks of {plan.title} in C. A comment that begins with a number has that line of the document. */"
+    lines = [MARK, "", about]
+    lines += ["", f'#include "{plan.name}.h"', "", "/* The tables. */", "", *tables(plan)]
+    lines += ["", "/* The shared words, and what each party alone uses. */", "", *all_variables(plan)]
+    lines += ["", "/* The blocks. */", *(line for number in numbers for line in block(plan, number))]
+    lines += ["", "/* What a system calls. */", "", *beginning(plan), *sampling(plan)]
+    lines += RELEASES.replace("NAME_", plan.of("")).split("\n")
+    lines += [line for number in numbers for line in calls_of_task(plan, number)]
+    return "\n".join([*lines, ""])
