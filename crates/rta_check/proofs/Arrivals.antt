@@ -13,18 +13,7 @@ use Rattle.rank_order.specs.Instances.{Instance}
 use Rattle.rank_order.specs.ServiceOf.{instances_of}
 use Rattle.rank_order.proofs.Work.{asked, asked_after, asked_before, asked_lower, is_above}
 use Rattle.rta_check.specs.Requests.{div_ceil}
-
-one_more : (c n : ℕ) → (c + 1) * n ≡ c * n + n
-one_more c n = omega (arith, add-mul c 1 n)
-
--- a count whose periods begin within r ticks is at most r over the period, rounded up
-at_most : (q c r t : ℕ) → r ≤ q * t → c * t < r + t → c ≤ q
-at_most q c r t up few = elim (cases_lt q c) [
-  | inl more ↦
-      let below : (q + 1) * t ≤ c * t = mul-le-mul_right t (omega (arith, more)) in
-      absurd (omega (arith, up, few, below, one_more q t))
-  | inr le ↦ le
-]
+use Rattle.rta_check.proofs.Ceilings.{at_most, one_more}
 
 -- of the first m instances of task j some are released within the r ticks from b on: they ask for their costs, as many periods fit before a next release, and they begin within the window
 record Arrivals (p : Plan) (i j period b r m : ℕ) : Type 0 where

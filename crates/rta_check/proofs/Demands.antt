@@ -17,7 +17,7 @@ use Rattle.rta_check.specs.Responses.{SolvesEquation}
 use Rattle.rta_check.proofs.Arrivals.{asked_within, none_asked}
 
 -- one number more
-sum_more_from : (f : ℕ → ℕ) (a n : ℕ) → sum_by f (range_with_len a (suc n)) ≡ sum_by f (range_with_len a n) + f (a + n)
+pub sum_more_from : (f : ℕ → ℕ) (a n : ℕ) → sum_by f (range_with_len a (suc n)) ≡ sum_by f (range_with_len a n) + f (a + n)
 sum_more_from f a zero =
     let same : a ≡ a + 0 = omega arith in
     omega (arith, sum_by-cons f a [], ap f same)

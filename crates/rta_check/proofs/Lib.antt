@@ -1,7 +1,13 @@
 pub mod Arrivals
+pub mod Ceilings
+pub mod CountedTasks
 pub mod Demands
+pub mod HigherTasks
+pub mod KeptBoundLists
 pub mod KeptBounds
 pub mod OneBound
 pub mod OtherPhases
 pub mod Progress
+pub mod RtaFaults
+pub mod Starts
 pub mod Theorem

@@ -1,4 +1,6 @@
 -- Definitions that public clauses cite.
+pub mod Bounds
+pub mod Levels
 pub mod Periods
 pub mod Phases
 pub mod Requests

@@ -1,0 +1,37 @@
+-- Diagrams without a fault.
+use Rattle.std.proofs.Common.{◌≡◌, ℕ, ◌<◌, true, false, List, Option, Some, None, length, get_or, refl, ap, inl, inr, arith}
+use Rattle.std.specs.Prelude.{Bool, nat_lt}
+use Rattle.std.specs.List.{position, position_or_len}
+use Rattle.std.proofs.lemmas.Bool.{cases_Bool, cases_lt, lt-ltb}
+use Rattle.std.proofs.lemmas.List.Sums.{fails_before_first}
+use Rattle.dbp_plan.specs.declared.diagram.Clock.{Clock}
+use Rattle.dbp_plan.specs.declared.diagram.Clock.TheVariants.{Every, On}
+use Rattle.dbp_plan.specs.declared.diagram.Diagram.{Diagram}
+use Rattle.dbp_plan.specs.declared.diagram.Policy.{Policy}
+use Rattle.dbp_plan.specs.declared.diagram.Policy.TheVariants.{Edf, Fp}
+use Rattle.dbp_plan.specs.declared.diagram.Task.{Task}
+use Rattle.rta_check.specs.Bounds.{fault_under, is_aperiodic, rta_fault}
+use Rattle.rta_check.specs.Periods.{IsPeriodic, is_periodic}
+
+-- if none passes, each fails
+no_first : {A : Type 0} (test : A → Bool) (xs : List A) → position test xs ≡ None → (k : ℕ) (d : A) → k < length xs → test (get_or xs k d) ≡ false
+no_first test xs none k d less = elim (cases_lt (position_or_len test xs) (length xs)) [
+  | inl there ↦ let is : nat_lt (position_or_len test xs) (length xs) ≡ true = lt-ltb _ _ there in absurd (cc)
+  | inr past ↦ fails_before_first test xs k d (omega (arith, less, past))
+]
+
+under_fixed : (policy : Policy) (first : Option ℕ) → fault_under policy first ≡ None → (policy ≡ Fp) × (first ≡ None)
+under_fixed Edf first none = absurd (cc)
+under_fixed Fp None none = (refl, refl)
+under_fixed Fp (Some task) none = absurd (cc)
+
+clock_periodic : (t : Task) → is_aperiodic t ≡ false → is_periodic t.clock ≡ true
+clock_periodic t not = elim (cases_Bool (is_periodic t.clock)) [ inl is ↦ is | inr isnt ↦ absurd (cc (isnt, not)) ]
+
+-- a diagram without a fault is under fixed priorities
+pub no_fault_fixed : (d : Diagram) → rta_fault d ≡ None → d.policy ≡ Fp
+no_fault_fixed d none = (under_fixed d.policy (position is_aperiodic d.tasks) none).0
+
+-- and no task is on an event
+pub no_fault_periodic : (d : Diagram) → rta_fault d ≡ None → IsPeriodic d
+no_fault_periodic d none = λ k task less. clock_periodic (get_or d.tasks k task) (no_first is_aperiodic d.tasks (under_fixed d.policy (position is_aperiodic d.tasks) none).1 k task less)
