@@ -1,5 +1,5 @@
 -- What higher tasks ask for within some ticks, by their requests and by their utilizations.
-use Rattle.std.proofs.Common.{◌≡◌, ℕ, zero, suc, ◌+◌, ◌*◌, ◌<◌, ◌≤◌, List, [], ◌∷◌, true, false, All, length, refl, ap, inl, inr, arith, add-mul, mul-le-mul_right}
+use Rattle.std.proofs.Common.{◌≡◌, ℕ, suc, ◌+◌, ◌*◌, ◌≤◌, List, [], ◌∷◌, All, ap, inl, inr, arith, add-mul, mul-le-mul_right}
 use Rattle.std.specs.Prelude.{if◌then◌else◌, nat_le, sum_by}
 use Rattle.std.proofs.Math.Nat.{le-mul_of_pos_right, mul_comm, mul_left_comm, mul_right_comm, mul-le-mul_left}
 use Rattle.std.proofs.lemmas.Bool.{cases_Bool}

@@ -1,4 +1,4 @@
-use Rattle.std.proofs.Common.{◌≡◌, None, length, ◌∙◌, sym, arith}
+use Rattle.std.proofs.Common.{◌≡◌, None, ◌∙◌, sym, arith}
 use Rattle.rta_check.specs.Bounds.{AreBounds, rta_fault}
 use Rattle.rta_check.proofs.KeptBoundLists.{bounds_kept, bounds_more}
 use Rattle.rta_check.proofs.RtaFaults.{no_fault_fixed, no_fault_periodic}

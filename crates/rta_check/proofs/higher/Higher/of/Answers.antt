@@ -1,6 +1,5 @@
-use Rattle.std.proofs.Common.{◌≡◌, ℕ, ◌*◌, ◌/◌, ◌≤◌, ◌∙◌, sym, ap, arith}
+use Rattle.std.proofs.Common.{◌≡◌, ℕ, ◌*◌, ◌/◌, ◌≤◌, ap, arith}
 use Rattle.std.proofs.Math.Nat.{div-mul-le_self}
-use Rattle.dbp_plan.specs.declared.limits.TheConstants.{MAX_TIME}
 use Rattle.rta_check.specs.Levels.{whole}
 use Rattle.rta_check.specs.Periods.{period_of}
 use Rattle.rta_check.proofs.Demands.{clock_of}

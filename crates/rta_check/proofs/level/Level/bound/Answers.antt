@@ -1,4 +1,4 @@
-use Rattle.std.proofs.Common.{◌≡◌, ℕ, ◌≤◌, ◌∙◌, sym, arith}
+use Rattle.std.proofs.Common.{◌∙◌, arith}
 use Rattle.rta_check.proofs.Starts.{next_start, start_solves}
 use Rattle.rta_check.proofs.level.Level.bound.Goals as goal
 

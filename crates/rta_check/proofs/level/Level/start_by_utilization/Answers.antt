@@ -1,10 +1,10 @@
-use Rattle.std.proofs.Common.{◌≡◌, ℕ, ◌+◌, ◌*◌, ◌-◌, ◌<◌, ◌≤◌, true, false, All, take, length, refl, sym, ap, ◌∙◌, arith}
+use Rattle.std.proofs.Common.{◌≡◌, ◌+◌, ◌*◌, ◌-◌, ◌≤◌, true, false, All, take, length, refl, sym, ap, ◌∙◌, arith}
 use Rattle.std.specs.Prelude.{nat_le, slice_index_or, sum_by}
 use Rattle.std.proofs.lemmas.Bool.Decides.{nat_tests}
 use Rattle.std.proofs.lemmas.List.{take_all}
 use Rattle.std.proofs.lemmas.List.Sums.{sum_by_more}
 use Rattle.rta_check.specs.declared.higher.Higher.{Higher}
-use Rattle.rta_check.specs.Levels.{IsHigher, higher_request, whole}
+use Rattle.rta_check.specs.Levels.{IsHigher, higher_request}
 use Rattle.rta_check.specs.Requests.{div_ceil}
 use Rattle.rta_check.proofs.HigherTasks.{asked_by, used_by, utilization_within}
 use Rattle.rta_check.proofs.Starts.{asked, asked_within, later, not_all_used, used, whole-is}
