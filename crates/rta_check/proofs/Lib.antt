@@ -1,9 +1,9 @@
 pub mod Arrivals
+pub mod BoundLists
 pub mod Ceilings
 pub mod CountedTasks
 pub mod Demands
 pub mod HigherTasks
-pub mod KeptBoundLists
 pub mod KeptBounds
 pub mod OneBound
 pub mod OtherPhases

@@ -13,7 +13,7 @@ use Rattle.rank_order.specs.ServiceOf.{service}
 use Rattle.rta_check.specs.declared.bound.Bound.{Bound}
 use Rattle.rta_check.specs.declared.bound.Bound.TheVariants.{At, Beyond}
 use Rattle.rta_check.specs.declared.fail.RtaFail.{RtaFail}
-use Rattle.rta_check.specs.declared.fail.RtaFail.TheVariants.{NotFixed, NotPeriodic}
+use Rattle.rta_check.specs.declared.fail.RtaFail.TheVariants.{NotFixed, NotPeriodic, NoMemory}
 use Rattle.rta_check.specs.Periods.{is_periodic}
 use Rattle.rta_check.specs.Responses.{IsBound, KeepsBound}
 
@@ -39,3 +39,9 @@ fault_under Fp task = option_map NotPeriodic task
 -- why the diagram has no bounds: earliest deadline first comes before tasks that are aperiodic
 abbrev pub rta_fault : Diagram → Option RtaFail
 rta_fault d = fault_under d.policy (position is_aperiodic d.tasks)
+
+-- this is why it has none; out of memory says nothing
+abbrev pub IsRtaFail : Diagram → RtaFail → Type 0
+IsRtaFail d NotFixed = rta_fault d ≡ Some NotFixed
+IsRtaFail d (NotPeriodic task) = rta_fault d ≡ Some (NotPeriodic task)
+IsRtaFail d NoMemory = Unit {0}

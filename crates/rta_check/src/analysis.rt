@@ -1,12 +1,11 @@
 // The response times of a diagram's tasks.
 
-ghost use Rattle.std.specs.Prelude.{◌≡◌, None, OnErr, OnOk, IfOk, Err};
+ghost use Rattle.std.specs.Prelude.{◌≡◌, None, OnOk, IfErr, IfOk, Err};
 ghost use Rattle.std.specs.List.{position};
 ghost use Rattle.std.specs.Option.{IfSome};
 ghost use Rattle.dbp_plan.specs.declared.plan.Plan.{Plan};
 ghost use Rattle.dbp_plan.specs.Ranked.{IsRanked};
-ghost use Rattle.rta_check.specs.declared.fail.RtaFail.TheVariants.{NoMemory as OutOfMemory};
-ghost use Rattle.rta_check.specs.Bounds.{AreBounds, KeepsBounds, is_aperiodic, rta_fault};
+ghost use Rattle.rta_check.specs.Bounds.{AreBounds, IsRtaFail, KeepsBounds, is_aperiodic, rta_fault};
 ghost use Rattle.rta_check.specs.Phases.{DiffersInPhase};
 
 use crate::level::Level;
@@ -51,10 +50,11 @@ pub fn rta(alloc: Global, diagram: &Diagram) -> Result<List<Bound>, RtaFail>
     ensures bounds { IfOk result (λ bounds. AreBounds diagram.now bounds) }
     // What the bounds promise of each plan that differs in offsets and end, whatever its samples.
     ensures phases { IfOk result (λ bounds. (p : Plan) → DiffersInPhase diagram.now p.diagram → KeepsBounds bounds p) }
+    // The diagram has no fault; with an error it has this one, unless memory ran out.
+    ensures fit { OnOk result (rta_fault diagram.now ≡ None) }
+    ensures fault { IfErr result (λ fail. IsRtaFail diagram.now fail) }
     // A fault is found before memory is taken, so it is never out of memory.
     ensures refused { IfSome (rta_fault diagram.now) (λ fault. result ≡ Err fault) }
-    // Without a fault only memory can be missing.
-    ensures fault { rta_fault diagram.now ≡ None → OnErr result (result ≡ Err OutOfMemory) }
 {
     if let Some(fault) = fault(diagram) {
         return Err(fault);

@@ -23,7 +23,7 @@ pub(crate) struct Higher {
 }
 
 /// The period of the clock, in ticks; 0 of an event, which has none.
-pub(crate) fn period_of(clock: Clock) -> u64
+pub fn period_of(clock: Clock) -> u64
     ensures { result ≡ period_of clock }
 {
     match clock {

@@ -1,6 +1,6 @@
 // What the bounds of a diagram's tasks say of its plans.
 
-ghost use Rattle.std.specs.Prelude.{◌≡◌, ◌<◌, ℕ, length};
+ghost use Rattle.std.specs.Prelude.{◌≡◌, ◌<◌, ℕ, List as Items, length};
 ghost use Rattle.dbp_plan.specs.declared.diagram.Diagram.{Diagram};
 ghost use Rattle.dbp_plan.specs.declared.diagram.Policy.TheVariants.{Fp};
 ghost use Rattle.dbp_plan.specs.declared.plan.Plan.{Plan};
@@ -8,6 +8,7 @@ ghost use Rattle.rank_order.specs.Ends.{NoOverrun};
 ghost use Rattle.rank_order.specs.Service.{left_of};
 ghost use Rattle.rank_order.specs.ServiceOf.{service};
 ghost use Rattle.rta_check.specs.declared.bound.Bound.{Bound};
+ghost use Rattle.rta_check.specs.Bounds.{AreBounds, KeepsBounds};
 ghost use Rattle.rta_check.specs.Periods.{IsPeriodic};
 ghost use Rattle.rta_check.specs.Phases.{DiffersInPhase};
 ghost use Rattle.rta_check.specs.Responses.{IsBound, IsResponse, KeepsBound};
@@ -32,4 +33,18 @@ pub fn bounded_tasks_do_not_overrun()
     ensures { (d : Diagram) (p : Plan) → d.policy ≡ Fp → IsPeriodic d
         → ((task : ℕ) → task < length d.tasks → (r : ℕ) × IsResponse d task r)
         → DiffersInPhase d p.diagram → NoOverrun p (left_of p (service p)) }
+{}
+
+/// A diagram has one list of bounds.
+pub fn one_list_of_bounds()
+    ensures there { (d : Diagram) → (bounds : Items Bound) × AreBounds d bounds }
+    ensures only { (d : Diagram) (bounds others : Items Bound) → AreBounds d bounds → AreBounds d others
+        → bounds ≡ others }
+{}
+
+/// Under fixed priorities, if no task is on an event, each plan of the diagram with any offsets, any end and any samples
+/// keeps the diagram's bounds.
+pub fn bounds_are_kept()
+    ensures { (d : Diagram) (bounds : Items Bound) (p : Plan) → d.policy ≡ Fp → IsPeriodic d
+        → AreBounds d bounds → DiffersInPhase d p.diagram → KeepsBounds bounds p }
 {}

@@ -22,4 +22,7 @@ mod level;
 pub use analysis::rta;
 pub use bound::Bound;
 pub use fail::RtaFail;
-pub use laws::{bounded_tasks_do_not_overrun, each_bound_holds_by_itself, one_bound};
+pub use higher::period_of;
+pub use laws::{
+    bounded_tasks_do_not_overrun, bounds_are_kept, each_bound_holds_by_itself, one_bound, one_list_of_bounds,
+};

@@ -1,6 +1,6 @@
 use Rattle.std.proofs.Common.{◌≡◌, None, ◌∙◌, sym, arith}
 use Rattle.rta_check.specs.Bounds.{AreBounds, rta_fault}
-use Rattle.rta_check.proofs.KeptBoundLists.{bounds_kept, bounds_more}
+use Rattle.rta_check.proofs.BoundLists.{bounds_kept, bounds_more}
 use Rattle.rta_check.proofs.RtaFaults.{no_fault_fixed, no_fault_periodic}
 use Rattle.rta_check.proofs.analysis.rta.Goals as goal
 

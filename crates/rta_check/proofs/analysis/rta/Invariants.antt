@@ -1,4 +1,4 @@
-use Rattle.rta_check.proofs.KeptBoundLists.{AreBoundsUpTo}
+use Rattle.rta_check.proofs.BoundLists.{AreBoundsUpTo}
 use Rattle.rta_check.proofs.analysis.rta.Given as goal
 
 abbrev pub invariant-loop-task : goal.invariant-loop-task

@@ -1,8 +1,8 @@
 -- The bounds of a diagram's tasks, one by one.
-use Rattle.std.proofs.Common.{◌≡◌, ℕ, ◌+◌, List, [], ◌∷◌, ◌++◌, ◌⊎◌, Some, length, get_or, slice_get, refl, subst, sym, ap, ◌∙◌, inl, inr, arith, length-append}
+use Rattle.std.proofs.Common.{◌≡◌, ℕ, zero, suc, ◌+◌, List, [], ◌∷◌, ◌++◌, ◌⊎◌, Some, length, get_or, slice_get, refl, subst, sym, ap, ◌∙◌, inl, inr, arith, length-append}
 use Rattle.std.proofs.Math.ListN.{get_or-append}
 use Rattle.std.proofs.lemmas.Bool.{cases_lt}
-use Rattle.std.proofs.lemmas.List.{get_or_push}
+use Rattle.std.proofs.lemmas.List.{get_or_push, same_lists}
 use Rattle.std.proofs.lemmas.Option.{get_or_from_slice_get, slice_get-get_or, slice_get_within}
 use Rattle.dbp_plan.specs.declared.diagram.Diagram.{Diagram}
 use Rattle.dbp_plan.specs.declared.diagram.Policy.TheVariants.{Fp}
@@ -13,6 +13,7 @@ use Rattle.rta_check.specs.Bounds.{AreBounds, KeepsBounds}
 use Rattle.rta_check.specs.Periods.{IsPeriodic}
 use Rattle.rta_check.specs.Phases.{DiffersInPhase}
 use Rattle.rta_check.specs.Responses.{IsBound, IsResponse}
+use Rattle.rta_check.proofs.OneBound.{only_bound, some_bound}
 use Rattle.rta_check.proofs.Theorem.{kept_in_each_phase, no_overrun}
 
 -- an item of a list with one more
@@ -61,3 +62,25 @@ bounds_kept d bounds p fp periodic are differs = record {
       response_of d i b (are.each i b there) (λ beyond. none i (there ∙ ap Some beyond)))
       differs;
 }
+
+-- ---- there is one list
+
+bounds_up_to : (d : Diagram) (n : ℕ) → (bounds : List Bound) × AreBoundsUpTo d n bounds
+bounds_up_to d zero = ([], record { count = refl; each = λ i b there. absurd (omega (arith, slice_get_within [] i b there)) })
+bounds_up_to d (suc n) =
+    let (bounds, before) = bounds_up_to d n in
+    let (last, is) = some_bound d n in
+    let more = bounds_more d n bounds last before is in
+    (bounds ++ last ∷ [], record { count = omega (arith, more.count); each = more.each })
+
+pub some_bounds : (d : Diagram) → (bounds : List Bound) × AreBounds d bounds
+some_bounds d =
+    let (bounds, are) = bounds_up_to d (length d.tasks) in
+    (bounds, record { count = are.count; each = are.each })
+
+pub only_bounds : (d : Diagram) (bounds others : List Bound) → AreBounds d bounds → AreBounds d others → bounds ≡ others
+only_bounds d bounds others are also =
+    same_lists bounds others (are.count ∙ sym also.count)
+      (λ k b less. only_bound d k (get_or bounds k b) (get_or others k b)
+        (are.each k (get_or bounds k b) (slice_get-get_or bounds k b less))
+        (also.each k (get_or others k b) (slice_get-get_or others k b (omega (arith, less, are.count, also.count)))))
