@@ -23,20 +23,23 @@ use Rattle.dia_read.specs.declared.document.Doc.{Doc}
 use Rattle.dia_read.specs.declared.document.Body.{Body}
 use Rattle.dia_read.proofs.DocumentLaws.{one-document}
 use Rattle.dia_read.proofs.FaultLaws.{no-fault-of-a-document, one-first-fault}
+use Rattle.rta_check.proofs.BoundLists.{only_bounds}
 use Rattle.sync_meaning.specs.Meaning.{IsMeaning}
 use Rattle.trace_io.specs.declared.code.Code.{Code}
 use Rattle.trace_io.specs.declared.code.Code.TheVariants.{Reading, Checking, Tracing}
 use Rattle.trace_io.specs.Lines.{lines_of}
 use Rattle.trace_io.specs.Texts.{Accepts, Refuses, IsSameCode}
-use Rattle.dbp_answers.specs.Answer.{Answers, IsInTime, IsOverrunLine, IsRefused, Makes, Overruns, PlanOverrun, PlanRefusal, PlanText, heard_steps, illegal, line_of, made, made_of_plan, no_plan, no_script, no_text, of_body, of_generated, of_plan, of_plan_overrun, of_plan_refused, of_seed, overran, overrun, recorded_steps, refused, simulated_lines, table_lines}
+use Rattle.dbp_answers.specs.Answer.{Answers, IsInTime, IsOverrunLine, IsRefused, Makes, Overruns, PlanOverrun, PlanRefusal, PlanText, bounds_of_tasks, heard_steps, illegal, line_of, made, made_of_plan, no_plan, no_script, no_text, not_fixed, not_periodic, of_body, of_generated, of_plan, of_plan_overrun, of_plan_refused, of_seed, overran, overrun, recorded_steps, refused, simulated_lines, table_lines}
+use Rattle.dbp_answers.specs.BoundLines.{bound_lines}
 use Rattle.dbp_answers.specs.Commands.{Output, at_nothing, at_plan, at_text, is_at_plan, looks, needs_plan}
 use Rattle.dbp_answers.specs.OverrunLines.{overrun_after, overrun_line}
 use Rattle.dbp_answers.specs.Refusals.{code_text, refusal_line}
 use Rattle.dbp_answers.specs.Summaries.{IsSimulationLine, IsSummary, of_table, summary}
 use Rattle.dbp_answers.specs.Summaries as sim
+use Rattle.dbp_answers.specs.declared.command_code.CommandCode.TheVariants.{NotPeriodic}
 use Rattle.dbp_answers.specs.declared.command.Command.{Command}
 use Rattle.dbp_answers.specs.declared.refusal.Refusal.{Refusal}
-use Rattle.dbp_answers.specs.declared.refusal.Refusal.TheVariants.{Document, Script, Illegal}
+use Rattle.dbp_answers.specs.declared.refusal.Refusal.TheVariants.{Document, Script, Illegal, OfCommand}
 use Rattle.dbp_answers.specs.declared.status.Status.{Status}
 
 same-name : (a b : CheckCode) → checking.IsSameCode a b → code_text (Checking a) ≡ code_text (Checking b)
@@ -82,6 +85,7 @@ one-plan-text one doc p output text other (table_lines y here) (table_lines z th
 one-plan-text one doc p output text other (simulated_lines y in_time here) (simulated_lines z also there) = ap (λ (t : Table). lines_of p.diagram p.batches t) (one p y z here there)
 one-plan-text one doc p output text other (recorded_steps es is) (recorded_steps fs was) = ap (λ (gs : List Step). script_text p.diagram gs) (one_record p es fs is was)
 one-plan-text one doc p output text other (made_of_plan make) (made_of_plan make') = refl
+one-plan-text one doc p output text other (bounds_of_tasks a none are) (bounds_of_tasks b none' also) = ap (bound_lines p.diagram) (only_bounds p.diagram a b are also)
 one-plan-text one doc p output text other (heard_steps count es a script is) (heard_steps count' fs b also was) =
     let same : es ≡ fs = script-once p.diagram doc es fs script also in
     text-once p count' fs a b (subst (λ (gs : List Step). IsReplay p count' gs a) same is) was
@@ -91,6 +95,8 @@ no-plan-refusal doc p output text r (table_lines y here) refuses = elim refuses 
 no-plan-refusal doc p output text r (simulated_lines y in_time here) refuses = elim refuses [ ]
 no-plan-refusal doc p output text r (recorded_steps es is) refuses = elim refuses [ ]
 no-plan-refusal doc p output text r (made_of_plan make) refuses = elim refuses [ ]
+no-plan-refusal doc p output text r (bounds_of_tasks bounds none are) (not_fixed fault) = absurd (cc (none, fault))
+no-plan-refusal doc p output text r (bounds_of_tasks bounds none are) (not_periodic task fault) = absurd (cc (none, fault))
 no-plan-refusal doc p output text r (heard_steps count es a script is) (no_script count' l c fault) = script-no-fault p.diagram doc es l c script fault
 no-plan-refusal doc p output text r (heard_steps count es a script is) (illegal count' fs k why also broken) =
     let same : es ≡ fs = script-once p.diagram doc es fs script also in
@@ -107,6 +113,13 @@ one-plan-refusal doc p output r s (illegal count es k why script broken) (illega
     let both = refused-once p count' fs k l why other (subst (λ (gs : List Step). IsIllegal p count' gs k why) same broken) again in
     λ i. Illegal (both.0 i) (both.1 i)
 
+one-plan-refusal doc p output r s (not_fixed fault) (not_fixed again) = refl
+one-plan-refusal doc p output r s (not_fixed fault) (not_periodic task again) = absurd (cc (fault, again))
+one-plan-refusal doc p output r s (not_periodic task fault) (not_fixed again) = absurd (cc (fault, again))
+one-plan-refusal doc p output r s (not_periodic i fault) (not_periodic j again) =
+    let same : i ≡ j = cc (fault, again) in
+    λ k. OfCommand (NotPeriodic (declared_task p (same k)).name)
+
 -- ---- overruns
 
 -- a plan with an overrun has no text of its simulation, and no refusal
@@ -118,11 +131,14 @@ no-plan-overrun doc p output text x t (table_lines y here) late = elim late [ ]
 no-plan-overrun doc p output text x t (simulated_lines y none here) (overrun record_it z u late) = in-time p t x none late
 no-plan-overrun doc p output text x t (recorded_steps es is) (overrun record_it z u late) = in-time p t x is.in_time late
 no-plan-overrun doc p output text x t (made_of_plan make) late = elim late [ ]
+no-plan-overrun doc p output text x t (bounds_of_tasks bounds none are) late = elim late [ ]
 no-plan-overrun doc p output text x t (heard_steps count es a script is) late = elim late [ ]
 
 not-refused-overrun : (doc : Doc) (p : Plan) (output : Output) (r : Refusal) (x : Instance) (t : ℕ) → PlanRefusal doc p output r → PlanOverrun p output x t → ⊥
 not-refused-overrun doc p output r x t (no_script count l c fault) late = elim late [ ]
 not-refused-overrun doc p output r x t (illegal count es k why script broken) late = elim late [ ]
+not-refused-overrun doc p output r x t (not_fixed fault) late = elim late [ ]
+not-refused-overrun doc p output r x t (not_periodic task fault) late = elim late [ ]
 
 -- a plan's overrun stands in one line, after any words
 one-overrun-after : (words : List ℕ) (p : Plan) (x y : Instance) (t u : ℕ) → IsOverrun p (left_of p (service p)) t x → IsOverrun p (left_of p (service p)) u y

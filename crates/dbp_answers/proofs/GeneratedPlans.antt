@@ -4,7 +4,7 @@ use Rattle.dbp_plan.specs.declared.plan.Plan.{Plan}
 use Rattle.trace_io.specs.declared.code.Code.{Code}
 use Rattle.trace_io.specs.Texts.{Accepts, Refuses}
 use Rattle.dbp_answers.specs.Stops.{IsFaultOf}
-use Rattle.dbp_answers.specs.declared.refusal.Refusal.TheVariants.{Document, Script, Illegal}
+use Rattle.dbp_answers.specs.declared.refusal.Refusal.TheVariants.{Document, Script, Illegal, OfCommand}
 use Rattle.dbp_answers.specs.declared.stop.Stop.{Stop}
 use Rattle.dbp_answers.specs.declared.stop.Stop.TheVariants.{Refused, Overrun, NoMemory}
 
@@ -14,5 +14,6 @@ pub never-refused : ((text : List ℕ) (p : Plan) (line : ℕ) (code : Code) →
 never-refused none text p (Refused (Document line code)) accepted fault = absurd (none text p line code accepted fault)
 never-refused none text p (Refused (Script line code)) accepted fault = absurd fault
 never-refused none text p (Refused (Illegal step why)) accepted fault = absurd fault
+never-refused none text p (Refused (OfCommand code)) accepted fault = absurd fault
 never-refused none text p (Overrun line) accepted fault = absurd fault
 never-refused none text p NoMemory accepted fault = refl

@@ -2,5 +2,6 @@ pub mod AnswerLaws
 pub mod GeneratedPlans
 pub mod MeantTables
 pub mod PrintedTexts
-pub mod SlotLineLaws
+pub mod ResponseLaws
 pub mod StopLaws
+pub mod TaskLineLaws

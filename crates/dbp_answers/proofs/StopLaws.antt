@@ -30,7 +30,7 @@ use Rattle.dbp_answers.specs.Commands.{a_replay, at_text, count_of, looks, needs
 use Rattle.dbp_answers.specs.Stops.{IsFaultOf, IsStopOf, stop_of_checking, stop_of_reading, stop_of_replay, stop_of_script, stop_of_tracing}
 use Rattle.dbp_answers.specs.declared.command.Command.{Command}
 use Rattle.dbp_answers.specs.declared.command.Command.TheVariants.{Replay, Run}
-use Rattle.dbp_answers.specs.declared.refusal.Refusal.TheVariants.{Document, Script, Illegal}
+use Rattle.dbp_answers.specs.declared.refusal.Refusal.TheVariants.{Document, Script, Illegal, OfCommand}
 use Rattle.dbp_answers.specs.declared.status.Status.{Status}
 use Rattle.dbp_answers.specs.declared.stop.Stop.{Stop}
 use Rattle.dbp_answers.specs.declared.stop.Stop.TheVariants.{Refused, Overrun, NoMemory}
@@ -60,6 +60,7 @@ pub document-stop : (input : List ℕ) (command : Command) (stop : Stop) → nee
 document-stop input command (Refused (Document line code)) checks fault = no_plan line code checks fault
 document-stop input command (Refused (Script line code)) checks fault = absurd fault
 document-stop input command (Refused (Illegal step why)) checks fault = absurd fault
+document-stop input command (Refused (OfCommand code)) checks fault = absurd fault
 document-stop input command (Overrun line) checks fault = absurd fault
 document-stop input command NoMemory checks fault = tt
 

@@ -1,5 +1,5 @@
 -- What is answered if no read and no write fails.
-use Rattle.std.specs.Prelude.{◌≡◌, ℕ, Bool, true, false, List}
+use Rattle.std.specs.Prelude.{◌≡◌, ℕ, Bool, true, false, List, None, Some}
 use Rattle.dbp_rules.specs.declared.step.Count.{Count}
 use Rattle.dbp_rules.specs.declared.step.Illegal.{Illegal as Broken}
 use Rattle.dbp_rules.specs.declared.step.Step.{Step}
@@ -19,19 +19,24 @@ use Rattle.rank_order.specs.Ends.{IsOverrun, NoOverrun}
 use Rattle.rank_order.specs.Instances.{Instance}
 use Rattle.rank_order.specs.Service.{left_of}
 use Rattle.rank_order.specs.ServiceOf.{service}
+use Rattle.rta_check.specs.declared.bound.Bound.{Bound}
+use Rattle.rta_check.specs.declared.fail.RtaFail.TheVariants as rta
+use Rattle.rta_check.specs.Bounds.{AreBounds, rta_fault}
 use Rattle.sync_meaning.specs.Meaning.{IsMeaning}
 use Rattle.trace_io.specs.declared.code.Code.{Code}
 use Rattle.trace_io.specs.declared.code.Code.TheVariants.{Reading}
 use Rattle.trace_io.specs.Lines.{lines_of}
 use Rattle.trace_io.specs.Texts.{Accepts, Refuses}
 use Rattle.virtual_sim.specs.Record.{IsRecord}
+use Rattle.dbp_answers.specs.declared.command_code.CommandCode.TheVariants.{NotFixed, NotPeriodic}
 use Rattle.dbp_answers.specs.declared.command.Command.{Command}
 use Rattle.dbp_answers.specs.declared.command.Command.TheVariants.{Gen, Soak}
 use Rattle.dbp_answers.specs.declared.refusal.Refusal.{Refusal}
-use Rattle.dbp_answers.specs.declared.refusal.Refusal.TheVariants.{Document, Script, Illegal}
+use Rattle.dbp_answers.specs.declared.refusal.Refusal.TheVariants.{Document, Script, Illegal, OfCommand}
 use Rattle.dbp_answers.specs.declared.status.Status.{Status}
 use Rattle.dbp_answers.specs.declared.status.Status.TheVariants.{Ok, Overrun, Refused}
-use Rattle.dbp_answers.specs.Commands.{Output, a_replay, a_simulation, a_text_of_it, at_plan, at_text, looks, needs_plan, the_table}
+use Rattle.dbp_answers.specs.Commands.{Output, a_replay, a_simulation, a_text_of_it, at_plan, at_text, looks, needs_plan, the_response_times, the_table}
+use Rattle.dbp_answers.specs.BoundLines.{bound_lines}
 use Rattle.dbp_answers.specs.OverrunLines.{overrun_line}
 use Rattle.dbp_answers.specs.Refusals.{refusal_line}
 use Rattle.dbp_answers.specs.Summaries.{IsSummary}
@@ -41,8 +46,8 @@ abbrev pub IsInTime : Plan → Type 0
 IsInTime plan = NoOverrun plan (left_of plan (service plan))
 
 -- what is printed of an accepted document and its plan: the lines of the one table that meets the plan's equations (of a
--- simulation if no release overruns), the recorded steps of its simulation, the text that is made of the plan, or the
--- steps of the document's script with what they hear
+-- simulation if no release overruns), the recorded steps of its simulation, the text that is made of the plan, the lines
+-- of its tasks' bounds, or the steps of the document's script with what they hear
 pub data PlanText (doc : Doc) (plan : Plan) : Output → List ℕ → Type 0 where
   table_lines : (table : Table) → IsMeaning plan.diagram plan.samples plan.batches table
       → PlanText doc plan the_table (lines_of plan.diagram plan.batches table)
@@ -50,16 +55,21 @@ pub data PlanText (doc : Doc) (plan : Plan) : Output → List ℕ → Type 0 whe
       → PlanText doc plan (a_simulation false) (lines_of plan.diagram plan.batches table)
   recorded_steps : (steps : List Step) → IsRecord plan steps → PlanText doc plan (a_simulation true) (script_text plan.diagram steps)
   made_of_plan : (make : Plan → List ℕ) → PlanText doc plan (a_text_of_it make) (make plan)
+  bounds_of_tasks : (bounds : List Bound) → rta_fault plan.diagram ≡ None → AreBounds plan.diagram bounds
+      → PlanText doc plan the_response_times (bound_lines plan.diagram bounds)
   heard_steps : (count : Count) (steps : List Step) (text : List ℕ) → IsScript plan.diagram doc steps → IsReplay plan count steps text
       → PlanText doc plan (a_replay count) text
 
 -- why an accepted document is refused: a replay for the first fault of the script, and after that for the first step that
--- isn't allowed
+-- isn't allowed; for response times, because its tasks have none
 pub data PlanRefusal (doc : Doc) (plan : Plan) : Output → Refusal → Type 0 where
   no_script : (count : Count) (line : ℕ) (code : ScriptCode) → IsScriptFault plan.diagram doc line code
       → PlanRefusal doc plan (a_replay count) (Script line code)
   illegal : (count : Count) (steps : List Step) (step : ℕ) (why : Broken) → IsScript plan.diagram doc steps
       → IsIllegal plan count steps step why → PlanRefusal doc plan (a_replay count) (Illegal step why)
+  not_fixed : rta_fault plan.diagram ≡ Some rta.NotFixed → PlanRefusal doc plan the_response_times (OfCommand NotFixed)
+  not_periodic : (task : ℕ) → rta_fault plan.diagram ≡ Some (rta.NotPeriodic task)
+      → PlanRefusal doc plan the_response_times (OfCommand (NotPeriodic (declared_task plan task).name))
 
 -- the overrun of a simulation: the release of an instance, and its time
 pub data PlanOverrun (plan : Plan) : Output → Instance → ℕ → Type 0 where

@@ -8,14 +8,16 @@ use Rattle.dia_read.specs.Documents.{upgraded}
 use Rattle.dia_read.specs.declared.document.Body.{Body}
 use Rattle.dbp_answers.specs.SlotLines.{slot_lines}
 use Rattle.dbp_answers.specs.declared.command.Command.{Command}
-use Rattle.dbp_answers.specs.declared.command.Command.TheVariants.{Gen, Mean, Form, Plan as Slots, Replay, Run, Sim, Soak, Upgrade}
+use Rattle.dbp_answers.specs.declared.command.Command.TheVariants.{Gen, Mean, Form, Plan as Slots, Replay, Rta, Run, Sim, Soak, Upgrade}
 
 -- what is printed of a plan: the lines of its table, what its simulation writes (with true the steps of the record, else
--- the lines of the table), a text that is made of the plan alone, or what the steps of the document's script hear
+-- the lines of the table), a text that is made of the plan alone, the response times of its tasks, or what the steps of
+-- the document's script hear
 pub data Output : Type 0 where
   the_table : Output
   a_simulation : Bool → Output
   a_text_of_it : (Plan → List ℕ) → Output
+  the_response_times : Output
   a_replay : Count → Output
 
 -- what a command looks at: nothing; the text of the input, of whose body it prints a text; or the input's plan
@@ -37,6 +39,7 @@ looks (Run turns) = at_plan the_table
 looks Form = at_text (λ body. canonical_text body)
 looks Upgrade = at_text (λ body. canonical_text (upgraded body))
 looks Slots = at_plan (a_text_of_it (λ plan. slot_lines plan.diagram))
+looks Rta = at_plan the_response_times
 looks (Replay ranked) = at_plan (a_replay (count_of ranked))
 looks (Gen seed size) = at_nothing
 looks (Soak seed size) = at_nothing

@@ -1,8 +1,11 @@
 -- Definitions that public clauses cite.
 pub mod Answer
+pub mod BoundLines
+pub mod CommandCodes
 pub mod Commands
 pub mod OverrunLines
 pub mod Refusals
 pub mod SlotLines
 pub mod Stops
 pub mod Summaries
+pub mod TaskLines

@@ -9,8 +9,9 @@ use Rattle.dia_lines.specs.Codes.{code_name, code_number, limit_after}
 use Rattle.trace_io.specs.declared.code.Code.{Code}
 use Rattle.trace_io.specs.declared.code.Code.TheVariants.{Reading, Checking, Tracing}
 use Rattle.trace_io.specs.Traces.{trace_code_name, trace_code_number}
+use Rattle.dbp_answers.specs.CommandCodes.{command_name, command_number, words_after}
 use Rattle.dbp_answers.specs.declared.refusal.Refusal.{Refusal}
-use Rattle.dbp_answers.specs.declared.refusal.Refusal.TheVariants.{Document, Script, Illegal}
+use Rattle.dbp_answers.specs.declared.refusal.Refusal.TheVariants.{Document, Script, Illegal, OfCommand}
 
 -- the number and the name of a code
 abbrev pub numbered_name : ℕ → List ℕ → List ℕ
@@ -32,11 +33,12 @@ broken_text SlotClaimed = codes "slot claimed"
 broken_text TaskPlace = codes "not the next step of the task"
 broken_text HigherUnfinished = codes "higher rank unfinished"
 
--- `refused: line L: CODE NAME`, or `illegal step K: TEXT`
+-- `refused: line L: CODE NAME`, `illegal step K: TEXT`, or `refused: CODE NAME` and the words after it
 abbrev pub refusal_text : Refusal → List ℕ
 refusal_text (Document line code) = codes "refused: line " ++ decimal line ++ codes ": " ++ code_text code
 refusal_text (Script line code) = codes "refused: line " ++ decimal line ++ codes ": " ++ numbered_name (script_number code) (script_name code)
 refusal_text (Illegal step why) = codes "illegal step " ++ decimal step ++ codes ": " ++ broken_text why.broken
+refusal_text (OfCommand code) = codes "refused: " ++ numbered_name (command_number code) (command_name code) ++ words_after code
 
 -- ended by LF (10)
 abbrev pub refusal_line : Refusal → List ℕ

@@ -4,6 +4,7 @@ ghost use Rattle.std.specs.Prelude.{◌≡◌, ◌≤◌, ℕ, Bool, true, List 
 ghost use Rattle.dbp_plan.specs.declared.limits.TheConstants.{MAX_TEXT};
 ghost use Rattle.trace_io.specs.Texts.{Accepts};
 ghost use Rattle.virtual_sim.specs.Outcomes.{IsSimFail};
+ghost use Rattle.rta_check.specs.Bounds.{IsRtaFail};
 ghost use Rattle.dbp_replay.specs.declared.fail.ScriptCode.TheVariants.{NoScript};
 ghost use Rattle.dia_read.specs.Printable.{HasItemLines, IsPrintable};
 ghost use Rattle.dia_read.specs.declared.document.Doc.{Doc as Document};
@@ -13,19 +14,22 @@ ghost use Rattle.dbp_answers.specs.Stops.{IsStopOf, status_of_stop};
 ghost use Rattle.dbp_answers.specs.declared.command.Command.{Command as Named};
 ghost use Rattle.dbp_answers.specs.declared.refusal.Refusal.TheVariants.{Script};
 ghost use Rattle.dbp_answers.specs.declared.stop.Stop.TheVariants.{Refused};
-ghost use Rattle.dbp_answers.specs.declared.command.Command.TheVariants.{Mean, Form, Plan as Slots, Replay, Sim, Upgrade};
+ghost use Rattle.dbp_answers.specs.declared.command.Command.TheVariants.{Mean, Form, Plan as Slots, Replay, Rta, Sim, Upgrade};
 
 use crate::Status;
+use crate::bound_lines::bound_lines;
 use crate::command::Command;
+use crate::command_code::CommandCode;
 use crate::overrun_line::overrun_after;
 use crate::plan::{accepted, plan_of};
-use crate::refusal::refusal_line;
+use crate::refusal::{Refusal, refusal_line};
 use crate::slot_lines::slot_lines;
 use crate::stop::Stop;
 use dbp_core::Count;
 use dbp_plan::{NoMemory, Plan};
 use dbp_replay::{print_script, read_script, replay_owned};
 use dia_read::{Doc, an_upgraded_body_can_be_printed, print_doc, read_doc, upgrade};
+use rta_check::{RtaFail, rta};
 use std::alloc::Global;
 use std::rc::Rc;
 use sync_meaning::mean;
@@ -74,6 +78,7 @@ fn text_of(alloc: Global, command: Command, input: &[u8]) -> Result<Vec<u8>, Sto
         Command::Form => form_of(alloc, input),
         Command::Upgrade => upgrade_of(alloc, input),
         Command::Plan => slots_of(alloc, input),
+        Command::Rta => response_times_of(alloc, input),
         Command::Replay { ranked } => replay_of(alloc, ranked, input),
     }
 }
@@ -181,6 +186,34 @@ fn slots_of(alloc: Global, input: &[u8]) -> Result<Vec<u8>, Stop>
 {
     let plan = plan_of(alloc, input)?;
     Ok(slot_lines(alloc, &plan.diagram)?)
+}
+
+// The response times of the tasks of the input's plan.
+fn response_times_of(alloc: Global, input: &[u8]) -> Result<Vec<u8>, Stop>
+    requires { length input.now ≤ MAX_TEXT }
+    ensures text { IfOk result (λ text. Makes input.now Rta text.items) }
+    ensures stop { IfErr result (λ stop. IsStopOf input.now Rta stop) }
+{
+    let plan = plan_of(alloc, input)?;
+    match rta(alloc, &plan.diagram) {
+        Ok(bounds) => Ok(bound_lines(alloc, &plan.diagram, bounds.items())?),
+        Err(fail) => Err(response_stop(&plan, fail)),
+    }
+}
+
+// Why the tasks of the plan have no response times.
+fn response_stop(plan: &Plan, fail: RtaFail) -> Stop
+    requires { IsRtaFail plan.now.diagram fail }
+    ensures { (input : Items ℕ) → Accepts input plan.now → IsStopOf input Rta result }
+{
+    match fail {
+        RtaFail::NotFixed => Stop::Refused(Refusal::OfCommand(CommandCode::NotFixed)),
+        RtaFail::NotPeriodic { task } => {
+            let task = plan.diagram.tasks.items()[task as usize].name;
+            Stop::Refused(Refusal::OfCommand(CommandCode::NotPeriodic { task }))
+        }
+        RtaFail::NoMemory => Stop::NoMemory,
+    }
 }
 
 // The steps of the input's script, with what they hear.

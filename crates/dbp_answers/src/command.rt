@@ -21,6 +21,8 @@ pub enum Command {
     Upgrade,
     /// Writes the slots of each task.
     Plan,
+    /// Writes the response time of each task.
+    Rta,
     /// Takes the steps of the script, and writes what each hears: in any order of the tasks, or by their ranks.
     Replay {
         /// By their ranks.

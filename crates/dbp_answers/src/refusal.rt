@@ -2,8 +2,10 @@
 
 ghost use Rattle.std.specs.Prelude.{◌≡◌, ◌++◌, codes, decimal, IfOk, OnOk};
 ghost use Rattle.trace_io.specs.declared.code.Code.TheVariants.{Reading};
+ghost use Rattle.dbp_answers.specs.CommandCodes.{words_after};
 ghost use Rattle.dbp_answers.specs.Refusals.{broken_text, code_text, numbered_name, refusal_line, refusal_text};
 
+use crate::command_code::CommandCode;
 use dbp_core::{Broken, Illegal};
 use dbp_plan::NoMemory;
 use dbp_replay::ScriptCode;
@@ -36,9 +38,12 @@ pub enum Refusal {
         /// What the protocol asks for, and what it found.
         why: Illegal,
     },
+    /// What the command asks of a document besides.
+    OfCommand(CommandCode),
 }
 
-/// The line `refused: line L: CODE NAME`, with the limit's word after a passed limit, or `illegal step K: TEXT`.
+/// The line `refused: line L: CODE NAME`, with the limit's word after a passed limit, `illegal step K: TEXT`, or
+/// `refused: CODE NAME` with the words after it.
 pub(crate) fn refusal_line(alloc: Global, refusal: &Refusal) -> Result<Vec<u8>, NoMemory>
     ensures { IfOk result (λ text. text.items ≡ refusal_line refusal.now) }
 {
@@ -63,6 +68,11 @@ fn push_refusal(text: &mut Vec<u8>, refusal: &Refusal) -> Result<(), NoMemory>
         Refusal::Illegal { step, why } => {
             push_numbered(text, "illegal step ", *step)?;
             Ok(text.extend_from_slice(broken_text(why.broken).as_bytes())?)
+        }
+        Refusal::OfCommand(code) => {
+            text.extend_from_slice(b"refused: ")?;
+            push_name(text, code.number(), code.name())?;
+            push_words_after(text, code)
         }
     }
 }
@@ -115,6 +125,17 @@ fn push_name(text: &mut Vec<u8>, number: u32, name: &str) -> Result<(), NoMemory
     text.extend_from_slice(Buffer::new().format(number).as_bytes())?;
     text.push(b' ')?;
     text.extend_from_slice(name.as_bytes())?;
+    Ok(())
+}
+
+// Adds what stands after the code's name.
+fn push_words_after(text: &mut Vec<u8>, code: &CommandCode) -> Result<(), NoMemory>
+    ensures { OnOk result (text.new.items ≡ text.old.items ++ words_after code.now) }
+{
+    if let CommandCode::NotPeriodic { task } = code {
+        text.push(b' ')?;
+        text.extend_from_slice(task.bytes())?;
+    }
     Ok(())
 }
 

@@ -3,11 +3,14 @@ use Rattle.std.proofs.Common.{◌≡◌, ℕ, ◌<◌, true, false, List, Option
 use Rattle.std.specs.Prelude.{Bool, nat_lt}
 use Rattle.std.specs.List.{position, position_or_len}
 use Rattle.std.proofs.lemmas.Bool.{cases_Bool, cases_lt, lt-ltb}
+use Rattle.std.proofs.lemmas.List.Quantifiers.{position-Some}
 use Rattle.std.proofs.lemmas.List.Sums.{fails_before_first}
 use Rattle.dbp_plan.specs.declared.diagram.Diagram.{Diagram}
 use Rattle.dbp_plan.specs.declared.diagram.Policy.{Policy}
 use Rattle.dbp_plan.specs.declared.diagram.Policy.TheVariants.{Edf, Fp}
 use Rattle.dbp_plan.specs.declared.diagram.Task.{Task}
+use Rattle.dbp_plan.specs.Lookups.{no_declared_task}
+use Rattle.rta_check.specs.declared.fail.RtaFail.TheVariants.{NotPeriodic}
 use Rattle.rta_check.specs.Bounds.{fault_under, is_aperiodic, rta_fault}
 use Rattle.rta_check.specs.Periods.{IsPeriodic, is_periodic}
 
@@ -23,6 +26,11 @@ under_fixed Edf first none = absurd (cc)
 under_fixed Fp None none = (refl, refl)
 under_fixed Fp (Some task) none = absurd (cc)
 
+under_named : (policy : Policy) (first : Option ℕ) (i : ℕ) → fault_under policy first ≡ Some (NotPeriodic i) → first ≡ Some i
+under_named Edf first i fault = absurd (cc)
+under_named Fp None i fault = absurd (cc)
+under_named Fp (Some task) i fault = let same : Some (NotPeriodic task) ≡ Some (NotPeriodic i) = fault in cc
+
 clock_periodic : (t : Task) → is_aperiodic t ≡ false → is_periodic t.clock ≡ true
 clock_periodic t not = elim (cases_Bool (is_periodic t.clock)) [ inl is ↦ is | inr isnt ↦ absurd (cc (isnt, not)) ]
 
@@ -33,3 +41,7 @@ no_fault_fixed d none = (under_fixed d.policy (position is_aperiodic d.tasks) no
 -- and no task is on an event
 pub no_fault_periodic : (d : Diagram) → rta_fault d ≡ None → IsPeriodic d
 no_fault_periodic d none = λ k task less. clock_periodic (get_or d.tasks k task) (no_first is_aperiodic d.tasks (under_fixed d.policy (position is_aperiodic d.tasks) none).1 k task less)
+
+-- the task of a fault is one of the diagram's
+pub aperiodic_within : (d : Diagram) (i : ℕ) → rta_fault d ≡ Some (NotPeriodic i) → i < length d.tasks
+aperiodic_within d i fault = (position-Some is_aperiodic d.tasks i no_declared_task (under_named d.policy (position is_aperiodic d.tasks) i fault)).0
