@@ -31,7 +31,7 @@ pub use command_code::CommandCode;
 pub use generated::generated_plan;
 pub use laws::{
     a_bounded_input_is_simulated, a_printed_text_is_printed_again, a_recorded_script_is_replayed,
-    an_upgraded_text_has_its_plan, one_answer, response_times_or_a_refusal,
+    an_accepted_input_has_response_times, an_upgraded_text_has_its_plan, one_answer,
 };
 pub use plan::plan_of;
 pub use refusal::Refusal;

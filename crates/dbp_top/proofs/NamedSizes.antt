@@ -6,7 +6,7 @@ use Rattle.std.specs.declared.string.String.{String}
 use Rattle.dbp_top.specs.Commands.{Names, by_row, first_numbers, with_numbers}
 use Rattle.dbp_top.specs.Patterns.{AllFit, Fits, WordForm, number, size, word}
 use Rattle.dbp_answers.specs.declared.command.Command.{Command}
-use Rattle.dbp_answers.specs.declared.command.Command.TheVariants.{Form, Gen, Mean, Plan, Replay, Run, Sim, Soak, Upgrade}
+use Rattle.dbp_answers.specs.declared.command.Command.TheVariants.{Form, Gen, Mean, Plan, Replay, Rta, Run, Sim, Soak, Upgrade}
 use Rattle.dbp_top.specs.declared.numbers.Numbers.{Numbers}
 
 abbrev pub HasSize : Numbers → Type 0
@@ -37,6 +37,7 @@ sized (Run (Some turns)) given has = tt
 sized Form given has = tt
 sized Upgrade given has = tt
 sized Plan given has = tt
+sized Rta given has = tt
 sized (Replay ranked) given has = tt
 sized (Gen seed of_size) given has = has
 sized (Soak seed of_size) given has = has

@@ -4,7 +4,7 @@ use Rattle.std.specs.List.{flat_map}
 use Rattle.std.specs.declared.alloc.Global.{Global}
 use Rattle.std.specs.declared.string.String.{String}
 use Rattle.dbp_answers.specs.declared.command.Command.{Command}
-use Rattle.dbp_answers.specs.declared.command.Command.TheVariants.{Gen, Mean, Form, Plan, Replay, Run, Sim, Soak, Upgrade}
+use Rattle.dbp_answers.specs.declared.command.Command.TheVariants.{Gen, Mean, Form, Plan, Replay, Rta, Run, Sim, Soak, Upgrade}
 use Rattle.dbp_top.specs.declared.numbers.Numbers.{Numbers}
 use Rattle.dbp_top.specs.declared.table.Row.{Row}
 use Rattle.dbp_top.specs.Patterns.{AllFit, WordForm, form_of, listed_forms, number, size, word}
@@ -25,6 +25,7 @@ command_table =
     ∷ (word (codes "form") ∷ [], Form)
     ∷ (word (codes "upgrade") ∷ [], Upgrade)
     ∷ (word (codes "plan") ∷ [], Plan)
+    ∷ (word (codes "rta") ∷ [], Rta)
     ∷ (word (codes "replay") ∷ [], Replay false)
     ∷ (word (codes "replay") ∷ word (codes "--ranked") ∷ [], Replay true)
     ∷ (word (codes "gen") ∷ number [] ∷ [], Gen 0 8)

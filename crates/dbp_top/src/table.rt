@@ -20,7 +20,7 @@ struct Row {
 
 // All commands. What a user reads of them is made of this table too. The numbers of a command's words stand in the
 // place of those that it has here.
-static ROWS: [Row; 15] = [
+static ROWS: [Row; 16] = [
     Row {
         patterns: &[Pattern::Word("mean")],
         command: Command::Mean,
@@ -60,6 +60,10 @@ static ROWS: [Row; 15] = [
     Row {
         patterns: &[Pattern::Word("plan")],
         command: Command::Plan,
+    },
+    Row {
+        patterns: &[Pattern::Word("rta")],
+        command: Command::Rta,
     },
     Row {
         patterns: &[Pattern::Word("replay")],

@@ -164,7 +164,7 @@ fn words_that_are_no_command_read_and_write_nothing(rt: HostRuntime) -> Result<(
 fn commands_are_listed(rt: HostRuntime) -> Result<(), Fail> {
     assert_eq!(rt;
         command_lines(rt.alloc())?.as_str(),
-        "  mean\n  sim\n  sim --record\n  run\n  run --turns N\n  run --turns=N\n  form\n  upgrade\n  plan\n  replay\n  replay --ranked\n  gen N\n  gen N SIZE\n  soak N\n  soak N SIZE\n"
+        "  mean\n  sim\n  sim --record\n  run\n  run --turns N\n  run --turns=N\n  form\n  upgrade\n  plan\n  rta\n  replay\n  replay --ranked\n  gen N\n  gen N SIZE\n  soak N\n  soak N SIZE\n"
     );
     Ok(())
 }

@@ -10,7 +10,7 @@ use Rattle.dbp_plan.specs.declared.diagram.Policy.{Policy}
 use Rattle.dbp_plan.specs.declared.diagram.Policy.TheVariants.{Edf, Fp}
 use Rattle.dbp_plan.specs.declared.diagram.Task.{Task}
 use Rattle.dbp_plan.specs.Lookups.{no_declared_task}
-use Rattle.rta_check.specs.declared.fail.RtaFail.TheVariants.{NotPeriodic}
+use Rattle.rta_check.specs.declared.fail.RtaFail.TheVariants.{NoMemory, NotPeriodic}
 use Rattle.rta_check.specs.Bounds.{fault_under, is_aperiodic, rta_fault}
 use Rattle.rta_check.specs.Periods.{IsPeriodic, is_periodic}
 
@@ -31,6 +31,11 @@ under_named Edf first i fault = absurd (cc)
 under_named Fp None i fault = absurd (cc)
 under_named Fp (Some task) i fault = let same : Some (NotPeriodic task) ≡ Some (NotPeriodic i) = fault in cc
 
+never_memory : (policy : Policy) (first : Option ℕ) → fault_under policy first ≡ Some NoMemory → ⊥
+never_memory Edf first fault = cc
+never_memory Fp None fault = cc
+never_memory Fp (Some task) fault = let no : Some (NotPeriodic task) ≡ Some NoMemory = fault in cc
+
 clock_periodic : (t : Task) → is_aperiodic t ≡ false → is_periodic t.clock ≡ true
 clock_periodic t not = elim (cases_Bool (is_periodic t.clock)) [ inl is ↦ is | inr isnt ↦ absurd (cc (isnt, not)) ]
 
@@ -45,3 +50,7 @@ no_fault_periodic d none = λ k task less. clock_periodic (get_or d.tasks k task
 -- the task of a fault is one of the diagram's
 pub aperiodic_within : (d : Diagram) (i : ℕ) → rta_fault d ≡ Some (NotPeriodic i) → i < length d.tasks
 aperiodic_within d i fault = (position-Some is_aperiodic d.tasks i no_declared_task (under_named d.policy (position is_aperiodic d.tasks) i fault)).0
+
+-- and the fault isn't out of memory
+pub no_memory_fault : (d : Diagram) → rta_fault d ≡ Some NoMemory → ⊥
+no_memory_fault d fault = never_memory d.policy (position is_aperiodic d.tasks) fault
