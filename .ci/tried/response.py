@@ -177,6 +177,11 @@ def difference(found, wanted):
     return None
 
 
+def is_reached(drawn):
+    """Whether the first instances of a drawn document reach the bounds: those of tasks with a period, all with offset 0."""
+    return drawn.rta()[0] == model.OK and None not in drawn.bounds() and not any(it.offset for it in drawn.tasks)
+
+
 def drawn_fault(program, drawn, is_told):
     """Returns how what the tool says of a drawn document differs from what the walk gives, or nothing; with bounds that
     are told by `rta`, or not."""
@@ -194,6 +199,8 @@ def drawn_fault(program, drawn, is_told):
             return f"{drawn.tasks[place].name}: {difference(row, wanted) or list(row)}"
         if is_number and bound < wanted["greatest"]:
             return f"the bound {bound} of {drawn.tasks[place].name} is below {wanted['greatest']}"
+        if is_reached(drawn) and bound != wanted["greatest"]:
+            return f"the bound {bound} of {drawn.tasks[place].name} isn't reached with all offsets 0"
     wanted = {"chain": wanted_chain(walk, chain) if chain else {}, "verdicts": wanted_verdicts(walk, bounds)}
     wanted["load"] = float(f"{-(-1000 * sum(loads_of(drawn, distances)) // 1) / 1000:.3f}")
     return difference(found, wanted) or difference(found["bounds"], {"by": by, "is_proved": by == "dbp rta"})
