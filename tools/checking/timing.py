@@ -22,8 +22,8 @@ OVERRUN_LINE = re.compile(rb"overrun: (\w+) ([0-9]+) at ([0-9]+)\n")
 
 
 def responses_by_program(run, text, document):
-    """Returns the bound on the response times of each task by `dbp rta`; nothing if it has no answer, or if the tasks are on
-    several processors."""
+    """Returns the bound on the response times of each task by `dbp rta`; nothing if it has no answer, or if a task is on
+    another processor than 0."""
     if any(task.head.number("cpu", 0) for task in document.tasks):
         return None
     ran = run(["rta"], text)
