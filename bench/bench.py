@@ -67,8 +67,12 @@ def rows_of_tables():
 
 def rows_of_texts():
     """Yields the rows of the other commands."""
-    yield Row("plan", "0.9 MB of expressions", documents.expressions())
+    for command in ("plan", "rta"):
+        yield Row(command, "0.9 MB of expressions", documents.expressions())
     yield Row("plan", "128 reads", documents.many_reads(100_000))
+    yield Row("rta", "30 tasks below a full processor", documents.rates(documents.FULL_ABOVE))
+    yield Row("rta", "27 tasks below one nearly full", documents.rates(documents.NEARLY_FULL_ABOVE))
+    yield Row("rta", "9 tasks of several scales", documents.rates(documents.SEVERAL_SCALES))
     for command in ("form", "upgrade"):
         yield Row(command, "0.9 MB of expressions", documents.expressions())
         yield Row(command, "50000 rows of 12 columns", documents.trace(50_000, 6, 6))

@@ -2,6 +2,14 @@
 
 MOST_BYTES = 1_048_576
 
+# Periods and costs of tasks, by falling rank, whose response times take long to find if one adds what is asked for again
+# and again: tasks above fill the processor; they leave one part of 3,263,442 of it; or periods are of several scales.
+LONG = 1_000_000_000
+FULL_ABOVE = [(2, 1)] * 2 + [(LONG, 1)] * 30
+NEARLY_FULL_ABOVE = [(2, 1), (3, 1), (7, 1), (43, 1), (1807, 1)] + [(LONG, 1)] * 27
+SEVERAL_SCALES = [(71345, 64210), (16404, 820), (11733, 581), (344297, 170), (867014, 1), (866274, 5), (999791001, 1),
+                  (999195539, 1), (999200173, 1000000)]
+
 
 def text_of(*lines, version=1):
     """Returns the document of these lines between the header and `done`."""
@@ -81,6 +89,14 @@ def preempted_in_turn(ticks):
     lines.append("task low every 4096 prio 1 cost 100")
     lines += [f"  read x{read} = t{read % 5}.y at {12 * read}" for read in range(8)]
     return text_of(*lines, "  out y = 0 then " + " + ".join(f"x{read}" for read in range(8)))
+
+
+def rates(tasks):
+    """Tasks by their periods and costs, by falling rank, of which each occurs once."""
+    lines = ["policy fp", "until 1"]
+    for task, (period, cost) in enumerate(tasks):
+        lines += [f"task t{task} every {period} prio {len(tasks) - task} cost {cost}", "  out y = 0 then 0"]
+    return text_of(*lines)
 
 
 def expressions():

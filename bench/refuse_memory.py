@@ -29,6 +29,7 @@ COMMANDS = (
     ["form"],
     ["upgrade"],
     ["plan"],
+    ["rta"],
     ["replay"],
     ["replay", "--ranked"],
 )

@@ -1,4 +1,5 @@
-"""Generated documents, made a second time here: their text, the lines of their meaning, and their summary."""
+"""Generated documents, made a second time here: their text, the lines of their meaning, their response times, and their
+summary."""
 
 BITS = (1 << 64) - 1
 
@@ -66,6 +67,11 @@ def rows_of(tasks, size):
     return b"".join(lines), values
 
 
+def responses(tasks):
+    """Returns the lines of the response times: each cost is 1, the ranks fall, and no period is below the number of tasks."""
+    return "".join(f"t{place},{place + 1},{task.period}\n" for place, task in enumerate(tasks)).encode()
+
+
 def links_of(tasks):
     direct = {(writer, place, 0) for place, task in enumerate(tasks) for writer in task.early}
     return direct | {(task.late, place, 1) for place, task in enumerate(tasks) if task.late is not None}
@@ -88,7 +94,11 @@ def cases():
         for words in ("mean", "sim", "run"):
             yield f"{words} of {name}", [words], text, 0, lines
         yield f"form of {name}", ["form"], text, 0, text
+        yield f"rta of {name}", ["rta"], text, 0, responses(tasks)
         yield f"soak {name}", ["soak", str(seed), str(size)], b"not read", 0, summary(tasks, values)
+    for size in range(1, 33):
+        tasks = tasks_of(size, size)
+        yield f"rta of {size}, {size}", ["rta"], document(tasks, size), 0, responses(tasks)
     eight = tasks_of(7, 8)
     yield "gen without a size", ["gen", "7"], b"", 0, document(eight, 8)
     yield "gen with zeros", ["gen", "007", "08"], b"", 0, document(eight, 8)

@@ -1,5 +1,8 @@
 """Drawn documents of tasks with costs and deadlines, each with drawn offsets; who is served is walked through here tick by
-tick. `sim` prints the overrun that the walk finds, or the lines of all instances.
+tick. `sim` prints the overrun that the walk finds, or the lines of all instances. `rta` prints the bounds of a plain formula.
+
+Drawn diagrams of several rates have bounds, and some of them none for some tasks. If each task of such a diagram has one,
+`sim` has status 0 with whatever offsets; else it has 3 with all offsets 0.
 
 The trial of tools/response compares its figures with those of the walk, and its bounds with the plain formula.
 """
@@ -8,6 +11,8 @@ import random
 from dataclasses import dataclass, field
 
 DOCUMENTS, OFFSETS = 30, 3
+DIAGRAMS, OFFSETS_OF_DIAGRAMS = 120, 4
+OK, REFUSED, OVERRUN = 0, 1, 3
 UNTIL = 60
 EVENTS = ("e", "f")
 
@@ -68,6 +73,21 @@ class Drawn:
         for time, (value, events) in self.rows.items():
             lines.append(",".join([str(time), value, *("1" if it in events else "" for it in EVENTS)]))
         return "\n".join([*lines, "done", ""]).encode()
+
+    def bounds(self):
+        """Returns the bound of each task by the plain formula, if all are periodic: nothing where there is none."""
+        tasks = [(task.clock, task.cost, self.rank(place)) for place, task in enumerate(self.tasks)]
+        return [response_bound(tasks, place) for place in range(len(tasks))]
+
+    def rta(self):
+        """Returns the exit status and the lines of `rta`."""
+        if self.policy == "edf":
+            return REFUSED, b"refused: 31 NotFixed\n"
+        for task in self.tasks:
+            if task.condition or task.clock in EVENTS:
+                return REFUSED, f"refused: 32 NotPeriodic {task.name}\n".encode()
+        told = zip(self.tasks, self.bounds())
+        return OK, "".join(f"{it.name},{bound or 'beyond'},{it.clock}\n" for it, bound in told).encode()
 
     def occurs(self, task, time, value):
         """Whether a task occurs at a time at which the input x has a value."""
@@ -176,8 +196,8 @@ class Walk:
         """Returns the exit status and the lines of `sim`."""
         if self.overrun:
             place, number, time = self.overrun
-            return 3, f"overrun: t{place} {number} at {time}\n".encode()
-        return 0, "".join(f"{it.release},t{it.task},{it.number},1\n" for it in self.instances).encode()
+            return OVERRUN, f"overrun: t{place} {number} at {time}\n".encode()
+        return OK, "".join(f"{it.release},t{it.task},{it.number},1\n" for it in self.instances).encode()
 
 
 def response_bound(tasks, at):
@@ -195,21 +215,29 @@ def response_bound(tasks, at):
     return None
 
 
-def rta_answer(text):
-    """Returns the exit status and the lines of `rta` for a document in canonical order of words."""
-    lines = [line.split() for line in text.decode().splitlines()]
-    tasks = [words for words in lines if words[:1] == ["task"]]
-    if ["policy", "edf"] in lines:
-        return 1, "refused: 31 NotFixed\n"
-    for words in tasks:
-        if "every" not in words or "when" in words:
-            return 1, f"refused: 32 NotPeriodic {words[1]}\n"
-    number = {word: [int(words[words.index(word) + 1]) for words in tasks] for word in ("every", "prio", "cost")}
-    ranks = [(-prio, at) for at, prio in enumerate(number["prio"])]
-    plain = list(zip(number["every"], number["cost"], ranks))
-    found = [response_bound(plain, at) for at in range(len(tasks))]
-    told = (f"{words[1]},{bound or 'beyond'},{plain[at][0]}\n" for at, (words, bound) in enumerate(zip(tasks, found)))
-    return 0, "".join(told)
+def drawn_diagram(seed):
+    """Returns a diagram of several rates under fixed priorities, some of them equal, without links and offsets."""
+    draw = random.Random(f"rates {seed}")
+    tasks = []
+    for place in range(draw.randrange(2, 8)):
+        period = draw.choice([draw.randrange(2, 12), draw.randrange(10, 41)])
+        cost = max(1, period // draw.randrange(4, 20))
+        tasks.append(Task(f"t{place}", period, 0, False, draw.randrange(5), None, cost))
+    return Drawn("fp", tasks, {})
+
+
+def cases_of_diagrams():
+    """Yields the cases of the drawn diagrams: `rta`, and `sim` with all offsets 0 and with drawn ones."""
+    for seed in range(DIAGRAMS):
+        drawn, draw = drawn_diagram(seed), random.Random(f"offsets {seed}")
+        yield f"rta of diagram {seed}", ["rta"], drawn.text(), *drawn.rta()
+        is_bounded = None not in drawn.bounds()
+        for offsets in range(OFFSETS_OF_DIAGRAMS):
+            for task in drawn.tasks if offsets else ():
+                task.offset = draw.randrange(task.clock)
+            status, lines = Walk(drawn).answer()
+            wanted = OK if is_bounded else status if offsets else OVERRUN
+            yield f"sim of diagram {seed} with offsets {offsets}", ["sim"], drawn.text(), wanted, lines
 
 
 def cases():
@@ -218,3 +246,5 @@ def cases():
             drawn = drawn_document(seed, offsets)
             status, lines = Walk(drawn).answer()
             yield f"sim of document {seed} with offsets {offsets}", ["sim"], drawn.text(), status, lines
+            yield f"rta of document {seed} with offsets {offsets}", ["rta"], drawn.text(), *drawn.rta()
+    yield from cases_of_diagrams()

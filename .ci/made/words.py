@@ -7,13 +7,14 @@ NO_COMMANDS = (
     "gen", "soak", "gen -1", "gen +1", "gen 18446744073709551616", "gen 1 0", "gen 1 33", "gen 1 -1", "gen 1 +1", "gen 1 8 8", "gen 1 000000000000000000008", "gen x", "gen 1 x",
     "soak -1", "soak 18446744073709551616", "soak 1 0", "soak 1 33", "soak 1 8 8", "gen --seed 1", "soak 1 --turns 1",
     "upgrade x", "upgrade 2", "upgrade --record", "upgrade --ranked", "upgrade --turns 1", "upgrade upgrade", "upgrade form", "form upgrade", "--upgrade", "Upgrade", "upgrad",
-    "upgrades", "form --record", "form form",
+    "upgrades", "form --record", "form form", "rta x", "rta --record", "rta --ranked", "rta --turns 1", "rta 2", "rta rta", "rta mean", "plan rta", "--rta", "Rta", "RTA", "rt",
+    "rtas",
 )
 
 # Words that are empty, or have blanks in them.
 WITH_BLANKS = (
     [""], [" "], ["", "mean"], ["mean", ""], ["upgrade", ""], ["", "upgrade"], ["upgrade", " "], ["upgrade "], [" upgrade"], ["upgrade x"], ["form", ""], ["sim --record"],
-    ["run", "--turns", ""], ["run", "--turns", " 9"],
+    ["run", "--turns", ""], ["run", "--turns", " 9"], ["rta", ""], ["", "rta"], ["rta", " "], ["rta "], [" rta"], ["rta x"],
 )
 
 

@@ -1,11 +1,15 @@
 """tools/check: the first error of each refused case is the program's and is found in the document too, accepted cases
-have no error, and documents with each kind of message give exactly the text beside them."""
+have no error, and documents with each kind of message give exactly the text beside them.
+
+A case that a command refuses without a line has no error either: the document has no fault.
+"""
 
 import importlib.util
 import json
 import re
 import subprocess
 import sys
+import tempfile
 from concurrent.futures import ThreadPoolExecutor
 from functools import partial
 from pathlib import Path
@@ -14,7 +18,7 @@ TOP = Path(__file__).resolve().parents[2]
 CHECK = TOP / "tools" / "check"
 WRITTEN = Path(__file__).resolve().parent / "check"
 
-sys.path.insert(0, str(TOP / "tools"))
+sys.path[:0] = [str(TOP / "tools"), str(TOP / ".ci")]
 
 from checking.command import judged  # noqa: E402
 from checking.illegal import illegal_of  # noqa: E402
@@ -22,11 +26,13 @@ from checking.messages import Severity  # noqa: E402
 from checking.printed import as_json, objects, plain  # noqa: E402
 from checking.verdicts import NOT_FOUND, Command, Judged, refusal_of  # noqa: E402
 from program import run_program  # noqa: E402
+from stand_ins import without_rta  # noqa: E402
 
 MOST_MADE = 100_000
 COMMANDS = {("replay",): Command.REPLAY, ("replay", "--ranked"): Command.RANKED}
 READING_ALONE = (["form"], ["upgrade"])
 WITH_JSON = ("unknown_links", "accepted_with_warnings", "illegal_step")
+WITH_SUMS = ("beyond", "overrun")  # beside these stands what is told without response times, too
 EXAMPLE = TOP / "examples" / "preempted.dbp"
 TOO_LARGE = b"#" * 1048577
 
@@ -111,14 +117,20 @@ def all_of(program, cases):
         return "; ".join(f"{name}: {text}" for name, text in found if text) or None
 
 
-def written(program, document):
+def written(program, document, ending="stderr"):
     """Returns how the text of a document's messages, or its status, differs from what stands beside it, or nothing."""
     status = Path(f"{document}.status")
     wanted = int((status if status.is_file() else WRITTEN / "status").read_text())
     found, lines, messages = judged(program, str(document), None)
     if found != wanted:
         return f"the status is {found}, and {wanted} is wanted"
-    return first_difference(plain(document.name, lines, messages), Path(f"{document}.stderr").read_text())
+    return first_difference(plain(document.name, lines, messages), Path(f"{document}.{ending}").read_text())
+
+
+def written_with_sums(program, document):
+    """Returns the same with a program that has no command `rta`: then sums of costs and periods are told."""
+    with tempfile.TemporaryDirectory() as room:
+        return written(without_rta(program, room), document, "sums.stderr")
 
 
 def first_difference(found, wanted):
@@ -171,6 +183,8 @@ def trials(program):
     yield "other documents", partial(other_documents, program)
     for document in sorted(WRITTEN.glob("*.dbp")):
         yield f"the text of {document.stem}", partial(written, program, document)
+    for name in WITH_SUMS:
+        yield f"the text of {name}, without `rta`", partial(written_with_sums, program, WRITTEN / f"{name}.dbp")
     for name in WITH_JSON:
         yield f"the JSON of {name}", partial(json_of, program, WRITTEN / f"{name}.dbp")
     yield "the problem matcher of docs/TOOLS.md", partial(matcher_of_docs, program)

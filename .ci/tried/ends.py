@@ -66,7 +66,7 @@ PICTURES = (("timeline", []), ("diagram", []), ("diagram", ["--dot"]), ("respons
 WRITERS = (*PICTURES, ("waves", []), ("waves", TABLE), ("response", []))
 
 # A program that isn't dbp, and the status of each tool with it.
-OTHERS = {"/bin/true": (0, 70), "/bin/false": (70, 1), "/bin/echo": (70, 70), "/etc/passwd": (70, 70), "/etc": (70, 70)}
+OTHERS = {"/bin/true": (70, 70), "/bin/false": (70, 1), "/bin/echo": (70, 70), "/etc/passwd": (70, 70), "/etc": (70, 70)}
 
 # Writes half of a file, and then gets a signal: the number of the signal and the file are its words.
 HALF = """

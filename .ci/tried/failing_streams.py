@@ -9,6 +9,8 @@ from pathlib import Path
 EXAMPLES = Path(__file__).resolve().parents[2] / "examples"
 EXAMPLE = EXAMPLES / "two_rates.dbp"
 UNKNOWN = EXAMPLES / "refused" / "11_unknown.dbp"
+NOT_FIXED = EXAMPLES / "refused_rta" / "31_not_fixed.dbp"
+NOT_PERIODIC = EXAMPLES / "refused_rta" / "32_not_periodic.dbp"
 NO_LINES = b"dbp 1\npolicy fp\nuntil 0\ndone\n"
 
 # The name, the words, the document or None for one that can't be read, whether the output can't be written, and the
@@ -26,6 +28,13 @@ TRIALS = [
     ("unwritten upgrade", ["upgrade"], EXAMPLE.read_bytes(), True, 5),
     ("unwritten upgrade of names that are not there", ["upgrade"], UNKNOWN.read_bytes(), True, 5),
     ("unwritten refusal of an upgrade", ["upgrade"], b"", True, 5),
+    ("unread document of response times", ["rta"], None, False, 4),
+    ("unread document of response times, and no output", ["rta"], None, True, 4),
+    ("unwritten response times", ["rta"], EXAMPLE.read_bytes(), True, 5),
+    ("unwritten refusal before response times", ["rta"], UNKNOWN.read_bytes(), True, 5),
+    ("unwritten refusal of response times by a policy", ["rta"], NOT_FIXED.read_bytes(), True, 5),
+    ("unwritten refusal of response times by a task", ["rta"], NOT_PERIODIC.read_bytes(), True, 5),
+    ("no response times to be written", ["rta"], NO_LINES, True, 0),
     ("unread canonical text", ["form"], None, False, 4),
     ("unwritten canonical text", ["form"], EXAMPLE.read_bytes(), True, 5),
     ("nothing to be written", ["mean"], NO_LINES, True, 0),

@@ -1,7 +1,6 @@
 """tools/response: its figures of drawn documents are those of a plain walk through the ticks, and no bound of `rta` is below
-a response time; its forms, its verdicts, its statuses, and its times with 100,000 occurrences.
-
-If the program doesn't answer `rta`, a program in between does so, by the plain formula of .ci/made/responses.py.
+a response time; its forms, its verdicts, its statuses, and its times with 100,000 occurrences. Where no bounds are told,
+a program in between has no command `rta`.
 """
 
 import csv
@@ -11,7 +10,7 @@ import subprocess
 import sys
 import tempfile
 from fractions import Fraction
-from functools import lru_cache, partial
+from functools import partial
 from pathlib import Path
 from xml.etree import ElementTree
 
@@ -26,7 +25,7 @@ from responses.chains import Port  # noqa: E402
 from responses.command import judged  # noqa: E402
 from responses.tables import json_text  # noqa: E402
 from running import run  # noqa: E402
-from stand_ins import write_program  # noqa: E402
+from stand_ins import between, without_rta  # noqa: E402
 
 SPEC = importlib.util.spec_from_file_location("model_of_responses", MODEL)
 model = importlib.util.module_from_spec(SPEC)
@@ -170,39 +169,17 @@ def wanted_chain(walk, chain):
     return {"age": greatest(ages), "reaction": greatest(reactions)}
 
 
-def between(program, room, answer):
-    """Returns a program that answers `rta` by a line of the shell, and all else as another one."""
-    file = Path(room) / "program"
-    write_program(file, f"#!/bin/sh\ncase \"$*\" in rta) {answer};; esac\nexec '{program}' \"$@\"\n")
-    return str(file)
-
-
-@lru_cache(maxsize=None)
-def has_rta(program):
-    """Whether the program has the command `rta`."""
-    return subprocess.run([program, "rta"], input=one_task(9), capture_output=True, check=False).returncode == 0
-
-
-def with_rta(program, room, text):
-    """Returns a program that answers `rta` for a document, whatever its offsets are."""
-    if has_rta(str(program)):
-        return str(program)
-    status, lines = model.rta_answer(text)
-    (Path(room) / "answer").write_text(lines)
-    return between(program, room, f"cat '{room}/answer'; exit {status}")
-
-
-def without_rta(program, room, _):
-    """Returns a program that has no command `rta`."""
-    return between(program, room, "exit 2")
-
-
 def difference(found, wanted):
     """Returns the first part in which what is found differs from what is wanted, or nothing."""
     for name in wanted:
         if found.get(name, "nothing") != wanted[name]:
             return f"{name} is {found.get(name, 'nothing')}, and {wanted[name]} is wanted"
     return None
+
+
+def is_reached(drawn):
+    """Whether the first instances of a drawn document reach the bounds: those of tasks with a period, all with offset 0."""
+    return drawn.rta()[0] == model.OK and None not in drawn.bounds() and not any(it.offset for it in drawn.tasks)
 
 
 def drawn_fault(program, drawn, is_told):
@@ -222,6 +199,8 @@ def drawn_fault(program, drawn, is_told):
             return f"{drawn.tasks[place].name}: {difference(row, wanted) or list(row)}"
         if is_number and bound < wanted["greatest"]:
             return f"the bound {bound} of {drawn.tasks[place].name} is below {wanted['greatest']}"
+        if is_reached(drawn) and bound != wanted["greatest"]:
+            return f"the bound {bound} of {drawn.tasks[place].name} isn't reached with all offsets 0"
     wanted = {"chain": wanted_chain(walk, chain) if chain else {}, "verdicts": wanted_verdicts(walk, bounds)}
     wanted["load"] = float(f"{-(-1000 * sum(loads_of(drawn, distances)) // 1) / 1000:.3f}")
     return difference(found, wanted) or difference(found["bounds"], {"by": by, "is_proved": by == "dbp rta"})
@@ -235,11 +214,9 @@ def loads_of(drawn, distances):
 def seed_fault(program, seed, offsets):
     """Returns what differs of the documents of a seed with so many offsets, with `rta` each, and one without."""
     documents = [model.drawn_document(seed, number) for number in range(offsets)]
+    faults = [drawn_fault(str(program), it, True) for it in documents]
     with tempfile.TemporaryDirectory() as room:
-        used = with_rta(program, room, documents[0].text())
-        faults = [drawn_fault(used, it, True) for it in documents]
-    with tempfile.TemporaryDirectory() as room:
-        faults.append(drawn_fault(without_rta(program, room, b""), documents[0], False))
+        faults.append(drawn_fault(without_rta(program, room), documents[0], False))
     return next((f"offsets {number}: {fault}" for number, fault in enumerate(faults) if fault), None)
 
 
@@ -252,7 +229,7 @@ def call(program, words, document=b""):
 def exact_fault(program, file, way, status, words):
     """Returns how what a call writes differs from a file: what comes on standard output, and then on standard error."""
     with tempfile.TemporaryDirectory() as room:
-        ran = call(WAYS[way](program, room, (TOP / words[-1]).read_bytes()), words)
+        ran = call(WAYS[way](program, room), words)
     wanted = (WANTED / file).read_bytes()
     is_wanted = ran.returncode == status and ran.stdout + ran.stderr == wanted
     return None if is_wanted else f"the status is {ran.returncode}; it wrote {(ran.stdout + ran.stderr).decode()[:600]!r}"
@@ -268,17 +245,15 @@ def status_fault(program, words, status, said):
 def answered_fault(program, answer, status, said):
     """Returns how the tool ends if the program answers `rta` otherwise than it may."""
     with tempfile.TemporaryDirectory() as room:
-        return status_fault(between(program, room, answer), ["examples/cascade.dbp"], status, said)
+        return status_fault(between(program, room, "rta", answer), ["examples/cascade.dbp"], status, said)
 
 
 def tampered_fault(program):
     """Returns how the tool ends if the record isn't the one of the computed order."""
     with tempfile.TemporaryDirectory() as room:
-        file = Path(room) / "program"
-        record = f"\"sim --record\") '{program}' \"$@\" | sed '33d'; exit 0"
-        write_program(file, f"#!/bin/sh\ncase \"$*\" in {record};; esac\nexec '{program}' \"$@\"\n")
+        tampering = between(program, room, "sim --record", f"'{program}' \"$@\" | sed '33d'; exit 0")
         said = "response: preempted.dbp: the record and the computed order differ at tick 4: step 33 is `end control`"
-        return status_fault(str(file), ["examples/preempted.dbp"], 1, said)
+        return status_fault(tampering, ["examples/preempted.dbp"], 1, said)
 
 
 def texts_of(picture, name):
@@ -300,7 +275,7 @@ def worst_fault(program, document, task, number, ticks):
 def histogram_fault(program, document, task, way):
     """Returns how the bars of a histogram, and the lines of the limit and the bound, differ from the tool's figures."""
     with tempfile.TemporaryDirectory() as room:
-        used = WAYS[way](program, room, (TOP / document).read_bytes())
+        used = WAYS[way](program, room)
         ran = call(used, ["--histogram", task, document])
         table = call(used, ["--csv", document]).stdout.decode().splitlines()
     row = next(it for it in csv.DictReader(table) if it["task"] == task)
@@ -344,25 +319,21 @@ def least_response_fault():
     return None if (found, full) == ([3_263_442, 6_526_884, 88_112_934], None) else f"it is {found} and {full}"
 
 
-WAYS = {
-    "with rta": with_rta,
-    "without rta": without_rta,
-    "plain": lambda program, *_: str(program),
-}
+WAYS = {"with rta": lambda program, _: str(program), "without rta": without_rta}
 
 CHAIN = ["--chain", "level.y,control.u,display.line"]
 
 # A file with what is wanted, whether the program answers `rta`, the status, and the words.
 EXACT = (
     ("alarm.txt", "without rta", 1, [".ci/tried/response/alarm.dbp"]),
-    ("alarm.assumed.txt", "plain", 1, ["--assume-distance", "alarm=20", ".ci/tried/response/alarm.dbp"]),
-    ("alarm.nearer.txt", "plain", 1, ["--assume-distance=alarm=28", ".ci/tried/response/alarm.dbp"]),
+    ("alarm.assumed.txt", "with rta", 1, ["--assume-distance", "alarm=20", ".ci/tried/response/alarm.dbp"]),
+    ("alarm.nearer.txt", "with rta", 1, ["--assume-distance=alarm=28", ".ci/tried/response/alarm.dbp"]),
     ("alarm.refused.txt", "with rta", 1, [".ci/tried/response/alarm.dbp"]),
     ("late_at_the_overrun.txt", "with rta", 1, [".ci/tried/response/late_at_the_overrun.dbp"]),
     ("two_ways.txt", "with rta", 0, [*CHAIN, ".ci/tried/response/two_ways.dbp"]),
     ("two_ways.json", "without rta", 0, [*CHAIN, "--json", ".ci/tried/response/two_ways.dbp"]),
     ("two_ways.csv", "with rta", 0, ["--csv", ".ci/tried/response/two_ways.dbp"]),
-    ("nothing.csv", "plain", 0, ["--csv", ".ci/tried/response/nothing.dbp"]),
+    ("nothing.csv", "with rta", 0, ["--csv", ".ci/tried/response/nothing.dbp"]),
     ("nothing.txt", "with rta", 0, ["--chain", "a.y,b.y", ".ci/tried/response/nothing.dbp"]),
 )
 
@@ -430,7 +401,7 @@ def trials(program):
     for document, task, *wanted in WORST:
         yield f"--worst {task} of {document}", partial(worst_fault, program, document, task, *wanted)
     for document, task in HISTOGRAMS:
-        for way in ("with rta", "without rta"):
+        for way in WAYS:
             yield f"--histogram {task} of {document}, {way}", partial(histogram_fault, program, document, task, way)
     yield "the bars of a histogram", partial(mean_of_bars_fault, program)
     yield "bounds that take long to walk up to", least_response_fault

@@ -16,6 +16,7 @@ OTHERS = (
     ["sim", "--record"],
     ["run", "--turns", "1"],
     ["plan"],
+    ["rta"],
     ["replay"],
     ["replay", "--ranked"],
 )

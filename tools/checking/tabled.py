@@ -24,12 +24,12 @@ MOST_COPIES = 4
 MOST_NAMES = 32  # an expression with 64 nodes has this many names, and a `min` or `max` between each two
 
 
-def table_warnings(run, text, document):
+def table_warnings(run, text, document, responses):
     """Yields the warnings of a document's table, and of its simulation, which gives the same table or an overrun."""
     asked = asked_columns(document)
     columns, left = columns_of_copy(document, asked, keeps_all=True)
     copy = copy_of(document, columns)
-    command = ["mean"] if is_surely_in_time(document) else ["sim"]
+    command = ["mean"] if is_surely_in_time(document, responses) else ["sim"]
     table = run(command, copy)
     if table.status not in (Status.DONE, Status.OVERRUN):  # the copy may be too large
         columns, left = columns_of_copy(document, [], keeps_all=True)

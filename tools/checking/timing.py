@@ -1,6 +1,7 @@
-"""Warnings of a simulation: the release that overruns, and the first instance that ends after its deadline.
+"""Warnings of response times by the command `rta`, and of a simulation: the release that overruns, and the first instance
+that ends after its deadline.
 
-The program simulates a document, unless its periods and costs show that no release can come too early.
+The program simulates a document, unless response times, or periods and costs alone, show that no release can come too early.
 """
 
 import re
@@ -13,18 +14,50 @@ from ending import Status
 from pictures.asking import cut_text
 from pictures.record import Disagreement, must_record
 from pictures.service import serve
-from responses.bounds import Demand, least_response
+from responses.bounds import BEYOND, Demand, least_response, told_bounds
 from responses.lateness import first_late, least_distance
 
 NEVER = 10**20  # the period of a task that occurs once, or not at all
 OVERRUN_LINE = re.compile(rb"overrun: (\w+) ([0-9]+) at ([0-9]+)\n")
 
 
-def is_surely_in_time(document):
-    """Whether each instance ends before the next one of its task and by its deadline, by periods and costs alone.
+def responses_by_program(run, text, document):
+    """Returns the bound on the response times of each task by `dbp rta`; nothing if it has no answer, or if a task is on
+    another processor than 0."""
+    if any(task.head.number("cpu", 0) for task in document.tasks):
+        return None
+    ran = run(["rta"], text)
+    return told_bounds(document, ran.stdout) if ran.status == Status.DONE else None
 
-    That is a test for the worst case: a document that it doesn't pass may be in time.
+
+def response_warnings(document, responses):
+    """Yields a warning of each task that has no response time within its period, or one above its deadline."""
+    for task, response in zip(document.tasks, responses):
+        head, deadline = task.head, task.head.number("deadline")
+        if response == BEYOND:
+            text = f"the task `{task.name}` has no response time within its period: with some offsets a release meets an "
+            text += "unfinished instance; `dbp sim` says whether with these"
+            yield warning(head.line, head.name, "Beyond", text)
+        elif deadline is not None and response > deadline:
+            text = f"the response time of the task `{task.name}` is {response} by `dbp rta`, above its deadline {deadline}: "
+            text += "with some offsets an instance may end too late"
+            yield warning(head.line, head.numbers["deadline"], "ResponseAboveDeadline", text)
+
+
+def is_surely_in_time(document, responses):
+    """Whether each instance ends before the next one of its task and by its deadline, whatever the offsets are.
+
+    A document for which that isn't so may be in time.
     """
+    if responses is None:
+        return is_in_time_by_sums(document)
+    deadlines = [task.head.number("deadline") for task in document.tasks]
+    pairs = zip(responses, deadlines)
+    return all(response != BEYOND and (deadline is None or response <= deadline) for response, deadline in pairs)
+
+
+def is_in_time_by_sums(document):
+    """Whether that is so by periods, costs and deadlines alone, where the program has no response times."""
     tasks, events = ranks_of(document), times_of_events(document)
     demands = [Demand(task.head.number("cost"), least_period(task, events)) for task in tasks]
     lengths = [min(it.distance, task.head.number("deadline", it.distance)) for task, it in zip(tasks, demands)]
@@ -53,9 +86,10 @@ def overrun_warnings(document, ran):
         yield warning(head.line, head.name, "Overrun", text)
 
 
-def late_warnings(run, text, document):
+def late_warnings(run, text, document, responses):
     """Yields a warning of the first instance that ends after its deadline, if the program's record agrees."""
-    if not any("deadline" in task.head.numbers for task in document.tasks) or is_surely_in_time(document):
+    has_deadlines = any("deadline" in task.head.numbers for task in document.tasks)
+    if not has_deadlines or is_surely_in_time(document, responses):
         return
     form = run(["form"], text)
     canonical = read_document(form.stdout)

@@ -7,7 +7,7 @@ from checking.formulas import formula_warnings
 from checking.messages import Note, Severity, warning, warning_over
 from checking.ranks import CODES, key_of
 from checking.tabled import table_warnings
-from checking.timing import late_warnings
+from checking.timing import late_warnings, response_warnings, responses_by_program
 from checking.trace import row_of
 from program import read_as_answer
 from responses.numbers import decimal
@@ -18,9 +18,12 @@ VALUES = ("state", "sense", "read", "let")
 def warnings_of(run, text, document):
     """Returns the warnings of a document whose diagram and trace the program accepts."""
     with read_as_answer("the program"):
+        responses = responses_by_program(run, text, document)
         found = [it for warned_of in OF_DOCUMENT for it in warned_of(document)]
+        found += sum_warnings(document) if responses is None else response_warnings(document, responses)
         found += formula_warnings(run, document)
-        return [*found, *table_warnings(run, text, document), *late_warnings(run, text, document)]
+        found += table_warnings(run, text, document, responses)
+        return [*found, *late_warnings(run, text, document, responses)]
 
 
 def trace_after_script(document):
@@ -126,6 +129,11 @@ def equal_ranks(document):
             yield warning(task.head.line, task.head.numbers[word], "EqualRanks", text, note)
 
 
+def sum_warnings(document):
+    """Returns the warnings of tasks that can't be in time, where the program has no response times."""
+    return [*long_costs(document), *load(document)]
+
+
 def long_costs(document):
     """Yields a warning of each cost that is above its task's period or deadline.
 
@@ -158,4 +166,4 @@ def load(document):
         yield warning(above[0].head.line, above[0].head.name, "Overload", text)
 
 
-OF_DOCUMENT = (trace_after_script, unused, kept_inputs, delayed_downward, equal_ranks, long_costs, load)
+OF_DOCUMENT = (trace_after_script, unused, kept_inputs, delayed_downward, equal_ranks)
