@@ -112,7 +112,6 @@ one-plan-refusal doc p output r s (illegal count es k why script broken) (illega
     let same : es ≡ fs = script-once p.diagram doc es fs script also in
     let both = refused-once p count' fs k l why other (subst (λ (gs : List Step). IsIllegal p count' gs k why) same broken) again in
     λ i. Illegal (both.0 i) (both.1 i)
-
 one-plan-refusal doc p output r s (not_fixed fault) (not_fixed again) = refl
 one-plan-refusal doc p output r s (not_fixed fault) (not_periodic task again) = absurd (cc (fault, again))
 one-plan-refusal doc p output r s (not_periodic task fault) (not_fixed again) = absurd (cc (fault, again))

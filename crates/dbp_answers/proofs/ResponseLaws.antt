@@ -53,8 +53,7 @@ module _ (input : List ℕ) (p : Plan) (accepted : Accepts input p) where
   bounded-simulated bounds none are bounded =
       let table = meaning_of p in
       let text = lines_of p.diagram p.batches table in
-      let in_time = bounded-in-time bounds none are bounded in
-      (
+      let in_time = bounded-in-time bounds none are bounded in (
         text,
         made text (of_plan Mean the_table p text accepted refl (table_lines table (meaning_of-is p))),
         made text (of_plan (Sim false) (a_simulation false) p text accepted refl (simulated_lines table in_time (meaning_of-is p))),

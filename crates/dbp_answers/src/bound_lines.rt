@@ -19,7 +19,12 @@ pub(crate) fn bound_lines(
 {
     let mut text = Vec::new(alloc);
     for (i, task) in diagram.tasks.items().iter().enumerate() {
-        push_line(&mut text, task.name.bytes(), bounds[i], period_of(task.clock))?;
+        push_line(
+            &mut text,
+            task.name.bytes(),
+            bounds[i],
+            period_of(task.clock),
+        )?;
     }
     Ok(text)
 }

@@ -81,6 +81,6 @@ some_bounds d =
 pub only_bounds : (d : Diagram) (bounds others : List Bound) → AreBounds d bounds → AreBounds d others → bounds ≡ others
 only_bounds d bounds others are also =
     same_lists bounds others (are.count ∙ sym also.count)
-      (λ k b less. only_bound d k (get_or bounds k b) (get_or others k b)
-        (are.each k (get_or bounds k b) (slice_get-get_or bounds k b less))
-        (also.each k (get_or others k b) (slice_get-get_or others k b (omega (arith, less, are.count, also.count)))))
+    (λ k b less. only_bound d k (get_or bounds k b) (get_or others k b)
+    (are.each k (get_or bounds k b) (slice_get-get_or bounds k b less))
+    (also.each k (get_or others k b) (slice_get-get_or others k b (omega (arith, less, are.count, also.count)))))

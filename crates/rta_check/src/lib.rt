@@ -24,5 +24,6 @@ pub use bound::Bound;
 pub use fail::RtaFail;
 pub use higher::period_of;
 pub use laws::{
-    bounded_tasks_do_not_overrun, bounds_are_kept, each_bound_holds_by_itself, one_bound, one_list_of_bounds,
+    bounded_tasks_do_not_overrun, bounds_are_kept, each_bound_holds_by_itself, one_bound,
+    one_list_of_bounds,
 };
