@@ -1,6 +1,7 @@
 use Rattle.std.proofs.Common.{◌≡◌, ℕ, ◌<◌, ◌++◌, List, length, get_or, ap, sym, ◌∙◌, arith}
 use Rattle.std.specs.Prelude.{slice_index_or}
 use Rattle.std.proofs.lemmas.List.{get_or_default}
+use Rattle.dbp_plan.specs.declared.diagram.Task.{Task}
 use Rattle.rta_check.specs.declared.bound.Bound.{Bound}
 use Rattle.rta_check.specs.declared.bound.Bound.TheVariants.{Beyond}
 use Rattle.rta_check.specs.Periods.{period_of}
@@ -14,7 +15,7 @@ loop-i-preserved c =
     let bounds = c.args.bounds.now in
     let below : c.loop-i.i < length d.tasks = rw c.items-task-items.ensures.value at c.loop-i-test.true in
     let is : c.task-item.result ≡ get_or d.tasks c.loop-i.i c.task-item.result = rw c.items-task-items.ensures.value at c.task-item.is in
-    let line = λ i task. bound_line task.name (slice_index_or bounds i Beyond) (period_of task.clock) in
+    let line : ℕ → Task → List ℕ = λ i task. bound_line task.name (slice_index_or bounds i Beyond) (period_of task.clock) in
     ?
 
 pub returns : goal.returns
