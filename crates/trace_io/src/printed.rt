@@ -54,6 +54,7 @@ fn push_batch(
 }
 
 // Adds the line of one occurrence, whose time has these digits.
+#[inline(always)]
 fn push_line(
     text: &mut Vec<u8>,
     time: &[u8],
@@ -74,6 +75,7 @@ fn push_line(
 }
 
 // Adds each word after a comma.
+#[inline(always)]
 fn push_cells(text: &mut Vec<u8>, row: &[i64]) -> Result<(), NoMemory>
     ensures { OnOk result (text.new.items ≡ text.old.items ++ cells_of row.now) }
 {
@@ -87,6 +89,7 @@ fn push_cells(text: &mut Vec<u8>, row: &[i64]) -> Result<(), NoMemory>
 const NUMBER_LENGTH: usize = 40;
 
 // Adds the number in decimal, after a comma.
+#[inline(always)]
 fn push_cell(text: &mut Vec<u8>, number: i64) -> Result<(), NoMemory>
     ensures { OnOk result (text.new.items ≡ text.old.items ++ 44 ∷ signed_decimal number) }
 {
