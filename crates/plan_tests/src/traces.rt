@@ -216,12 +216,22 @@ fn said_by(alloc: Global, until: u64, section: &str) -> Result<Result<RowValues,
     said_in(alloc, until, &doc)
 }
 
-const TIMED: &str = "time,a,e\n3,-5,1\n\n010,,\n11,7,0\n";
+const TIMED: &str = "time,a,e\n3,-5,1\n\n010,6,\n11,7,0\n";
+
+// A sample of the input a.
+fn sample_of_a(time: u64, value: i64) -> Sample {
+    Sample {
+        time,
+        input: 0,
+        value,
+    }
+}
 
 #[test]
 fn rows_have_times_or_a_fault_at_a_line(rt: HostRuntime) -> Result<(), Fail> {
     let said = said_by(rt.alloc(), 12, TIMED)??;
-    assert_eq!(rt; said.times.items(), [3, 10, 11].as_slice());
+    let want = [sample_of_a(3, -5), sample_of_a(10, 6), sample_of_a(11, 7)];
+    assert_eq!(rt; said.samples.items(), want.as_slice());
     let refused = said_by(rt.alloc(), 11, TIMED)?;
     assert_eq!(rt;
         refused.err(),

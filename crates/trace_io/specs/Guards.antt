@@ -1,5 +1,5 @@
 -- What is handed to the merge for tasks with a `when`.
-use Rattle.std.specs.Prelude.{◌≡◌, ℕ, ◌<◌, ◌≤◌, All, List, [], length, slice_index_or}
+use Rattle.std.specs.Prelude.{◌≡◌, ℕ, ◌<◌, ◌≤◌, ◌==◌, if◌then◌else◌, All, List, [], ◌∷◌, length, slice_index_or}
 use Rattle.std.specs.Option.{ForSome}
 use Rattle.std.specs.List.Sorted.{IsNonDecreasingBy}
 use Rattle.dbp_plan.specs.declared.diagram.Task.{Task}
@@ -9,6 +9,10 @@ use Rattle.dbp_plan.specs.Samples.{own_samples}
 -- the samples of the input that the task's `when` names, if it has one, are these
 abbrev pub HasItsSamples : List Sample → List (List Sample) → Task → Type 0
 HasItsSamples samples own t = ForSome t.when (λ input. slice_index_or own input [] ≡ own_samples input samples)
+
+-- the samples of each of so many inputs: a single input has all of them, and several have these lists
+abbrev pub own_lists : ℕ → List Sample → List (List Sample) → List (List Sample)
+own_lists inputs samples lists = if inputs == 1 then samples ∷ [] else lists
 
 -- each list of samples stands by time
 abbrev pub RiseInTime : List (List Sample) → Type 0

@@ -37,6 +37,9 @@ pub(crate) fn occurrences(until: u64, events: &[List<u64>], clock: Clock) -> u64
         Clock::Every { period, offset } => {
             if until <= offset {
                 0
+            } else if period == 1 {
+                // without a division, which takes long
+                until - offset
             } else {
                 (until - offset - 1) / period + 1
             }

@@ -1,6 +1,7 @@
 // The printed lines of a table.
 
-ghost use Rattle.std.specs.Prelude.{◌≡◌, ◌++◌, IfOk, OnOk};
+ghost use Rattle.std.specs.Prelude.{◌≡◌, ◌++◌, ◌∷◌, IfOk, OnOk};
+ghost use Rattle.std.specs.Fmt.{signed_decimal};
 ghost use Rattle.dbp_plan.specs.Table.{HasRows};
 ghost use Rattle.trace_io.specs.Lines.{cells_of, line_after, lines_of};
 ghost use Rattle.trace_io.specs.Printing.{CanPrint, Counts, numbered_lines};
@@ -53,6 +54,7 @@ fn push_batch(
 }
 
 // Adds the line of one occurrence, whose time has these digits.
+#[inline(always)]
 fn push_line(
     text: &mut Vec<u8>,
     time: &[u8],
@@ -66,28 +68,34 @@ fn push_line(
     text.extend_from_slice(time)?;
     text.push(b',')?;
     text.extend_from_slice(name)?;
-    text.push(b',')?;
-    push_number(text, number)?;
+    push_cell(text, i64::from(number))?;
     push_cells(text, row)?;
     text.push(b'\n')?;
     Ok(())
 }
 
 // Adds each word after a comma.
+#[inline(always)]
 fn push_cells(text: &mut Vec<u8>, row: &[i64]) -> Result<(), NoMemory>
     ensures { OnOk result (text.new.items ≡ text.old.items ++ cells_of row.now) }
 {
     for word in row {
-        text.push(b',')?;
-        push_number(text, *word)?;
+        push_cell(text, *word)?;
     }
     Ok(())
 }
 
-// Adds the number in decimal.
-fn push_number<N: Integer>(text: &mut Vec<u8>, number: N) -> Result<(), NoMemory>
-    ensures { OnOk result (text.new.items ≡ text.old.items ++ N.text number) }
+/// Bytes of a number's text in `itoa`, at most.
+const NUMBER_LENGTH: usize = 40;
+
+// Adds the number in decimal, after a comma.
+#[inline(always)]
+fn push_cell(text: &mut Vec<u8>, number: i64) -> Result<(), NoMemory>
+    ensures { OnOk result (text.new.items ≡ text.old.items ++ 44 ∷ signed_decimal number) }
 {
-    text.extend_from_slice(Buffer::new().format(number).as_bytes())?;
+    let mut cell = [0; NUMBER_LENGTH];
+    let start = number.write(&mut cell) - 1;
+    cell[start] = b',';
+    text.extend_from_slice(&cell[start..])?;
     Ok(())
 }

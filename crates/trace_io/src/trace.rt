@@ -7,7 +7,7 @@ ghost use Rattle.dbp_plan.specs.Samples.{is_before};
 ghost use Rattle.dia_check.specs.Checks.{IsCheckedOf};
 ghost use Rattle.dia_read.specs.Printable.{HasItemLines, IsPrintable};
 ghost use Rattle.trace_io.specs.Batches.{total_of};
-ghost use Rattle.trace_io.specs.Guards.{HasItsSamples, RiseInTime};
+ghost use Rattle.trace_io.specs.Guards.{HasItsSamples, RiseInTime, own_lists};
 ghost use Rattle.trace_io.specs.Counts.{IsTimetable};
 ghost use Rattle.trace_io.specs.Traces.{IsPlanOf, IsTraceOf, IsTraceRefusal, events_of, given_samples};
 ghost use Rattle.trace_rows.specs.declared.fail.TraceCode.TheVariants.{BadHeader, TooManyOccurrences};
@@ -19,6 +19,7 @@ use csv::ByteRecord;
 use dbp_plan::{Diagram, List, MAX_OCCURRENCES, NoMemory, Plan, Sample, Task, samples_by_input};
 use dia_read::Doc;
 use std::alloc::Global;
+use std::slice::from_ref;
 use trace_rows::{
     Records, RowValues, TraceCode, TraceFail, TraceFault, is_header, no_times, row_values,
 };
@@ -29,7 +30,7 @@ struct Trace {
     /// The times of each event, in ticks.
     events: Vec<List<u64>>,
     samples: List<Sample>,
-    /// The samples of each input by itself, if a task has a `when`; else nothing.
+    /// The samples of each input by itself, if there are several inputs and a task has a `when`; else nothing.
     own: List<List<Sample>>,
 }
 
@@ -70,9 +71,10 @@ fn empty_trace(alloc: Global, diagram: &Diagram, doc: &Doc) -> Result<Trace, Tra
     requires ranked { IsRanked diagram.now }
     ensures trace { IfOk result
         (λ trace. IsTraceOf doc.now diagram.now trace.events.items trace.samples) }
-    ensures own { IfOk result
-        (λ trace. All (HasItsSamples trace.samples trace.own) diagram.now.tasks) }
-    ensures rising { IfOk result (λ trace. RiseInTime trace.own) }
+    ensures own { IfOk result (λ trace. All (HasItsSamples trace.samples
+        (own_lists (length diagram.now.inputs) trace.samples trace.own)) diagram.now.tasks) }
+    ensures rising { IfOk result (λ trace.
+        RiseInTime (own_lists (length diagram.now.inputs) trace.samples trace.own)) }
     ensures few { OnOk result (total_of diagram.now (given_samples doc.now diagram.now)
         (events_of doc.now diagram.now) ≤ MAX_OCCURRENCES) }
     ensures fault { IfErr result (λ fail. IsTraceRefusal doc.now diagram.now fail) }
@@ -94,7 +96,7 @@ fn has_guard(tasks: &[Task]) -> bool
     tasks.iter().any(|task| task.when.is_some())
 }
 
-/// The samples of each input, if a task has a `when`; else nothing.
+/// The samples of each of several inputs, if a task has a `when`; else nothing.
 fn own_samples(
     alloc: Global,
     diagram: &Diagram,
@@ -103,14 +105,34 @@ fn own_samples(
     requires ranked { IsRanked diagram.now }
     requires named { All (λ s. s.input < length diagram.now.inputs) samples.now }
     requires order { AllPairs (λ a b. IsTrue (is_before a b)) samples.now }
-    ensures own { IfOk result (λ own. All (HasItsSamples samples.now own) diagram.now.tasks) }
-    ensures rising { IfOk result RiseInTime }
+    ensures own { IfOk result (λ own. All (HasItsSamples samples.now
+        (own_lists (length diagram.now.inputs) samples.now own)) diagram.now.tasks) }
+    ensures rising { IfOk result (λ own.
+        RiseInTime (own_lists (length diagram.now.inputs) samples.now own)) }
 {
     let mut own = List::new(alloc);
+    if diagram.inputs.len() == 1 {
+        return Ok(own);
+    }
     if has_guard(diagram.tasks.items()) {
         own = samples_by_input(alloc, diagram.inputs.len(), samples)?;
     }
     Ok(own)
+}
+
+// The samples of each input: a single input has all of them, without a copy, and several have these lists.
+fn own_lists<'s>(
+    diagram: &Diagram,
+    samples: &'s List<Sample>,
+    lists: &'s List<List<Sample>>,
+) -> &'s [List<Sample>]
+    ensures { result.now ≡ own_lists (length diagram.now.inputs) samples.now lists.now }
+{
+    if diagram.inputs.len() == 1 {
+        from_ref(samples)
+    } else {
+        lists.items()
+    }
 }
 
 /// What the lines of the document's trace section give to the inputs and events of its diagram, or their first fault.
@@ -175,9 +197,10 @@ fn section_trace(
     requires ranked { IsRanked diagram.now }
     ensures trace { IfOk result
         (λ trace. IsTraceOf doc.now diagram.now trace.events.items trace.samples) }
-    ensures own { IfOk result
-        (λ trace. All (HasItsSamples trace.samples trace.own) diagram.now.tasks) }
-    ensures rising { IfOk result (λ trace. RiseInTime trace.own) }
+    ensures own { IfOk result (λ trace. All (HasItsSamples trace.samples
+        (own_lists (length diagram.now.inputs) trace.samples trace.own)) diagram.now.tasks) }
+    ensures rising { IfOk result (λ trace.
+        RiseInTime (own_lists (length diagram.now.inputs) trace.samples trace.own)) }
     ensures few { OnOk result (total_of diagram.now (given_samples doc.now diagram.now)
         (events_of doc.now diagram.now) ≤ MAX_OCCURRENCES) }
     ensures fault { IfErr result (λ fail. IsTraceRefusal doc.now diagram.now fail) }
@@ -188,7 +211,8 @@ fn section_trace(
     }
     let said = lines_of_section(alloc, diagram, doc, text)?;
     let own = own_samples(alloc, diagram, &said.samples)?;
-    few_occurrences(diagram, doc, &said.events, own.items())?;
+    let lists = own_lists(diagram, &said.samples, &own);
+    few_occurrences(diagram, doc, &said.events, lists)?;
     Ok(Trace {
         events: said.events,
         samples: said.samples,
@@ -203,9 +227,10 @@ fn trace_of(alloc: Global, diagram: &Diagram, doc: &Doc) -> Result<Trace, TraceF
     requires ranked { IsRanked diagram.now }
     ensures trace { IfOk result
         (λ trace. IsTraceOf doc.now diagram.now trace.events.items trace.samples) }
-    ensures own { IfOk result
-        (λ trace. All (HasItsSamples trace.samples trace.own) diagram.now.tasks) }
-    ensures rising { IfOk result (λ trace. RiseInTime trace.own) }
+    ensures own { IfOk result (λ trace. All (HasItsSamples trace.samples
+        (own_lists (length diagram.now.inputs) trace.samples trace.own)) diagram.now.tasks) }
+    ensures rising { IfOk result (λ trace.
+        RiseInTime (own_lists (length diagram.now.inputs) trace.samples trace.own)) }
     ensures few { OnOk result (total_of diagram.now (given_samples doc.now diagram.now)
         (events_of doc.now diagram.now) ≤ MAX_OCCURRENCES) }
     ensures fault { IfErr result (λ fail. IsTraceRefusal doc.now diagram.now fail) }
@@ -252,7 +277,8 @@ pub fn read_trace(alloc: Global, diagram: Diagram, doc: &Doc) -> Result<Plan, Tr
         samples,
         own,
     } = trace_of(alloc, &diagram, doc)?;
-    let clocks = merge_clocks(alloc, &diagram, &mut events, own.items())?;
+    let lists = own_lists(&diagram, &samples, &own);
+    let clocks = merge_clocks(alloc, &diagram, &mut events, lists)?;
     let batches = merged(alloc, diagram.until, &events, &clocks)?;
     Ok(Plan {
         diagram,

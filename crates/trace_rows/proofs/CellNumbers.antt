@@ -5,6 +5,8 @@ use Rattle.std.specs.Prelude.{not, nat_le, nat_lt, ◌&&◌, is_some}
 use Rattle.std.specs.List.{list_all}
 use Rattle.std.specs.Option.{SomeIff}
 use Rattle.std.proofs.Math.Bool.{and-false, or-true}
+use Rattle.std.proofs.Math.Nat.{pow-le-pow_right}
+use Rattle.std.proofs.lemmas.Grind.{pow_more}
 use Rattle.std.proofs.lemmas.Bool.{cases_Bool, and_parts, both_ways}
 use Rattle.std.proofs.lemmas.Bool.Decides.{nat_tests}
 use Rattle.std.proofs.lemmas.List.{drop_all, drop_more}
@@ -22,38 +24,56 @@ use Rattle.trace_rows.specs.Columns.{negative_in, positive_in}
 abbrev pub DigitsFrom : List ℕ → ℕ → ℕ → Type 0
 DigitsFrom digits k number = (list_all is_digit digits ≡ list_all is_digit (drop k digits)) × (digits_value digits ≡ digits_after number (drop k digits))
 
--- whether they are digits alone that make a number up to 2 ^ 63
-abbrev pub is_narrow : List ℕ → Bool
-is_narrow digits = are_digits digits && nat_le (digits_value digits) (2 ^ 63)
+-- whether they are digits alone, if any, that make a number up to 2 ^ 63
+abbrev pub are_narrow : List ℕ → Bool
+are_narrow digits = list_all is_digit digits && nat_le (digits_value digits) (2 ^ 63)
 
 pub digits-later : (digits : List ℕ) (k number : ℕ) → k < length digits → is_digit (get_or digits k 0) ≡ true → DigitsFrom digits k number
     → DigitsFrom digits (k + 1) (number * 10 + (get_or digits k 0 - 48))
 digits-later digits k number below digit from =
     (from.0 ∙ rw (drop_more digits k 0 below, digit) refl, from.1 ∙ ap (digits_after number) (drop_more digits k 0 below))
 
-pub digits-other : (digits : List ℕ) (k number : ℕ) → k < length digits → is_digit (get_or digits k 0) ≡ false → DigitsFrom digits k number → is_narrow digits ≡ false
-digits-other digits k number below other from =
-    let none : list_all is_digit digits ≡ false = from.0 ∙ rw (drop_more digits k 0 below, other) refl in
-    let no : are_digits digits ≡ false = ap (λ b. not (is_empty digits) && b) none ∙ and-false (not (is_empty digits)) in
-    ap (λ b. b && nat_le (digits_value digits) (2 ^ 63)) no
+-- a byte that is no digit
+pub digits-other : (digits : List ℕ) (k number : ℕ) → k < length digits → is_digit (get_or digits k 0) ≡ false → DigitsFrom digits k number → list_all is_digit digits ≡ false
+digits-other digits k number below other from = from.0 ∙ rw (drop_more digits k 0 below, other) refl
+
+pub other-wide : (digits : List ℕ) → list_all is_digit digits ≡ false → are_narrow digits ≡ false
+other-wide digits none = ap (λ all. all && nat_le (digits_value digits) (2 ^ 63)) none
 
 grows : (digits : List ℕ) (number : ℕ) → number ≤ digits_after number digits
 grows [] number = omega arith
 grows (d ∷ digits) number = let more = grows digits (number * 10 + (d - 48)) in omega (arith, more)
 
-pub digits-many : (digits : List ℕ) (k number : ℕ) → k < length digits → 922337203685477580 < number → DigitsFrom digits k number → is_narrow digits ≡ false
+pub digits-many : (digits : List ℕ) (k number : ℕ) → k < length digits → 922337203685477580 < number → DigitsFrom digits k number → are_narrow digits ≡ false
 digits-many digits k number below many from =
     let is : digits_value digits ≡ digits_after (number * 10 + (get_or digits k 0 - 48)) (drop (k + 1) digits) = from.1 ∙ ap (digits_after number) (drop_more digits k 0 below) in
     let more = grows (drop (k + 1) digits) (number * 10 + (get_or digits k 0 - 48)) in
     let past : 2 ^ 63 < digits_value digits = omega (arith, is, more, many) in
     let test : nat_le (digits_value digits) (2 ^ 63) ≡ false = grind (arith, nat_tests) in
-    ap (λ b. are_digits digits && b) test ∙ and-false (are_digits digits)
+    ap (λ b. list_all is_digit digits && b) test ∙ and-false (list_all is_digit digits)
 
-pub digits-all : (digits : List ℕ) (k number : ℕ) → length digits ≤ k → is_empty digits ≡ false → DigitsFrom digits k number → (are_digits digits ≡ true) × (number ≡ digits_value digits)
-digits-all digits k number end some from =
+pub digits-all : (digits : List ℕ) (k number : ℕ) → length digits ≤ k → DigitsFrom digits k number → (list_all is_digit digits ≡ true) × (number ≡ digits_value digits)
+digits-all digits k number end from =
     let rest : drop k digits ≡ [] = drop_all k digits end in
-    let all : list_all is_digit digits ≡ true = from.0 ∙ ap (list_all is_digit) rest in
-    (rw (some, all) refl, sym (from.1 ∙ ap (digits_after number) rest))
+    (from.0 ∙ ap (list_all is_digit) rest, sym (from.1 ∙ ap (digits_after number) rest))
+
+-- ---- a few digits
+
+pub tenfold : (k number digit : ℕ) → number < 10 ^ k → digit < 10 → number * 10 + digit < 10 ^ (k + 1)
+tenfold k number digit below small =
+    let more : 10 ^ (k + 1) ≡ 10 ^ k * 10 = pow_more 10 k in
+    omega (arith, more, below, small)
+
+pub few-fit : (k number : ℕ) → k < 18 → number < 10 ^ k → number < 10 ^ 17
+few-fit k number few below =
+    let some : 0 < 10 = omega arith in
+    let fewer : k ≤ 17 = omega (arith, few) in
+    let least : 10 ^ k ≤ 10 ^ 17 = pow-le-pow_right some fewer in
+    omega (arith, least, below)
+
+-- whether they are digits alone, at least one, that make a number up to 2 ^ 63
+abbrev pub is_narrow : List ℕ → Bool
+is_narrow digits = are_digits digits && nat_le (digits_value digits) (2 ^ 63)
 
 -- ---- times
 

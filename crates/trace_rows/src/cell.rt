@@ -1,10 +1,12 @@
 // The forms of cells.
 
-ghost use Rattle.std.specs.Prelude.{◌≡◌, ◌≤◌, ◌^◌, ◌&&◌, nat_le, MatchOption, true, false};
+ghost use Rattle.std.specs.Prelude.{◌≡◌, ◌-◌, ◌<◌, ◌≤◌, ◌^◌, ◌&&◌, length, nat_le, IfSome, MatchOption, true, false};
+ghost use Rattle.std.specs.List.{list_all};
 ghost use Rattle.dia_tokens.specs.Kinds.{is_digit};
 ghost use Rattle.dia_tokens.specs.Values.{digits_value};
 ghost use Rattle.trace_rows.specs.Cells.{are_digits, cell_fits, is_time, value_in};
 ghost use Rattle.trace_rows.specs.declared.cell.Kind.TheVariants.{Mark, Value};
+ghost use Rattle.trace_rows.specs.declared.cell.TheConstants.{FEW_DIGITS};
 ghost use Rattle.trace_rows.specs.Columns.{negative_in, positive_in, said_in};
 
 /// What a column holds.
@@ -23,11 +25,60 @@ fn is_digit(byte: u8) -> bool
     byte.is_ascii_digit()
 }
 
+/// The value of the byte, if it is a digit.
+fn digit_of(byte: u8) -> Option<u64>
+    ensures value { MatchOption result
+        (is_digit byte ≡ false)
+        (λ digit. (is_digit byte ≡ true) × (digit ≡ byte - 48)) }
+    ensures small { IfSome result (λ digit. digit < 10) }
+{
+    if is_digit(byte) {
+        Some(u64::from(byte - b'0'))
+    } else {
+        None
+    }
+}
+
+/// The most digits of which each number is below 2 ^ 63.
+const FEW_DIGITS: usize = 18;
+
 /// A tenth of 2 ^ 63: with one more digit a greater number is past 2 ^ 63.
 const MAX_TENTH: u64 = 922_337_203_685_477_580;
 
+/// The number of a few digits, if they are digits alone.
+fn few_digits_number(digits: &[u8]) -> Option<u64>
+    requires { length digits.now ≤ FEW_DIGITS }
+    ensures { MatchOption result
+        (list_all is_digit digits.now ≡ false)
+        (λ number. (list_all is_digit digits.now ≡ true) × (number ≡ digits_value digits.now)) }
+{
+    let mut number = 0;
+    for byte in digits {
+        number = number * 10 + digit_of(*byte)?;
+    }
+    Some(number)
+}
+
 /// The number of the digits, if they are digits alone. It is none if the number is past 2 ^ 63, and may be none from
 /// there on.
+fn many_digits_number(digits: &[u8]) -> Option<u64>
+    ensures { MatchOption result
+        ((list_all is_digit digits.now && nat_le (digits_value digits.now) (2 ^ 63)) ≡ false)
+        (λ number. (list_all is_digit digits.now ≡ true) × (number ≡ digits_value digits.now)) }
+{
+    let mut number = 0;
+    for byte in digits {
+        if number > MAX_TENTH {
+            return None;
+        }
+        number = number * 10 + digit_of(*byte)?;
+    }
+    Some(number)
+}
+
+/// The number of the digits, if they are digits alone, at least one. It is none if the number is past 2 ^ 63, and may
+/// be none from there on.
+#[inline(never)]
 fn digits_number(digits: &[u8]) -> Option<u64>
     ensures { MatchOption result
         ((are_digits digits.now && nat_le (digits_value digits.now) (2 ^ 63)) ≡ false)
@@ -36,17 +87,11 @@ fn digits_number(digits: &[u8]) -> Option<u64>
     if digits.is_empty() {
         return None;
     }
-    let mut number = 0;
-    for byte in digits {
-        if !is_digit(*byte) {
-            return None;
-        }
-        if number > MAX_TENTH {
-            return None;
-        }
-        number = number * 10 + u64::from(*byte - b'0');
+    if digits.len() <= FEW_DIGITS {
+        few_digits_number(digits)
+    } else {
+        many_digits_number(digits)
     }
-    Some(number)
 }
 
 /// The number of the digits.

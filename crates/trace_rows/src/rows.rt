@@ -31,8 +31,6 @@ const _: () = prove!(MAX_ROWS == 50_000);
 /// What the rows of a section say.
 #[derive(Drop)]
 pub struct RowValues {
-    /// The time of each row, in ticks.
-    pub times: List<u64>,
     /// The times of each event: those of the rows that have 1 in its column. An event without a column has none.
     pub events: Vec<List<u64>>,
     /// The samples of the inputs, by row and then by input.
@@ -150,7 +148,6 @@ pub fn row_values(
     requires stands { StandsAtLine rows.old }
     requires inputs { length inputs.now ≤ MAX_INPUTS }
     requires lines { length (records_left rows.old) ≤ length lines.now }
-    ensures times { IfOk result (λ said. said.times ≡ map time_of (records_left rows.old)) }
     ensures events { IfOk result (λ said. said.events.items
         ≡ event_times (drop 1 (fields_of header.now)) (records_left rows.old) events.now) }
     ensures samples { IfOk result (λ said. said.samples
@@ -165,18 +162,17 @@ pub fn row_values(
 {
     let columns = columns_of(alloc, inputs, events, header)?;
     let mut said = nothing_said(alloc, columns.kinds.len())?;
-    let mut times = List::new(alloc);
     let mut marked = no_times(alloc, events.len())?;
     let mut samples = List::new(alloc);
     let mut row = ByteRecord::new(alloc);
+    let mut before = None;
     let mut place = 0;
     while rows.read(&mut row)? {
-        let before = times.items().last().copied();
         match checked_row(until, &columns.kinds, place + 1, before, &row, &mut said) {
             Ok(time) => {
                 push_samples(&mut samples, time, &columns.inputs, &said)?;
                 push_times(&mut marked, time, &columns.events, &said)?;
-                times.push(time)?;
+                before = Some(time);
             }
             Err(code) => {
                 let line = lines[place];
@@ -186,7 +182,6 @@ pub fn row_values(
         place += 1;
     }
     Ok(RowValues {
-        times,
         events: marked,
         samples,
     })

@@ -2,7 +2,7 @@ use Rattle.std.proofs.Common.{◌≡◌, ◌∙◌, Err, ℕ, List, [], length, 
 use Rattle.std.specs.Prelude.{replicate}
 use Rattle.std.proofs.lemmas.Result.{err_from_is_err_and}
 use Rattle.trace_rows.specs.declared.fail.TraceFail.TheVariants.{Refused}
-use Rattle.trace_io.proofs.OwnSamples.{none-given, none-rise}
+use Rattle.trace_io.proofs.OwnSamples.{none-given, none-of-one, none-of-one-rise, none-rise}
 use Rattle.trace_io.proofs.TraceFaults.{empty-refused, empty-total, no-section}
 use Rattle.trace_io.proofs.trace.empty_trace.Goals as goal
 
@@ -37,10 +37,10 @@ returns-clause-trace c =
     no-section c.args.doc.now c.args.diagram.now c.in_ok-no_times.field-0.items c.new.result c.requires.section (c.in_ok-no_times.ensures ∙ ap (λ n. replicate n []) count) c.new.ensures
 
 pub returns-clause-own : goal.returns-clause-own
-returns-clause-own c = rw (c.new.ensures, c.new-2.ensures) (none-given c.args.diagram.now.tasks)
+returns-clause-own c = rw (c.new.ensures, c.new-2.ensures) (none-of-one (length c.args.diagram.now.inputs) c.args.diagram.now.tasks)
 
 pub returns-clause-rising : goal.returns-clause-rising
-returns-clause-rising c = rw c.new-2.ensures none-rise
+returns-clause-rising c = rw (c.new.ensures, c.new-2.ensures) (none-of-one-rise (length c.args.diagram.now.inputs))
 
 pub returns-clause-few : goal.returns-clause-few
 returns-clause-few c = omega (arith, empty-total c.args.doc.now c.args.diagram.now c.requires.section, c.in_ok-few_occurrences.ensures.few [] (none-given c.args.diagram.now.tasks))

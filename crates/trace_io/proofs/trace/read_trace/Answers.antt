@@ -17,7 +17,7 @@ pub merged-requires-clause-tasks : goal.merged-requires-clause-tasks
 merged-requires-clause-tasks c =
     let d = c.args.diagram in
     let trace = c.in_ok-events.field-0 in
-    let its : All (HasItsSamples trace.samples c.items.result.now) d.tasks = rw c.items.ensures.value c.in_ok-events.ensures.own in
+    let its : All (HasItsSamples trace.samples c.own_lists-lists.result.now) d.tasks = rw c.own_lists-lists.ensures c.in_ok-events.ensures.own in
     let count = same-count d trace.samples trace.events.items c.merge_clocks.new.events.items c.in_ok-clocks.clocks.items (c.in_ok-clocks.ensures.times trace.samples its) in
     rw c.deref-2.ensures.value (omega (arith, count, c.requires.ranked.closed.tasks))
 
@@ -27,7 +27,7 @@ merged-requires-clause-few c =
     let d = c.args.diagram in
     let trace = c.in_ok-events.field-0 in
     let is : IsTraceOf doc d trace.events.items trace.samples = c.in_ok-events.ensures.trace in
-    let its : All (HasItsSamples trace.samples c.items.result.now) d.tasks = rw c.items.ensures.value c.in_ok-events.ensures.own in
+    let its : All (HasItsSamples trace.samples c.own_lists-lists.result.now) d.tasks = rw c.own_lists-lists.ensures c.in_ok-events.ensures.own in
     let total = same-total d trace.samples trace.events.items c.merge_clocks.new.events.items c.in_ok-clocks.clocks.items c.in_ok-clocks.ensures.clocks (c.in_ok-clocks.ensures.times trace.samples its) in
     let same : total_of d trace.samples trace.events.items ≡ total_of d (given_samples doc d) (events_of doc d) = λ j. total_of d (is.samples_are j) (is.events_are j) in
     rw (c.deref.ensures.value, c.deref-2.ensures.value) (omega (arith, total, same, c.in_ok-events.ensures.few))
@@ -38,7 +38,7 @@ invariant_of-result c =
     let d = c.args.diagram in
     let trace = c.in_ok-events.field-0 in
     let is : IsTraceOf doc d trace.events.items trace.samples = c.in_ok-events.ensures.trace in
-    let its : All (HasItsSamples trace.samples c.items.result.now) d.tasks = rw c.items.ensures.value c.in_ok-events.ensures.own in
+    let its : All (HasItsSamples trace.samples c.own_lists-lists.result.now) d.tasks = rw c.own_lists-lists.ensures c.in_ok-events.ensures.own in
     let merged : AreMerged d.until c.merge_clocks.new.events.items c.in_ok-clocks.clocks.items c.in_ok-batches.batches = rw (c.deref.ensures.value, c.deref-2.ensures.value) at c.in_ok-batches.ensures in
     let made : AreBatches d trace.samples trace.events.items c.in_ok-batches.batches =
     merged-tasks d trace.samples trace.events.items c.merge_clocks.new.events.items c.in_ok-clocks.clocks.items c.in_ok-batches.batches c.in_ok-clocks.ensures.clocks (c.in_ok-clocks.ensures.times trace.samples its) merged in
@@ -53,7 +53,7 @@ returns-clause-plan c =
     let d = c.args.diagram in
     let trace = c.in_ok-events.field-0 in
     let is : IsTraceOf doc d trace.events.items trace.samples = c.in_ok-events.ensures.trace in
-    let its : All (HasItsSamples trace.samples c.items.result.now) d.tasks = rw c.items.ensures.value c.in_ok-events.ensures.own in
+    let its : All (HasItsSamples trace.samples c.own_lists-lists.result.now) d.tasks = rw c.own_lists-lists.ensures c.in_ok-events.ensures.own in
     let merged : AreMerged d.until c.merge_clocks.new.events.items c.in_ok-clocks.clocks.items c.in_ok-batches.batches = rw (c.deref.ensures.value, c.deref-2.ensures.value) at c.in_ok-batches.ensures in
     let made : AreBatches d trace.samples trace.events.items c.in_ok-batches.batches =
     merged-tasks d trace.samples trace.events.items c.merge_clocks.new.events.items c.in_ok-clocks.clocks.items c.in_ok-batches.batches c.in_ok-clocks.ensures.clocks (c.in_ok-clocks.ensures.times trace.samples its) merged in

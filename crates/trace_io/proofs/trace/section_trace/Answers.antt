@@ -21,7 +21,7 @@ few_occurrences-requires-clause-table c =
     rw c.deref.ensures.value (timetable c.args.doc.now c.args.diagram.now c.in_ok-said.said.events.items c.in_ok-said.said.samples c.in_ok-said.ensures.trace c.requires.printable c.requires.lines c.requires.ranked)
 
 pub few_occurrences-requires-clause-rising : goal.few_occurrences-requires-clause-rising
-few_occurrences-requires-clause-rising c = rw c.items.ensures.value c.in_ok-own.ensures.rising
+few_occurrences-requires-clause-rising c = rw c.own_lists-lists.ensures c.in_ok-own.ensures.rising
 
 pub returns-then-is_empty-clause-fault : goal.returns-then-is_empty-clause-fault
 returns-then-is_empty-clause-fault c =
@@ -47,7 +47,7 @@ returns-in_err-few_occurrences-clause-fault c =
     let said = c.in_ok-said.said in
     let told = c.in_err-few_occurrences.ensures in
     let trace : IsTraceOf doc d said.events.items said.samples = c.in_ok-said.ensures.trace in
-    let its : All (HasItsSamples said.samples c.items.result.now) d.tasks = rw c.items.ensures.value c.in_ok-own.ensures.own in
+    let its : All (HasItsSamples said.samples c.own_lists-lists.result.now) d.tasks = rw c.own_lists-lists.ensures c.in_ok-own.ensures.own in
     let events : c.deref.result.now ≡ events_of doc d = c.deref.ensures.value ∙ trace.events_are in
     let over : MAX_OCCURRENCES < total_of d said.samples c.deref.result.now = told.many said.samples its in
     let many : MAX_OCCURRENCES < total_of d (given_samples doc d) (events_of doc d) = rw (events, trace.samples_are) at over in
@@ -60,7 +60,7 @@ returns-clause-few c =
     let d = c.args.diagram.now in
     let said = c.in_ok-said.said in
     let trace : IsTraceOf doc d said.events.items said.samples = c.in_ok-said.ensures.trace in
-    let its : All (HasItsSamples said.samples c.items.result.now) d.tasks = rw c.items.ensures.value c.in_ok-own.ensures.own in
+    let its : All (HasItsSamples said.samples c.own_lists-lists.result.now) d.tasks = rw c.own_lists-lists.ensures c.in_ok-own.ensures.own in
     let events : c.deref.result.now ≡ events_of doc d = c.deref.ensures.value ∙ trace.events_are in
     let under : total_of d said.samples c.deref.result.now ≤ MAX_OCCURRENCES = c.in_ok-few_occurrences.ensures.few said.samples its in
     let few : total_of d (given_samples doc d) (events_of doc d) ≤ MAX_OCCURRENCES = rw (events, trace.samples_are) at under in

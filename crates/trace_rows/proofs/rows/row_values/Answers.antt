@@ -1,6 +1,6 @@
-use Rattle.std.proofs.Common.{Ok, get_or, ◌≡◌, ◌+◌, ◌-◌, ◌<◌, ◌≤◌, ℕ, Some, None, List, [], ◌∷◌, ◌++◌, length, map, take, drop, slice_get, sym, ap, ◌∙◌, arith, rules}
+use Rattle.std.proofs.Common.{Ok, get_or, ◌≡◌, ◌+◌, ◌<◌, ◌≤◌, ℕ, Some, None, List, [], ◌∷◌, ◌++◌, length, map, take, drop, sym, ap, ◌∙◌, arith, rules}
 use Rattle.std.specs.List.{flat_map}
-use Rattle.std.proofs.lemmas.List.{flat_map_more, length-map, length-take-le, map-append}
+use Rattle.std.proofs.lemmas.List.{flat_map_more, length-map, length-take-le}
 use Rattle.csv.specs.Records.{fields_of}
 use Rattle.dbp_plan.specs.NameLists.{index_of}
 use Rattle.dbp_plan.specs.FirstFault.{first_fault}
@@ -10,7 +10,7 @@ use Rattle.trace_rows.specs.Cells.{cell_under, is_one, time_of}
 use Rattle.trace_rows.specs.Columns.{HasSaid, nothing, said_samples, times_with}
 use Rattle.trace_rows.specs.Headers.{kind_of_column}
 use Rattle.trace_rows.specs.Records.{records_left}
-use Rattle.trace_rows.specs.Rows.{fault_after, row_fault, row_faults}
+use Rattle.trace_rows.specs.Rows.{fault_after, last_time, row_fault, row_faults}
 use Rattle.trace_rows.specs.declared.cell.Said.{Said}
 use Rattle.trace_rows.specs.declared.rows.TheConstants.{MAX_ROWS}
 use Rattle.trace_rows.specs.Values.{event_times, row_samples, samples_of}
@@ -18,7 +18,7 @@ use Rattle.trace_rows.proofs.ColumnCells.{mark-of-event, row-samples}
 use Rattle.trace_rows.proofs.EventTimes.{room-times, row-times}
 use Rattle.trace_rows.proofs.Timetable.{event-times-count}
 use Rattle.trace_rows.proofs.LineRecords.{first-left, none-left}
-use Rattle.trace_rows.proofs.RowTimes.{fault-at, few-after}
+use Rattle.trace_rows.proofs.RowTimes.{fault-at, few-after, last-more}
 use Rattle.trace_rows.proofs.rows.row_values.Goals as goal
 
 pub returns-in-Err-clause-fault : goal.returns-in-Err-clause-fault
@@ -31,12 +31,10 @@ returns-in-Err-clause-fault c line code same =
     let taken : records_left c.loop-row.rows ≡ row ∷ records_left c.read.new.self = rw c.if-branch.true at c.in_ok-read.ensures.left in
     let (below, is, after) = first-left rows k row (records_left c.read.new.self) (sym c.loop-row.invariant.left ∙ taken) in
     let in_lines : k < length lines = omega (arith, below, c.requires.lines) in
-    let before : c.copied-before.result ≡ slice_get c.loop-row.times (length c.loop-row.times - 1) =
-    c.copied-before.ensures ∙ c.last.ensures.value ∙ ap (λ (ts : List ℕ). slice_get ts (length ts - 1)) c.items.ensures.value in
-    let told : row_fault c.args.until kinds (k + 1) c.copied-before.result row ≡ Some c.in-Err.code =
-    ap (λ ks. row_fault c.args.until ks (k + 1) c.copied-before.result row) (sym c.deref.ensures.value) ∙ c.in-Err.ensures.fault in
+    let told : row_fault c.args.until kinds (k + 1) c.loop-row.before row ≡ Some c.in-Err.code =
+    ap (λ ks. row_fault c.args.until ks (k + 1) c.loop-row.before row) (sym c.deref.ensures.value) ∙ c.in-Err.ensures.fault in
     let fault : Some c.in-Err.code ≡ fault_after c.args.until kinds (take k rows) row =
-    sym told ∙ ap (λ b. row_fault c.args.until kinds (k + 1) b row) before ∙ fault-at c.args.until kinds rows k c.loop-row.times row c.loop-row.invariant.within c.loop-row.invariant.timed in
+    sym told ∙ ap (λ b. row_fault c.args.until kinds (k + 1) b row) c.loop-row.invariant.timed ∙ fault-at c.args.until kinds rows k row c.loop-row.invariant.within in
     let number : get_or lines k 0 ≡ line = cc (same, c.from.ensures) in
     let which : c.in-Err.code ≡ code = cc (same, c.from.ensures) in
     ap (λ ks. first_fault (row_faults c.args.until ks rows lines)) (sym c.in_ok-columns.ensures.kinds)
@@ -64,12 +62,10 @@ loop-row-preserved c =
     let taken : records_left c.loop-row.rows ≡ row ∷ records_left c.read.new.self = rw c.if-branch.true at c.in_ok-read.ensures.left in
     let (below, is, after) = first-left rows k row (records_left c.read.new.self) (sym c.loop-row.invariant.left ∙ taken) in
     let fit : length rows ≤ length lines = c.requires.lines in
-    let before : c.copied-before.result ≡ slice_get c.loop-row.times (length c.loop-row.times - 1) =
-    c.copied-before.ensures ∙ c.last.ensures.value ∙ ap (λ (ts : List ℕ). slice_get ts (length ts - 1)) c.items.ensures.value in
-    let told : row_fault c.args.until kinds (k + 1) c.copied-before.result row ≡ None =
-    ap (λ ks. row_fault c.args.until ks (k + 1) c.copied-before.result row) (sym c.deref.ensures.value) ∙ c.in-Ok.ensures.fault.0 in
+    let told : row_fault c.args.until kinds (k + 1) c.loop-row.before row ≡ None =
+    ap (λ ks. row_fault c.args.until ks (k + 1) c.loop-row.before row) (sym c.deref.ensures.value) ∙ c.in-Ok.ensures.fault.0 in
     let none : None ≡ fault_after c.args.until kinds (take k rows) row =
-    sym told ∙ ap (λ b. row_fault c.args.until kinds (k + 1) b row) before ∙ fault-at c.args.until kinds rows k c.loop-row.times row c.loop-row.invariant.within c.loop-row.invariant.timed in
+    sym told ∙ ap (λ b. row_fault c.args.until kinds (k + 1) b row) c.loop-row.invariant.timed ∙ fault-at c.args.until kinds rows k row c.loop-row.invariant.within in
     let kinds_are : c.deref.result.now ≡ map (kind_of_column inputs) names = c.deref.ensures.value ∙ c.in_ok-columns.ensures.kinds in
     let count : length c.deref.result.now ≡ length names = ap (λ ks. length ks) kinds_are ∙ length-map names (kind_of_column inputs) in
     let same : length said ≡ length c.loop-row.said.items = search rules in
@@ -98,22 +94,15 @@ loop-row-preserved c =
       left = sym after;
       within = omega (arith, below);
       from = first-later (fault_after c.args.until kinds) rows lines k row c.loop-row.invariant.from below fit is none;
-      timed =
-          c.in_ok-push-in-Ok.ensures.ok ∙ (λ j. c.loop-row.invariant.timed j ++ c.in-Ok.ensures.fault.1 j ∷ []) ∙ sym (ap (map time_of) (take-next rows k row below is) ∙ map-append time_of (take k rows) (row ∷ []));
+      timed = ap Some c.in-Ok.ensures.fault.1 ∙ sym (ap last_time (take-next rows k row below is) ∙ last-more (take k rows) row);
       marked = refilled c.loop-row.marked.len c.loop-row.marked.items c.push_times.new.events marked_len marked_same ∙ times ∙ ap (λ rs. event_times names rs c.args.events.now) (sym (take-next rows k row below is));
       sampled =
           pushed ∙ ap (λ old. old ++ row_samples names 0 inputs row) c.loop-row.invariant.sampled
           ∙ flat_map_more (row_samples names 0 inputs) [] (take k rows) row ∙ ap (flat_map (row_samples names 0 inputs)) (sym (take-next rows k row below is));
       places = ap (λ (ss : List Said). length ss) (refilled c.loop-row.said.len c.loop-row.said.items said len same) ∙ same ∙ c.loop-row.invariant.places;
-      room = few-after c.args.until kinds (k + 1) c.copied-before.result row told;
+      room = few-after c.args.until kinds (k + 1) c.loop-row.before row told;
       few = omega (arith, c.in_ok-push_samples-in-Ok.ensures.few, c.loop-row.invariant.few, column_count, c.requires.inputs);
     }
-
-pub returns-clause-times : goal.returns-clause-times
-returns-clause-times c =
-    let rows = records_left c.args.rows.now in
-    let none : records_left c.loop-row.rows ≡ [] = rw c.if-branch.false at c.in_ok-read.ensures.left in
-    c.loop-row.invariant.timed ∙ ap (map time_of) (none-left rows c.loop-row.place (sym c.loop-row.invariant.left ∙ none))
 
 pub returns-clause-events : goal.returns-clause-events
 returns-clause-events c =
