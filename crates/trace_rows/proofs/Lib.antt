@@ -10,5 +10,6 @@ pub mod RowFits
 pub mod RowTimes
 pub mod SampleOrder
 pub mod Timetable
+pub mod SectionText
 pub mod WrittenRows
 pub mod WrittenText

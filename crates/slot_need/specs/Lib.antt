@@ -1,0 +1,3 @@
+-- Definitions that public clauses cite.
+pub mod Faults
+pub mod Scenarios
