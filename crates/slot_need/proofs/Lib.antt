@@ -1,3 +1,4 @@
 pub mod Columns
 pub mod Ranges
 pub mod Readers
+pub mod SectionLines

@@ -67,3 +67,6 @@ module _ {A : Type 0} (f : ℕ → A) (p : A → Bool) (n : ℕ) where
 
   pub column-dropped : p (f n) ≡ false → filter p (map f (range_with_len 0 (n + 1))) ≡ filter p (map f (range_with_len 0 n))
   column-dropped fails = column_more ∙ rw fails (append-nil (filter p (map f (range_with_len 0 n))))
+
+pub mapped-more : {A : Type 0} (f : ℕ → A) (n : ℕ) → map f (range_with_len 0 (n + 1)) ≡ map f (range_with_len 0 n) ++ f n ∷ []
+mapped-more f n = ap (map f) (range-more n) ∙ map-append f (range_with_len 0 n) (n ∷ [])

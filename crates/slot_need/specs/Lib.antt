@@ -1,3 +1,6 @@
 -- Definitions that public clauses cite.
+pub mod Bodies
 pub mod Faults
 pub mod Scenarios
+-- Definitions that only private functions and proofs cite.
+pub mod Cells

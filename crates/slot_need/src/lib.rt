@@ -15,5 +15,6 @@ mod column;
 mod fail;
 mod fault;
 mod firings;
+mod text;
 
 pub use fail::NeedFail;
