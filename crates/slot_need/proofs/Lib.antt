@@ -1,4 +1,10 @@
+pub mod Accepted
+pub mod ColumnNames
 pub mod Columns
+pub mod NeedFaults
+pub mod Outcomes
 pub mod Ranges
 pub mod Readers
+pub mod ScenarioTimes
 pub mod SectionLines
+pub mod TaskFirings

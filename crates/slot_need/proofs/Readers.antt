@@ -1,7 +1,7 @@
 -- The readers below a task, and how often it fires.
 use Rattle.std.proofs.Common.{◌≡◌, ℕ, ◌+◌, ◌*◌, ◌<◌, ◌≤◌, length, arith}
 use Rattle.std.specs.List.{range_with_len}
-use Rattle.std.proofs.Math.Nat.{mul-le-mul_left}
+use Rattle.std.proofs.Math.Nat.{mul-le-mul_left, mul-le-mul_right}
 use Rattle.std.proofs.lemmas.List.Sums.{count_by-le-length, length-filter}
 use Rattle.std.proofs.lemmas.List.FromFn.{length-range_with_len}
 use Rattle.dbp_plan.specs.declared.diagram.Diagram.{Diagram}
@@ -19,3 +19,9 @@ few-firings d w closed =
     let readers = length (lower_readers d w) in
     let most : (readers + 1) * group_size d w ≤ (readers + 1) * 9 = mul-le-mul_left (readers + 1) (omega (arith, delay_short d w closed)) in
     omega (arith, most, few-readers d w closed)
+
+pub some-firings : (d : Diagram) (w : ℕ) → 1 ≤ firing_count d w
+some-firings d w =
+    let readers = length (lower_readers d w) in
+    let least : 1 * group_size d w ≤ (readers + 1) * group_size d w = mul-le-mul_right (group_size d w) (omega arith) in
+    omega (arith, least)

@@ -1,5 +1,5 @@
 -- The document of a scenario, and when tasks occur in it.
-use Rattle.std.specs.Prelude.{◌≡◌, ◌≢◌, ℕ, ◌*◌, if◌then◌else◌, List, [], ◌∷◌, length, map, slice_get, slice_index_or, Some, None}
+use Rattle.std.specs.Prelude.{◌≡◌, ◌≢◌, ℕ, ◌<◌, if◌then◌else◌, List, [], ◌∷◌, length, map, slice_get, slice_index_or, Some, None}
 use Rattle.std.specs.List.{range_with_len}
 use Rattle.dbp_plan.specs.declared.diagram.Diagram.{Diagram}
 use Rattle.dbp_plan.specs.declared.plan.Plan.{Plan}
@@ -46,10 +46,10 @@ scenario_body body d w = record body { until = scenario_end d w; trace = Some (s
 -- ---- its plan
 
 -- The plan has this diagram with the end of the scenario, and no samples. Task w occurs at each firing, each reader below it
--- once, at its own, and nothing else occurs.
+-- once, at its own, and no other task.
 pub record IsScenario (d : Diagram) (w : ℕ) (p : Plan) : Type 0 where
   pub diagram : p.diagram ≡ record d { until = scenario_end d w }
   pub samples : p.samples ≡ []
   pub task : times_of p.batches w ≡ map (firing_time d w) (range_with_len 0 (firing_count d w))
   pub readers : (j i : ℕ) → slice_get (lower_readers d w) j ≡ Some i → times_of p.batches i ≡ firing_time d w (firing_of_reader d w j) ∷ []
-  pub others : (i : ℕ) → i ≢ w → ((j : ℕ) → slice_get (lower_readers d w) j ≢ Some i) → times_of p.batches i ≡ []
+  pub others : (i : ℕ) → i < length d.tasks → i ≢ w → ((j : ℕ) → slice_get (lower_readers d w) j ≢ Some i) → times_of p.batches i ≡ []

@@ -12,9 +12,13 @@
 #![tactic(auto)]
 
 mod column;
+mod document;
 mod fail;
 mod fault;
 mod firings;
+
 mod text;
 
+pub use document::need;
 pub use fail::NeedFail;
+

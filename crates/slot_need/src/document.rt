@@ -1,0 +1,68 @@
+// The document of a scenario.
+
+ghost use Rattle.std.specs.Prelude.{◌≡◌, ◌<◌, Err, IfErr, IfOk, None, OnOk, length};
+ghost use Rattle.std.specs.Option.{IfSome};
+ghost use Rattle.dbp_plan.specs.declared.plan.Plan.{Plan};
+ghost use Rattle.dbp_plan.specs.Ranked.{IsRanked};
+ghost use Rattle.dia_read.specs.Canonical.{canonical_text};
+ghost use Rattle.dia_read.specs.Printable.{IsPrintable};
+ghost use Rattle.trace_io.specs.Texts.{Accepts};
+ghost use Rattle.slot_need.specs.Bodies.{IsDiagramOf, IsScenario, scenario_body};
+ghost use Rattle.slot_need.specs.Faults.{IsNeedFail, need_fault};
+
+use crate::NeedFail;
+use crate::fault::fault;
+use crate::firings::scenario_end;
+use crate::text::scenario_trace;
+use dbp_plan::Diagram;
+use dia_read::{Body, canonical_text_spells, each_item_has_a_line};
+use std::alloc::Global;
+
+/// The body with the scenario of the task.
+fn scenario_body(
+    alloc: Global,
+    body: Body,
+    diagram: &Diagram,
+    task: u32,
+) -> Result<Body, NeedFail>
+    requires ranked { IsRanked diagram.now }
+    requires task { task < length diagram.now.tasks }
+    ensures body { IfOk result (λ written. written ≡ scenario_body body diagram.now task) }
+    ensures fit { OnOk result (need_fault diagram.now task ≡ None) }
+    ensures fault { IfErr result (λ fail. IsNeedFail diagram.now task fail) }
+    ensures refused { IfSome (need_fault diagram.now task) (λ fault. result ≡ Err fault) }
+{
+    if let Some(fault) = fault(diagram, task) {
+        return Err(fault);
+    }
+    let trace = scenario_trace(alloc, diagram, task)?;
+    Ok(Body {
+        until: scenario_end(diagram, task),
+        trace: Some(trace),
+        script: None,
+        ..body
+    })
+}
+
+/// The document in which all slots of the task, which is numbered from 0, are in use at its last tick: the body with
+/// another end, another trace and no script. The diagram came from this body, and only the order of declaration, the
+/// links, the ranks and the task's cost matter to the scenario. The rows are at most 144, since each task is on an event
+/// of its own. With a refusal the body is given up.
+pub fn need(alloc: Global, body: Body, diagram: &Diagram, task: u32) -> Result<Body, NeedFail>
+    requires diagram { IsDiagramOf body diagram.now }
+    requires printable { IsPrintable body }
+    requires task { task < length diagram.now.tasks }
+    ensures body { IfOk result (λ written. written ≡ scenario_body body diagram.now task) }
+    ensures printable { IfOk result (λ written. IsPrintable written) }
+    // The canonical text is accepted, and tasks occur in its plan as the scenario says.
+    ensures accepted { IfOk result (λ written. (p : Plan) × Accepts (canonical_text written) p × IsScenario diagram.now task p) }
+    // There is no fault; with an error there is this one, unless memory ran out.
+    ensures fit { OnOk result (need_fault diagram.now task ≡ None) }
+    ensures fault { IfErr result (λ fail. IsNeedFail diagram.now task fail) }
+    // A fault is found before memory is taken, so it is never out of memory.
+    ensures refused { IfSome (need_fault diagram.now task) (λ fault. result ≡ Err fault) }
+{
+    canonical_text_spells();
+    each_item_has_a_line();
+    scenario_body(alloc, body, diagram, task)
+}
