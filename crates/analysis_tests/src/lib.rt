@@ -3,3 +3,5 @@
 
 #[cfg(test)]
 mod response_times;
+#[cfg(test)]
+mod scenarios;

@@ -120,7 +120,7 @@ module _ (events : List (List ℕ)) where
       elim (cases_Bool (is_ever x.firing)) [
         | inl is ↦
             rw (is, other-bytes (name_of x) n (others 0 x refl)) (
-              next-place (cell_at k x.firing) (map (λ (c : Column). cell_at k c.firing) (kept cs)) (index_of (column_names events (kept cs)) n) nothing ∙ rest
+            next-place (cell_at k x.firing) (map (λ (c : Column). cell_at k c.firing) (kept cs)) (index_of (column_names events (kept cs)) n) nothing ∙ rest
             )
         | inr isnt ↦ rw isnt rest
       ]
@@ -141,7 +141,7 @@ module _ (events : List (List ℕ)) where
       elim (cases_Bool (is_ever x.firing)) [
         | inl is ↦
             rw (is, other-bytes (name_of x) (name_of c) (apart 0 (suc i) x c (omega arith) refl at)) (
-              next-place (cell_at k x.firing) (map (λ (c : Column). cell_at k c.firing) (kept cs)) (index_of (column_names events (kept cs)) (name_of c)) nothing ∙ rest
+            next-place (cell_at k x.firing) (map (λ (c : Column). cell_at k c.firing) (kept cs)) (index_of (column_names events (kept cs)) (name_of c)) nothing ∙ rest
             )
         | inr isnt ↦ rw isnt rest
       ]

@@ -57,8 +57,8 @@ module _ (d : Diagram) (w : ℕ) where
   is-reader j i at = (
     all_place (λ k. is_lower_reader d w k ≡ true) readers j i (filter_passes (is_lower_reader d w) (range_with_len 0 (length d.tasks))) at,
     all_place (λ k. k < length d.tasks) readers j i
-    (All-filter (is_lower_reader d w) (λ k. k < length d.tasks) (range_with_len 0 (length d.tasks))
-    (λ k e below. let inside : k < length d.tasks = omega (arith, below, length-range_with_len 0 (length d.tasks)) in omega (arith, inside, get_or-range_with_len 0 (length d.tasks) k e inside))) at,
+        (All-filter (is_lower_reader d w) (λ k. k < length d.tasks) (range_with_len 0 (length d.tasks))
+        (λ k e below. let inside : k < length d.tasks = omega (arith, below, length-range_with_len 0 (length d.tasks)) in omega (arith, inside, get_or-range_with_len 0 (length d.tasks) k e inside))) at,
   )
 
   -- they rise

@@ -19,12 +19,7 @@ use dia_read::{Body, canonical_text_spells, each_item_has_a_line};
 use std::alloc::Global;
 
 /// The body with the scenario of the task.
-fn scenario_body(
-    alloc: Global,
-    body: Body,
-    diagram: &Diagram,
-    task: u32,
-) -> Result<Body, NeedFail>
+fn scenario_body(alloc: Global, body: Body, diagram: &Diagram, task: u32) -> Result<Body, NeedFail>
     requires ranked { IsRanked diagram.now }
     requires task { task < length diagram.now.tasks }
     ensures body { IfOk result (λ written. written ≡ scenario_body body diagram.now task) }
@@ -44,8 +39,8 @@ fn scenario_body(
     })
 }
 
-/// The document in which all slots of the task, which is numbered from 0, are in use at its last tick: the body with
-/// another end, another trace and no script. The diagram came from this body, and only the order of declaration, the
+/// The document of the scenario of the task, which is numbered from 0: the body with another end, another trace and no
+/// script. It is made so that all slots of the task are in use at its last tick. The diagram came from this body, and only the order of declaration, the
 /// links, the ranks and the task's cost matter to the scenario. The rows are at most 144, since each task is on an event
 /// of its own. With a refusal the body is given up.
 pub fn need(alloc: Global, body: Body, diagram: &Diagram, task: u32) -> Result<Body, NeedFail>

@@ -32,8 +32,7 @@ fn is_lower_reader(diagram: &Diagram, task: u32, other: u32) -> bool
     ensures { result ≡ is_lower_reader diagram.now task other }
 {
     let ranks = diagram.ranks.items();
-    ranks[task as usize] < ranks[other as usize]
-        && is_linked(diagram.links.items(), task, other)
+    ranks[task as usize] < ranks[other as usize] && is_linked(diagram.links.items(), task, other)
 }
 
 /// The readers that are ranked below the task, each once, by number.

@@ -1,4 +1,4 @@
-//! The scenario of a task, in which all its slots are in use at once.
+//! The scenario of a task, which is made so that all its slots come into use at once.
 //!
 //! The task fires again and again, each time as its last instance ends. Its readers that are ranked below it fire once
 //! each, the first at the end of a first group of firings, the next at the end of the next, and are never served before
@@ -8,7 +8,7 @@
 //! `Scenarios` says who fires when, `Bodies` the document that says so, and `need` writes it into the body of the
 //! document that it is given: another end, another trace, no script, and all else as it was. The text of that body is
 //! accepted, since names, shape and ranks depend on neither; its plan has each task occur as the scenario says
-//! (`IsScenario`).
+//! (`IsScenario`). That the slots are then in use isn't proved yet.
 #![tactic(auto)]
 
 mod column;
@@ -16,9 +16,7 @@ mod document;
 mod fail;
 mod fault;
 mod firings;
-
 mod text;
 
 pub use document::need;
 pub use fail::NeedFail;
-

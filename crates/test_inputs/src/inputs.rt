@@ -23,8 +23,8 @@ pub fn doc_in(alloc: Global, text: &[u8]) -> Result<Doc, Fail>
     Ok(read_doc(alloc, text)?)
 }
 
-// The document's diagram, checked and with ranks.
-fn diagram_of(alloc: Global, doc: &Doc) -> Result<Diagram, Fail>
+/// The document's diagram, checked and with ranks.
+pub fn diagram_of(alloc: Global, doc: &Doc) -> Result<Diagram, Fail>
     requires printable { IsPrintable doc.now.body }
     requires lines { HasItemLines doc.now }
     ensures checked { IfOk result (λ diagram. IsCheckedOf doc.now diagram) }

@@ -4,5 +4,5 @@
 mod inputs;
 mod texts;
 
-pub use inputs::{doc_in, plan_in, plan_of};
+pub use inputs::{diagram_of, doc_in, plan_in, plan_of};
 pub use texts::{Document, THREE_RATES, TWO_RATES};
