@@ -76,7 +76,7 @@ end_stands p script record_is x e end =
     ∙ an_end p (service p) x (suc end.last) (subst (λ (u : ℕ). left_of p (service p) x u ≡ 0) next done)
 
 -- the events up to a later tick are those before this one, then this one's, then others
-events_on : (p : Plan) (serve : ℕ → Option Instance) (t k : ℕ)
+pub events_on : (p : Plan) (serve : ℕ → Option Instance) (t k : ℕ)
     → (more : List Event) × (events_before p serve (t + suc k) ≡ events_before p serve t ++ (events_at p serve t ++ more))
 events_on p serve t zero =
     let one : t + 1 ≡ suc t = omega arith in

@@ -12,4 +12,6 @@ pub mod Recordings
 pub mod MaySteps
 pub mod Serving
 pub mod EndEvents
+pub mod ReleasedPlaces
+pub mod AfterBatches
 pub mod Finals

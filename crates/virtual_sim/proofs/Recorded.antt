@@ -35,7 +35,7 @@ module _ (p : Plan) (serve : ℕ → Option Instance) where
   pub no_releases : (bs : List Batch) (t : ℕ) → ((k : ℕ) (d : Batch) → k < length bs → (get_or bs k d).time ≢ t) → release_events_at p serve bs t ≡ []
   no_releases bs t none = ap (flat_map (batch_events p)) (filter-none (λ b. eqb b.time t) bs (λ k d lt. ne_eqb _ _ (none k d lt)))
 
-  releases-append : (bs cs : List Batch) (t : ℕ) → release_events_at p serve (bs ++ cs) t ≡ release_events_at p serve bs t ++ release_events_at p serve cs t
+  pub releases-append : (bs cs : List Batch) (t : ℕ) → release_events_at p serve (bs ++ cs) t ≡ release_events_at p serve bs t ++ release_events_at p serve cs t
   releases-append bs cs t =
       ap (flat_map (batch_events p)) (filter-append (λ (b : Batch). eqb b.time t) bs cs)
       ∙ flat_map-append (batch_events p) (filter (λ (b : Batch). eqb b.time t) bs) (filter (λ (b : Batch). eqb b.time t) cs)

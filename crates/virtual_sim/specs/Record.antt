@@ -14,6 +14,7 @@ use Rattle.dbp_rules.specs.declared.step.Count.TheVariants.{Ranked}
 use Rattle.dbp_rules.specs.declared.step.Step.{Step}
 use Rattle.instance_steps.specs.Events.{Event, batch_events, begin_events, end_events, read_events}
 use Rattle.instance_steps.specs.Plays.{Plays}
+use Rattle.instance_steps.specs.Releases.{HasReleased}
 
 module _ (p : Plan) (serve : ℕ → Option Instance) where
   -- 1. the instance that was served in the tick before ends, if nothing is left of it
@@ -64,6 +65,18 @@ pub record HasEndAt (p : Plan) (script : List Step) (task time : ℕ) : Type 0 w
   pub ticks : Plays p (wiring_of p Ranked) (start_of p (wiring_of p Ranked))
       (events_before p (service p) time) earlier before
   pub ends : Plays p (wiring_of p Ranked) before (end_events p task) ending after
+
+-- The number and the time are those of a batch. A front of the list plays the events of all ticks before the time, then
+-- those of the tick's end, and then those of the batch. It leads from the start to a state in which the batches up to this
+-- one are released, and no others.
+pub record StandsAfterBatch (p : Plan) (script : List Step) (number time : ℕ) : Type 0 where
+  pub front : List Step
+  pub rest : List Step
+  pub list : script ≡ front ++ rest
+  pub state : State
+  pub plays : Plays p (wiring_of p Ranked) (start_of p (wiring_of p Ranked))
+      (events_so_far p (service p) (number + 1) time) front state
+  pub released : HasReleased p state (number + 1)
 
 -- No release comes too early, and the steps play the events of all ticks up to one at which all batches are released and
 -- nothing is left of any instance. Later ticks have no events.

@@ -1,7 +1,8 @@
 // What holds of the record and of the overrun of every plan.
 
-ghost use Rattle.std.specs.Prelude.{◌≡◌, ◌⊎◌, ℕ, List as Items, []};
+ghost use Rattle.std.specs.Prelude.{◌≡◌, ◌⊎◌, ℕ, List as Items, [], slice_get, Some};
 ghost use Rattle.dbp_plan.specs.declared.plan.Plan.{Plan};
+ghost use Rattle.dbp_plan.specs.declared.schedule.Batch.{Batch};
 ghost use Rattle.dbp_rules.specs.Lawful.{Leads};
 ghost use Rattle.dbp_rules.specs.Start.{start_of};
 ghost use Rattle.dbp_rules.specs.Wired.{wiring_of};
@@ -13,7 +14,7 @@ ghost use Rattle.rank_order.specs.Ends.{IsEnd, IsOverrun};
 ghost use Rattle.rank_order.specs.Instances.{Instance};
 ghost use Rattle.rank_order.specs.Service.{left_of};
 ghost use Rattle.rank_order.specs.ServiceOf.{service};
-ghost use Rattle.virtual_sim.specs.Record.{HasEndAt, IsRecord, end_events_at};
+ghost use Rattle.virtual_sim.specs.Record.{HasEndAt, IsRecord, StandsAfterBatch, end_events_at};
 
 /// A plan has one recorded list at most, and one overrun at most, and never both.
 pub fn a_plan_has_one_outcome()
@@ -45,4 +46,15 @@ pub fn recorded_ends_stand_at_their_times()
     ensures only { (p : Plan) (t : ℕ) → (end_events_at p (service p) t ≡ [])
         ⊎ ((x : Instance) × IsEnd (service p) x t
         × (end_events_at p (service p) t ≡ end_events p x.task)) }
+{}
+
+/// Right after each batch of its plan a recorded list stands at one front. This front plays the events of the ticks before
+/// the batch, then those of the end in its tick, and then those of the batch. It leads from the start to a state in which
+/// the batches so far are released, and no others.
+pub fn a_record_stands_after_each_batch()
+    ensures there { (p : Plan) (script : Items Step) (number : ℕ) (batch : Batch) → IsRecord p script
+        → slice_get p.batches number ≡ Some batch → StandsAfterBatch p script number batch.time }
+    ensures one { (p : Plan) (script : Items Step) (number time : ℕ)
+        → (a : StandsAfterBatch p script number time) → (b : StandsAfterBatch p script number time)
+        → a.front ≡ b.front }
 {}
