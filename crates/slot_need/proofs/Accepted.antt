@@ -44,16 +44,21 @@ use Rattle.trace_io.specs.Texts.{Accepts}
 use Rattle.trace_io.specs.Traces.{IsPlanOf, events_of}
 use Rattle.trace_io.specs.WrittenTraces.{HasWrittenTrace, written_events}
 use Rattle.trace_io.proofs.WrittenTraces.{events-written, samples-written, written-plan}
+use Rattle.rank_order.specs.Service.{IsService}
+use Rattle.rank_order.specs.ServiceOf.{service}
 use Rattle.slot_need.specs.declared.column.Column.{Column}
 use Rattle.slot_need.specs.declared.column.Firing.{Firing}
 use Rattle.slot_need.specs.declared.column.Firing.TheVariants.{Never, Each, Once}
 use Rattle.slot_need.specs.Bodies.{IsDiagramOf, IsScenario, column_names, row_at, scenario_body, scenario_rows}
 use Rattle.slot_need.specs.Faults.{need_fault}
-use Rattle.slot_need.specs.Scenarios.{firing_count, firing_of_event, firing_of_first, firing_of_reader, firing_of_task, firing_time, fires_at, lower_readers, scenario_columns, scenario_end}
+use Rattle.slot_need.specs.Live.{NeedsAllSlots}
+use Rattle.slot_need.specs.Scenarios.{firing_count, firing_of_event, firing_of_first, firing_of_reader, firing_of_task, firing_time, fires_at, last_firing, lower_readers, scenario_columns, scenario_end}
 use Rattle.slot_need.proofs.ColumnNames.{all_columns, columns-apart, columns-named, known-event, name-at, no-input}
 use Rattle.slot_need.proofs.Columns.{all-names, distinct-names, known-names, marks-of-events, name_of}
-use Rattle.slot_need.proofs.NeedFaults.{IsOnEvent, first-on-event, on-event, short-scenario}
+use Rattle.slot_need.proofs.LiveRows.{live-rows}
+use Rattle.slot_need.proofs.NeedFaults.{IsOnEvent, first-on-event, on-event, short-scenario, under-fixed}
 use Rattle.slot_need.proofs.Readers.{few-firings, some-firings}
+use Rattle.slot_need.proofs.Served.{no-overrun}
 use Rattle.slot_need.proofs.ScenarioTimes.{event-times, no-samples, times_of_event}
 use Rattle.slot_need.proofs.TaskFirings.{each-number, fires-each, inside-scenario, is-reader, never-fires, no-number, not-itself, one-number, reader-fires}
 
@@ -225,7 +230,13 @@ module _ (spells : (body : Body) → IsPrintable body → SpellsBody (canonical_
     others = λ i below apart outside. times-of-task p planned i below Never (never-fires d w i apart outside) ∙ ap (map (firing_time d w)) (no-number count);
   }
 
-  pub accepted : (p : Plan) × Accepts (canonical_text written) p × IsScenario d w p
-  accepted =
+  pub accepted : ((p : Plan) → IsService p (service p)) → (p : Plan) × Accepts (canonical_text written) p × IsScenario d w p × NeedsAllSlots p w (last_firing d w)
+  accepted serves =
       let (p, planned) = plan in
-      (p, record { doc = new; diagram = longer; spelled = spelled.spelled; checked = checked; planned = planned }, scenario p planned)
+      let is = scenario p planned in
+      let fixed = under-fixed d w none in (
+        p,
+        record { doc = new; diagram = longer; spelled = spelled.spelled; checked = checked; planned = planned },
+        is,
+        record { no_overrun = no-overrun d w there fixed p is (service p) (serves p); rows = live-rows d w there fixed ranked p is (serves p) },
+      )

@@ -1,10 +1,13 @@
 pub mod Accepted
 pub mod ColumnNames
 pub mod Columns
+pub mod KeptItems
+pub mod LiveRows
 pub mod NeedFaults
 pub mod Outcomes
 pub mod Ranges
 pub mod Readers
 pub mod ScenarioTimes
 pub mod SectionLines
+pub mod Served
 pub mod TaskFirings

@@ -62,7 +62,7 @@ module _ (d : Diagram) (w : ℕ) where
   )
 
   -- they rise
-  readers-rise : AllPairs (λ a b. a < b) readers
+  pub readers-rise : AllPairs (λ a b. a < b) readers
   readers-rise = AllPairs-filter (λ a b. a < b) (is_lower_reader d w) (range_with_len 0 (length d.tasks)) (λ k l e less below.
       let inside : l < length d.tasks = omega (arith, below, length-range_with_len 0 (length d.tasks)) in
       omega (arith, less, get_or-range_with_len 0 (length d.tasks) k e (omega (arith, less, inside)), get_or-range_with_len 0 (length d.tasks) l e inside))

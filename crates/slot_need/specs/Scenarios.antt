@@ -37,9 +37,12 @@ firing_time d w k = k * (task_at d w).cost
 abbrev pub firing_of_reader : Diagram → ℕ → ℕ → ℕ
 firing_of_reader d w j = (j + 1) * group_size d w - 1
 
+abbrev pub last_firing : Diagram → ℕ → ℕ
+last_firing d w = firing_time d w (firing_count d w - 1)
+
 -- the tick after the last firing
 abbrev pub scenario_end : Diagram → ℕ → ℕ
-scenario_end d w = firing_time d w (firing_count d w - 1) + 1
+scenario_end d w = last_firing d w + 1
 
 -- ---- at which firings a task fires, and so its event
 

@@ -9,6 +9,8 @@ ghost use Rattle.dia_read.specs.Printable.{IsPrintable};
 ghost use Rattle.trace_io.specs.Texts.{Accepts};
 ghost use Rattle.slot_need.specs.Bodies.{IsDiagramOf, IsScenario, scenario_body};
 ghost use Rattle.slot_need.specs.Faults.{IsNeedFail, need_fault};
+ghost use Rattle.slot_need.specs.Live.{NeedsAllSlots};
+ghost use Rattle.slot_need.specs.Scenarios.{last_firing};
 
 use crate::NeedFail;
 use crate::fault::fault;
@@ -16,6 +18,7 @@ use crate::firings::scenario_end;
 use crate::text::scenario_trace;
 use dbp_plan::Diagram;
 use dia_read::{Body, canonical_text_spells, each_item_has_a_line};
+use rank_order::each_plan_has_one_service;
 use std::alloc::Global;
 
 /// The body with the scenario of the task.
@@ -49,8 +52,10 @@ pub fn need(alloc: Global, body: Body, diagram: &Diagram, task: u32) -> Result<B
     requires task { task < length diagram.now.tasks }
     ensures body { IfOk result (λ written. written ≡ scenario_body body diagram.now task) }
     ensures printable { IfOk result (λ written. IsPrintable written) }
-    // The canonical text is accepted, and tasks occur in its plan as the scenario says.
-    ensures accepted { IfOk result (λ written. (p : Plan) × Accepts (canonical_text written) p × IsScenario diagram.now task p) }
+    // The canonical text is accepted, tasks occur in its plan as the scenario says, and at the last firing as many rows
+    // of the task matter as it has slots.
+    ensures accepted { IfOk result (λ written. (p : Plan) × Accepts (canonical_text written) p
+        × IsScenario diagram.now task p × NeedsAllSlots p task (last_firing diagram.now task)) }
     // There is no fault; with an error there is this one, unless memory ran out.
     ensures fit { OnOk result (need_fault diagram.now task ≡ None) }
     ensures fault { IfErr result (λ fail. IsNeedFail diagram.now task fail) }
@@ -59,5 +64,6 @@ pub fn need(alloc: Global, body: Body, diagram: &Diagram, task: u32) -> Result<B
 {
     canonical_text_spells();
     each_item_has_a_line();
+    each_plan_has_one_service();
     scenario_body(alloc, body, diagram, task)
 }
