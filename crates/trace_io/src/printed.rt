@@ -10,6 +10,10 @@ use dbp_plan::{Batch, NoMemory, Plan, Table, Task};
 use itoa::{Buffer, Integer};
 use std::alloc::Global;
 
+/// Bytes that the text of a table has room for at first, for each batch. A text that begins large grows without being
+/// copied, and touches no place that it leaves.
+const BATCH_ROOM: usize = 32;
+
 /// The text of a table of the plan: all occurrences by time and then by declaration, each as a line `t,task,n,v1,..,vk`
 /// that ends with LF. There `t` is the time in ticks, `n` the number of the task's occurrence, from 1, and the `v` are
 /// the words of its row `n`.
@@ -20,7 +24,7 @@ pub fn lines(alloc: Global, plan: &Plan, table: &Table) -> Result<Vec<u8>, NoMem
 {
     let tasks = plan.diagram.tasks.items();
     let mut counts = vec![in alloc; 0u32; tasks.len()]?;
-    let mut text = Vec::new(alloc);
+    let mut text = Vec::with_capacity(alloc, plan.batches.len() as usize * BATCH_ROOM)?;
     for batch in plan.batches.items() {
         push_batch(&mut text, tasks, table, batch, &mut counts)?;
     }
