@@ -62,12 +62,7 @@ fn push_batch(
 
 // Adds the line of one occurrence, after its time and the comma behind it.
 #[inline(always)]
-fn push_line(
-    text: &mut Vec<u8>,
-    name: &[u8],
-    number: u32,
-    row: &[i64],
-) -> Result<(), NoMemory>
+fn push_line(text: &mut Vec<u8>, name: &[u8], number: u32, row: &[i64]) -> Result<(), NoMemory>
     ensures { OnOk result (text.new.items
         ≡ text.old.items ++ line_rest name.now number row.now) }
 {
