@@ -6,6 +6,7 @@ pub mod BatchLines
 pub mod Counting
 pub mod OneSchedule
 pub mod OwnSamples
+pub mod Pieces
 pub mod Plans
 pub mod Spans
 pub mod TraceFaults

@@ -14,13 +14,13 @@ use Rattle.dbp_plan.specs.Table.{table_row}
 abbrev pub cells_of : List ℤ → List ℕ
 cells_of words = flat_map (λ word. 44 ∷ signed_decimal word) words
 
--- these digits of the time, and then `,task,n,v1,..,vk`, ended by LF (10)
-abbrev pub line_after : List ℕ → List ℕ → ℕ → List ℤ → List ℕ
-line_after time name number words = time ++ 44 ∷ name ++ 44 ∷ decimal number ++ cells_of words ++ 10 ∷ []
+-- `task,n,v1,..,vk`, ended by LF (10)
+abbrev pub line_rest : List ℕ → ℕ → List ℤ → List ℕ
+line_rest name number words = name ++ 44 ∷ decimal number ++ cells_of words ++ 10 ∷ []
 
 -- `t,task,n,v1,..,vk`
 abbrev pub line_text : ℕ → List ℕ → ℕ → List ℤ → List ℕ
-line_text time name number words = line_after (decimal time) name number words
+line_text time name number words = decimal time ++ 44 ∷ line_rest name number words
 
 -- the name of the task
 abbrev pub name_of : List Task → ℕ → List ℕ
