@@ -42,6 +42,8 @@ ENDED = (
     (["--name", "two words", GOOD], 2, "usage: emit_c "),
     (["--name", "_it", GOOD], 2, "usage: emit_c "),
     (["--target", "other", GOOD], 2, "usage: emit_c "),
+    (["--calls", "-1", GOOD], 2, "usage: emit_c "),
+    (["--calls", "1000000", GOOD], 2, "usage: emit_c "),
     (["--program", "/none", GOOD], 70, "emit_c: /none: No such file or directory\n"),
     (["--program", "/bin/echo", GOOD], 70, "emit_c: "),
     ([], 2, "usage: emit_c "),
@@ -61,6 +63,8 @@ FILES = {
 
 BESIDE = {
     "all operators": compiled.compare_operators,
+    "tables": compiled.compare_tables,
+    "the largest task without a table": compiled.compare_largest,
     "the last instances": compiled.compare_last_instances,
     "releases": compiled.compare_releases,
     "the shared words": compiled.compare_words,
