@@ -243,6 +243,9 @@ def compare_docs(program):
         must_end(call(program, ["-o", place, GOOD]), 0)
         written = (Path(place) / "preempted.c").read_text()
         must("\n".join(blocks["text"][0]) in written, "the block of the docs isn't in preempted.c")
+        must_end(call(program, ["-o", place, *compiled.TABLES, GOOD]), 0)
+        written = (Path(place) / "preempted.c").read_text()
+        must("\n".join(blocks["text"][1]) in written, "the table of the docs isn't in preempted.c")
         source = Path(place) / "system.c"
         source.write_text("\n".join([*blocks["c"][0], "void readme(uint64_t tick);", "void readme(uint64_t tick)", "{", *lines[0], "}"]))
         if compiled.has_compiler():
