@@ -200,22 +200,14 @@ def results_with_trees(task, own):
 
 
 def block(plan, number):
-    """Yields the function that computes the outs and the next states of a task."""
+    """Returns whether a task is a table, and the lines of the function that computes its outs and its next states."""
     task, own = plan.document.tasks[number], plan.of(plan.tasks[number])
     lets, results = ordered_lets(task.lets), results_with_trees(task, own)
-    yield ""
-    yield plan.comments[task.name, "task", task.name]
-    yield f"static void {own}_compute(void)"
-    yield "{"
-    is_table = has_table(plan, task)
-    yield from (statements_of_table if is_table else statements)(plan, task, own, lets, results)
-    yield "}"
-
-
-def has_table(plan, task):
-    """Whether a task has more operators than its function may have calls of them."""
-    expressions = [it.expression for it in (*task.lets, *task.outs, *task.nexts)]
-    return sum(operators_in(tree_of(it)) for it in expressions) > plan.most_calls
+    trees = [*(tree for _, tree in lets), *(tree for _, _, tree, _ in results)]
+    is_table = sum(map(operators_in, trees)) > plan.most_calls
+    lines = (statements_of_table if is_table else statements)(plan, task, own, lets, results)
+    about = plan.comments[task.name, "task", task.name]
+    return is_table, ["", about, f"static void {own}_compute(void)", "{", *lines, "}"]
 
 
 def statements(plan, task, own, lets, results):
@@ -354,9 +346,9 @@ def body(plan):
     lines = [MARK, "", about]
     lines += ["", f'#include "{plan.name}.h"', "", "/* The tables. */", "", *tables(plan)]
     lines += ["", "/* The shared words, and what each party alone uses. */", "", *all_variables(plan)]
-    has_tables = any(has_table(plan, task) for task in plan.document.tasks)
-    lines += operations.operate(plan) if has_tables else []
-    lines += ["", "/* The blocks. */", *(line for number in numbers for line in block(plan, number))]
+    blocks = [block(plan, number) for number in numbers]
+    lines += operations.operate(plan) if any(is_table for is_table, _ in blocks) else []
+    lines += ["", "/* The blocks. */", *(line for _, block_lines in blocks for line in block_lines)]
     lines += ["", "/* What a system calls. */", "", *beginning(plan), *sampling(plan)]
     lines += RELEASES.replace("NAME_", plan.of("")).split("\n")
     lines += [line for number in numbers for line in calls_of_task(plan, number)]
