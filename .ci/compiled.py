@@ -6,6 +6,7 @@ import subprocess
 import sys
 import tempfile
 from contextlib import contextmanager
+from copy import copy
 from pathlib import Path
 
 TOP = Path(__file__).resolve().parent.parent
@@ -26,6 +27,7 @@ COMPILE_SECONDS = 120
 MOST_BYTES = 1_048_576
 FIRST_LINES = 400  # of `mean`, which are tried with seeds and a record
 NAME = "it"
+TABLES = ("--calls", "0")  # each task that has operators becomes a table
 BESIDE = TOP / ".ci" / "tried" / "emit_c"  # documents, and C that goes with some
 
 # Values at which operators have their corners, of which all pairs are tried, and what is computed of a pair.
@@ -89,19 +91,27 @@ def answered(program, words, document):
 
 
 class Toolchain:
-    """A compiler with its flags, the tools that write C, and the files that all diagrams share, compiled in a folder."""
+    """A compiler with its flags, the tools that write C with their options, and the files that all diagrams share, compiled
+    in a folder."""
 
     def __init__(self, room, compiler="cc", flags=(), tools=TOOLS):
+        self.options = ()
         self.tools, self.sources = Path(tools), Path(tools) / "emitting"
         self.is_sanitizing = any("-fsanitize" in flag for flag in flags)
         self.command = [compiler, *FLAGS, *flags, "-pthread", "-I", str(self.sources)]
         self.objects = [self.compiled(self.sources / f"{name}.c", room) for name in SHARED]
 
+    def with_options(self, *words):
+        """Returns the same toolchain, whose tools get these options."""
+        other = copy(self)
+        other.options = words
+        return other
+
     def emitted(self, program, document, folder, name=NAME, target="trace"):
         """Writes the C of a document into a folder; by the tools of this repository that is done in this process."""
         source = Path(folder) / "document.dbp"
         source.write_bytes(document)
-        words = ["--program", program, "-o", folder, "--name", name, "--target", target, source]
+        words = ["--program", program, "-o", folder, "--name", name, "--target", target, *self.options, source]
         if self.tools == TOOLS:
             status = command.main([*map(str, words)])
             must(status == 0, f"emit_c ends with {status}")
@@ -222,9 +232,31 @@ def operators_document():
 
 def compare_operators(program, toolchain):
     """Compares the values of all operators at their corners."""
-    document = operators_document()
+    compare_whole(program, toolchain, operators_document())
+
+
+def compare_tables(program, toolchain):
+    """Compares the values of all operators, and a document's record, where each task is a table of operations."""
+    compare_operators(program, toolchain.with_options(*TABLES))
+    compare_document(program, toolchain.with_options(*TABLES), (BESIDE / "tables.dbp").read_bytes())
+
+
+def compare_largest(program, toolchain):
+    """Compares the lines of a document whose first task has 500 operators, and whose second one has one more and so is a
+    table."""
+    tasks = {"calls": 500, "rows": 501}
+    lines = ["dbp 1", "policy fp", "until 20"]
+    for task, operators in tasks.items():
+        lines += [f"task {task} every 1 prio 1 cost 1", "state n = 3"]
+        lines += [f"let x{at} = {'x%d' % (at - 1) if at else 'n'}{' + n' * 31}" for at in range(16)]
+        lines += [f"next n = n{' - 1' * (operators - 496)}", "out y = 0 then x15"]
+    document = "\n".join([*lines, "done", ""]).encode()
+    compare_whole(program, toolchain, document)
     with folder() as place:
-        compare_lines(program, document, trace_of(program, toolchain, document, place))
+        toolchain.emitted(program, document, place)
+        text = (Path(place) / f"{NAME}.c").read_text()
+    found = re.findall(rf"{NAME}_operate\(operations", text)
+    must(len(found) == 1 and f"{NAME}_rows_compute" in text.partition("int64_t values[")[0], f"{len(found)} tasks are tables")
 
 
 def printed_beside(program, toolchain, name, place, others=()):

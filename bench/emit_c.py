@@ -6,7 +6,7 @@
 
 200 documents of `gen` (sizes 1 to 32) run without a seed, with one and with a record, and four documents with 100 seeds
 each: compiled by gcc and clang, as the trials compile them, with -fsanitize=thread and with -fsanitize=address,undefined.
-Each run has 20 seconds. Prints a line for each way of compiling; the exit status is 0 only if all are as `mean` and
+Each way also has the operators and a document as tables. Each run has 20 seconds. Prints a line for each way of compiling; the exit status is 0 only if all are as `mean` and
 `replay` say. With --sizes it prints the sizes of the examples of docs/DEPLOYING.md, by `gcc -Os`;
 with --speed the processor seconds of traces beside those of `run`, and how long the largest document takes to compile.
 """
@@ -83,11 +83,12 @@ def try_way(way, options):
     with compiled.folder() as room, ThreadPoolExecutor(options.jobs) as pool:
         toolchain = Toolchain(room, compiler, flags)
         found = [*pool.map(lambda trial: fault_of(options.program, toolchain, trial), trials)]
-    faults = [fault for fault, _ in found if fault]
+        of_tables = compiled.fault_of(compiled.compare_tables, options.program, toolchain)
+    faults = [*(fault for fault, _ in found if fault), *([f"tables: {of_tables}"] if of_tables else [])]
     runs, steps = sum(1 + len(trial.seeds) for trial in trials), sum(count for _, count in found)
     seconds = time.monotonic() - started
-    print(f"{way}: {len(trials)} documents, {runs} runs, {len(trials)} records of {steps} steps, {len(faults)} faults, "
-          f"{seconds:.0f} seconds", flush=True)
+    print(f"{way}: {len(trials)} documents, {runs} runs, {len(trials)} records of {steps} steps, tables, "
+          f"{len(faults)} faults, {seconds:.0f} seconds", flush=True)
     for fault in faults:
         print(f"  {fault}", flush=True)
     return len(faults)

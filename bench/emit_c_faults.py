@@ -5,8 +5,8 @@
 
 Each fault is an edit of a copy of tools/. Then the checks of .ci/tried/emit_c.py are made with that copy on a few
 documents: the text; the compiler; lines without and with seeds; records against `replay`; operators; last instances;
-releases; shared words; and runs with -fsanitize=thread. Prints a row for each fault, with the first thing that each check finds; the exit
-status is 0 only if each fault is found, and nothing is found without one.
+releases; shared words; tables; and runs with -fsanitize=thread. Prints a row for each fault, with the first thing that each
+check finds; the exit status is 0 only if each fault is found, and nothing is found without one.
 """
 
 import argparse
@@ -39,7 +39,7 @@ DOCUMENTS = (
 )
 SEEDS = (1, 2, 3, 4)
 TICKS = 120  # of each document
-PROTOCOL, WRITER = "emitting/dbp_protocol.c", "emitting/source.py"
+PROTOCOL, WRITER, TABLES = "emitting/dbp_protocol.c", "emitting/source.py", "emitting/operations.py"
 PUT = "move_to(part, DBP_AT_PUT, part->at + 1, it->diagram->tasks[task].ports, DBP_AT_DONE);"
 LOAD = "return atomic_load_explicit(&it->words[address], memory_order_seq_cst);"
 STORE = "atomic_store_explicit(&it->words[address], value, memory_order_seq_cst);"
@@ -141,6 +141,11 @@ FAULTS = (
     planted("a state isn't kept", WRITER, 'yield "next", it.state, it.expression, f"{own}_states[{numbers[it.state]}]"',
             'yield "next", it.state, it.expression, f"{own}_outs[0]"'),
     planted("first values are 0", WRITER, "[number_text(out.first) for out in task.outs]", '["0" for out in task.outs]'),
+    planted("a table's operands change places", TABLES, "', '.join(places)", "', '.join([places[0], *places[:0:-1]])"),
+    planted("a table's choice is turned round", TABLES, "            if (a == 0) {", "            if (a != 0) {"),
+    planted("a table's place of a number is one off", TABLES, "numbers[place - value_count]", "numbers[place - value_count + (place == value_count)]"),
+    planted("parts of a table share a place", TABLES, "inner = depth + number - (not is_choice)", "inner = 0"),
+    planted("a table's choice has one branch", TABLES, '            self.add("ELSE", place, condition, no)\n', ""),
     planted("lets in the order of their lines", "emitting/blocks.py", "if before and left[-1] not in found:", "if not before and left[-1] not in left:"),
 )
 
@@ -223,6 +228,7 @@ class Trial:
         yield "last instances", partial(self.check_beside, compiled.compare_last_instances)
         yield "releases", partial(self.check_beside, compiled.compare_releases)
         yield "shared words", partial(self.check_beside, compiled.compare_words)
+        yield "tables", partial(self.check_beside, compiled.compare_tables)
         yield "threads", self.check_races
 
 

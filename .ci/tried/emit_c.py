@@ -42,6 +42,8 @@ ENDED = (
     (["--name", "two words", GOOD], 2, "usage: emit_c "),
     (["--name", "_it", GOOD], 2, "usage: emit_c "),
     (["--target", "other", GOOD], 2, "usage: emit_c "),
+    (["--calls", "-1", GOOD], 2, "usage: emit_c "),
+    (["--calls", "1000000", GOOD], 2, "usage: emit_c "),
     (["--program", "/none", GOOD], 70, "emit_c: /none: No such file or directory\n"),
     (["--program", "/bin/echo", GOOD], 70, "emit_c: "),
     ([], 2, "usage: emit_c "),
@@ -61,6 +63,8 @@ FILES = {
 
 BESIDE = {
     "all operators": compiled.compare_operators,
+    "tables": compiled.compare_tables,
+    "the largest task without a table": compiled.compare_largest,
     "the last instances": compiled.compare_last_instances,
     "releases": compiled.compare_releases,
     "the shared words": compiled.compare_words,
@@ -239,6 +243,9 @@ def compare_docs(program):
         must_end(call(program, ["-o", place, GOOD]), 0)
         written = (Path(place) / "preempted.c").read_text()
         must("\n".join(blocks["text"][0]) in written, "the block of the docs isn't in preempted.c")
+        must_end(call(program, ["-o", place, *compiled.TABLES, GOOD]), 0)
+        written = (Path(place) / "preempted.c").read_text()
+        must("\n".join(blocks["text"][1]) in written, "the table of the docs isn't in preempted.c")
         source = Path(place) / "system.c"
         source.write_text("\n".join([*blocks["c"][0], "void readme(uint64_t tick);", "void readme(uint64_t tick)", "{", *lines[0], "}"]))
         if compiled.has_compiler():

@@ -43,6 +43,16 @@ def number_text(value):
     return str(value) if abs(value) <= MOST_PLAIN else f"INT64_C({value})"
 
 
+def called_by(tree):
+    """Returns the function that makes an operator."""
+    return SIGNS[len(tree.parts)] if tree.head.says("-") else OPERATORS[tree.head.text]
+
+
+def operators_in(tree):
+    """Returns how many operators stand in an expression."""
+    return sum(bool(part.parts) for part in tree.all())
+
+
 def expression_text(tree, names):
     """Returns an expression as C, in which each name of the document has one of C."""
     head = tree.head
@@ -50,8 +60,7 @@ def expression_text(tree, names):
         return names[head.text]
     if head.kind is Kind.NUMBER:
         return number_text(head.value)
-    called = SIGNS[len(tree.parts)] if head.says("-") else OPERATORS[head.text]
-    return f"{called}({', '.join(expression_text(part, names) for part in tree.parts)})"
+    return f"{called_by(tree)}({', '.join(expression_text(part, names) for part in tree.parts)})"
 
 
 def ordered_lets(lets):

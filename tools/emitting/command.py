@@ -2,7 +2,7 @@
 
 import os
 import re
-from argparse import RawDescriptionHelpFormatter
+from argparse import ArgumentTypeError, RawDescriptionHelpFormatter
 from functools import partial
 from pathlib import Path
 
@@ -25,8 +25,16 @@ exit status: 0 the files are written; 1 the document is refused; 2 wrong words; 
 a file that emit_c didn't write is there; 6 the program's memory ran out; 7 the document is too large; 70 the program
 can't be run; 130 interrupted."""
 
+MOST_CALLS = 500
 HERE = Path(__file__).resolve().parent
 FILES = {"core": ("dbp_protocol.h", "dbp_protocol.c"), "trace": ("dbp_trace.h", "dbp_trace.c")}
+
+
+def most_calls(text):
+    """Returns the number of calls that a word gives."""
+    if not re.fullmatch("[0-9]{1,6}", text):
+        raise ArgumentTypeError(f"{text!r} is no number of calls: 0 to 999999")
+    return int(text)
 
 
 def options_of(words):
@@ -37,6 +45,8 @@ def options_of(words):
     about_name = "what the names of files and calls begin with (the document's file)"
     parser.add_argument("--name", help=about_name)
     parser.add_argument("--target", choices=("core", "trace"), default="core", help="what is written (core)")
+    about_calls = f"a task with more operators becomes a table, which compiles sooner ({MOST_CALLS})"
+    parser.add_argument("--calls", type=most_calls, metavar="N", default=MOST_CALLS, help=about_calls)
     parser.add_argument("--force", action="store_true", help="overwrite files that emit_c didn't write")
     add_program_option(parser)
     options = parser.parse_args(words)
@@ -62,7 +72,8 @@ def planned(options):
         name = file_name("diagram" if options.file == STANDARD_INPUT else Path(options.file).stem)
     with read_as_answer(options.program):
         slots = [slots_of(line) for line in lines]
-        return plan_of(name, re.sub(r"[^\w. -]", "_", title, flags=re.ASCII), source, form, read_document(form), slots)
+        title = re.sub(r"[^\w. -]", "_", title, flags=re.ASCII)
+        return plan_of(name, title, source, form, read_document(form), slots, options.calls)
 
 
 def texts_of(plan, target):

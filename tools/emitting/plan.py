@@ -4,6 +4,7 @@ from dataclasses import dataclass
 from typing import Dict, Optional, Tuple
 
 from canonical import Document, Every, On
+from emitting import operations
 from emitting.lines import comments_of
 from emitting.names import Names, escaped
 from emitting.wiring import Wiring, wiring_of
@@ -26,7 +27,7 @@ class Plan:
     """A diagram that is written: `title` is what its comments call the document.
 
     Tasks, events and inputs have the names of the document with what C needs besides; `inputs` has only those that a task
-    senses or occurs by.
+    senses or occurs by. A block with more operators than `most_calls` is a table.
     """
 
     name: str
@@ -37,6 +38,7 @@ class Plan:
     tasks: Tuple[str, ...]
     events: Dict[str, str]
     inputs: Dict[str, str]
+    most_calls: int
 
     def of(self, rest):
         """Returns the name of C that the diagram has for something of its own."""
@@ -76,20 +78,21 @@ def is_periodic(task):
     return isinstance(task.clock, Every)
 
 
-def plan_of(name, title, source, form, document, slots):
-    """Returns what is written of a document: its bytes, its canonical text, and how many slots each task has."""
-    names = Names(OWN)
+def plan_of(name, title, source, form, document, slots, most_calls):
+    """Returns what is written of a document: its bytes, its canonical text, how many slots each task has, and of more than
+    how many operators a block is a table."""
+    names = Names((*OWN, *operations.OWN))
     tasks = tuple(names.give(task.name, TASK_FORMS) for task in document.tasks)
     events = {event: names.give(event, ("on_{}",)) for event in document.events}
     used = [it.name for it in document.inputs if any(uses(task, it.name) for task in document.tasks)]
     inputs = {name: names.give(name, ("input_{}", "samples_{}")) for name in used}
     wiring = wiring_of(document, slots)
-    return Plan(name, title, document, wiring, comments_of(source, form), tasks, events, inputs)
+    return Plan(name, title, document, wiring, comments_of(source, form), tasks, events, inputs, most_calls)
 
 
-def local_names(plan, task):
-    """Returns the names that C has for the states, senses, reads and lets of a task."""
-    names = Names()
+def local_names(plan, task, names=None):
+    """Returns the names that C has for the states, senses, reads and lets of a task; `names` has others of its function."""
+    names = names or Names()
     parts = (*task.states, *task.senses, *task.reads, *task.lets)
     return {part.name: names.give(escaped(part.name, f"{plan.name}_")) for part in parts}
 

@@ -1,6 +1,8 @@
 """The files of a diagram for every target: NAME.h, what a system calls and writes, and NAME.c."""
 
-from emitting.blocks import expression_text, names_in, number_text, ordered_lets, tree_of
+from emitting import operations
+from emitting.blocks import expression_text, names_in, number_text, operators_in, ordered_lets, tree_of
+from emitting.names import Names
 from emitting.plan import is_periodic, local_names, row_names, set_text
 
 MARK = "/* Written by tools/emit_c of dbp: it writes this file anew at each call. */"
@@ -192,11 +194,25 @@ def results_of(task, own):
         yield "next", it.state, it.expression, f"{own}_states[{numbers[it.state]}]"
 
 
+def results_with_trees(task, own):
+    """Returns the lines of a task that say what it computes: the word, the name, the tree, and the place in C."""
+    return [(word, name, tree_of(text), place) for word, name, text, place in results_of(task, own)]
+
+
 def block(plan, number):
-    """Yields the function that computes the outs and the next states of a task."""
+    """Returns whether a task is a table, and the lines of the function that computes its outs and its next states."""
     task, own = plan.document.tasks[number], plan.of(plan.tasks[number])
-    names, lets = local_names(plan, task), ordered_lets(task.lets)
-    results = [(word, name, tree_of(text), place) for word, name, text, place in results_of(task, own)]
+    lets, results = ordered_lets(task.lets), results_with_trees(task, own)
+    trees = [*(tree for _, tree in lets), *(tree for _, _, tree, _ in results)]
+    is_table = sum(map(operators_in, trees)) > plan.most_calls
+    lines = (statements_of_table if is_table else statements)(plan, task, own, lets, results)
+    about = plan.comments[task.name, "task", task.name]
+    return is_table, ["", about, f"static void {own}_compute(void)", "{", *lines, "}"]
+
+
+def statements(plan, task, own, lets, results):
+    """Yields the statements that compute a block: a call for each operator."""
+    names = local_names(plan, task)
     used = set().union(*(names_in(tree) for tree in [*(tree for _, tree in lets), *(tree for _, _, tree, _ in results)]))
 
     def declared(word, name, value):
@@ -204,17 +220,47 @@ def block(plan, number):
         if name not in used:
             yield f"    (void){names[name]};"
 
-    yield ""
-    yield plan.comments[task.name, "task", task.name]
-    yield f"static void {own}_compute(void)"
-    yield "{"
     for word, name, place in places_of(task, own):
         yield from declared(word, name, place)
     for let, tree in lets:
         yield from declared("let", let.name, expression_text(tree, names))
     for word, name, tree, place in results:
         yield from beside(f"    {place} = {expression_text(tree, names)};", plan.comments[task.name, word, name])
-    yield "}"
+
+
+def statements_of_table(plan, task, own, lets, results):
+    """Yields the statements that compute a block by a table."""
+    names = Names(operations.LOCALS)
+    places = local_names(plan, task, names)
+    given = [*places_of(task, own)]
+    made = [(word, name, tree, place, names.give(f"{word}_{name}")) for word, name, tree, place in results]
+    parts = [(plan.comments[task.name, "let", let.name], tree, places[let.name]) for let, tree in lets]
+    parts += [(plan.comments[task.name, word, name], tree, at) for word, name, tree, _, at in made]
+    table, rows = operations.table_of(plan, names, places, parts)
+    values = [*places.values(), *(at for *_, at in made), *table.inner]
+    yield "    enum {"
+    yield from filled([*values, "value_count"])
+    if table.numbers:
+        first, *others = table.numbers.values()
+        yield from filled([f"{first} = value_count", *others])
+    yield "    };"
+    yield from (f"    {line}" for line in c_array("int64_t", "numbers", [number_text(it) for it in table.numbers]))
+    yield f"    static const {plan.of('operation')} operations[] = {{"
+    yield from rows
+    yield "    };"
+    yield "    int64_t values[value_count];"
+    for word, name, place in given:
+        yield from beside(f"    values[{places[name]}] = {place};", plan.comments[task.name, word, name])
+    count = "sizeof operations / sizeof *operations"
+    numbers = pointer("numbers", table.numbers)
+    yield f"    {plan.of('operate')}(operations, {count}, values, value_count, {numbers});"
+    for word, name, _, place, at in made:
+        yield from beside(f"    {place} = values[{at}];", plan.comments[task.name, word, name])
+
+
+def filled(items):
+    """Yields items of a list, as many on a line as it has room for."""
+    return operations.filled(f"{item}," for item in items)
 
 
 def calls_of_task(plan, number):
@@ -300,7 +346,9 @@ def body(plan):
     lines = [MARK, "", about]
     lines += ["", f'#include "{plan.name}.h"', "", "/* The tables. */", "", *tables(plan)]
     lines += ["", "/* The shared words, and what each party alone uses. */", "", *all_variables(plan)]
-    lines += ["", "/* The blocks. */", *(line for number in numbers for line in block(plan, number))]
+    blocks = [block(plan, number) for number in numbers]
+    lines += operations.operate(plan) if any(is_table for is_table, _ in blocks) else []
+    lines += ["", "/* The blocks. */", *(line for _, block_lines in blocks for line in block_lines)]
     lines += ["", "/* What a system calls. */", "", *beginning(plan), *sampling(plan)]
     lines += RELEASES.replace("NAME_", plan.of("")).split("\n")
     lines += [line for number in numbers for line in calls_of_task(plan, number)]
