@@ -45,9 +45,8 @@ CONDITIONS = (
     Condition("beside 16", 500, load=16),
     Condition("on one processor", 500, processors=1),
     Condition("on two processors", 500, processors=2),
-    Condition("one thread", 50, threads=1),
-    Condition("two threads", 50, threads=2),
-    Condition("one thread, beside 4", 5, load=4, threads=1),
+    *(Condition(f"threads: {count}", 10, threads=count) for count in (1, 2, 3, 5, 9, 17, 33)),
+    Condition("threads: 1, beside 4", 5, load=4, threads=1),
 )
 
 
