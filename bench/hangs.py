@@ -1,16 +1,18 @@
 #!/usr/bin/env python3
 """Runs `run` many times on four small documents, and looks for runs that hang or print other bytes than `mean`.
 
-  bench/hangs.py [--program PROGRAM] [--only TEXT] [--share SHARE] [--limit SECONDS]
+  bench/hangs.py [--program PROGRAM] [--only TEXT] [--share SHARE] [--limit SECONDS] [--vary]
 
 Each document is run beside nothing, beside processes that compute without a pause, on few processors, and by a user who
 may make few threads or none (which needs `prlimit`, and `setpriv` for root). A run that hasn't ended after so many
-seconds (60) hangs: it is killed. SHARE is the part of the runs that is made (1). Prints a table; the exit status is 0
-only if each run gave the bytes of `mean`.
+seconds (60) hangs: it is killed. SHARE is the part of the runs that is made (1). With --vary each run of a document has a time of
+its own until which it runs; from it a program of `bench/planted.py drawn_pauses` draws. Prints a table; the exit status is
+0 only if each run gave the bytes of `mean`.
 """
 
 import argparse
 import os
+import re
 import shutil
 import sys
 import tempfile
@@ -43,9 +45,8 @@ CONDITIONS = (
     Condition("beside 16", 500, load=16),
     Condition("on one processor", 500, processors=1),
     Condition("on two processors", 500, processors=2),
-    Condition("one thread", 50, threads=1),
-    Condition("two threads", 50, threads=2),
-    Condition("one thread, beside 4", 5, load=4, threads=1),
+    *(Condition(f"threads: {count}", 10, threads=count) for count in (1, 2, 3, 5, 9, 17, 33)),
+    Condition("threads: 1, beside 4", 5, load=4, threads=1),
 )
 
 
@@ -97,10 +98,23 @@ class Found:
 
 def found_in(command, document, wanted, runs, limit):
     """Runs the command so often."""
-    ends = [run(command, document, limit) for _ in range(runs)]
-    hung = [it.status == -9 for it in ends]
-    wrong = sum((it.status, it.stdout) != wanted and not is_hung for it, is_hung in zip(ends, hung))
-    return Found([it.seconds for it in ends], sum(hung), wrong)
+    return found_of([(run(command, document, limit), wanted) for _ in range(runs)])
+
+
+def found_of(ends):
+    """Counts runs, each with the status and the bytes that are wanted of it."""
+    hung = sum(it.status == -9 for it, _ in ends)
+    wrong = sum((it.status, it.stdout) != wanted and it.status != -9 for it, wanted in ends)
+    return Found([it.seconds for it, _ in ends], hung, wrong)
+
+
+def varied_runs(program, command, document, runs, limit):
+    """Yields runs, each until a later time than the one before, and what is wanted of it."""
+    before, until, after = re.split(rb"^until ([0-9]+)$", document, maxsplit=1, flags=re.M)
+    for more in range(runs):
+        later = b"%suntil %d%s" % (before, int(until) + more, after)
+        meant = run([program, "mean"], later)
+        yield run(command, later, limit), (0, meant.stdout)
 
 
 def line_of(names, cells):
@@ -113,6 +127,7 @@ def read_options():
     parser.add_argument("--only", default="", help="the conditions and documents that have this text")
     parser.add_argument("--share", type=float, default=1, help="the part of the runs that is made (1)")
     parser.add_argument("--limit", type=float, default=60, help="the seconds that a run may take (60)")
+    parser.add_argument("--vary", action="store_true", help="each run of a document ends at another time")
     return parser.parse_args()
 
 
@@ -126,7 +141,10 @@ def all_found(program, options):
                 continue
             meant = run([program, "mean"], document)
             with load(condition.load), processors(condition.processors):
-                found = found_in(command, document, (0, meant.stdout), runs, options.limit)
+                if options.vary:
+                    found = found_of([*varied_runs(program, command, document, runs, options.limit)])
+                else:
+                    found = found_in(command, document, (0, meant.stdout), runs, options.limit)
             yield (condition.name, name), found
 
 

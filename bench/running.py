@@ -2,11 +2,13 @@
 
 import os
 import re
+import signal
 import subprocess
 import sys
 import tempfile
 import threading
 import time
+from contextlib import suppress
 from dataclasses import dataclass
 from pathlib import Path
 
@@ -35,6 +37,12 @@ def program(text):
     return text
 
 
+def kill(pid):
+    """Ends a process. Popen.kill also asks whether it has ended, and then wait4 finds no process."""
+    with suppress(ProcessLookupError):
+        os.kill(pid, signal.SIGKILL)
+
+
 def run(command, document, limit=600, environment=None):
     """Runs a command from a file into a file. After `limit` seconds it is killed, and its status is -9."""
     with tempfile.TemporaryFile() as source, tempfile.TemporaryFile() as sink:
@@ -42,7 +50,7 @@ def run(command, document, limit=600, environment=None):
         source.seek(0)
         start = time.perf_counter()
         child = subprocess.Popen(command, stdin=source, stdout=sink, stderr=subprocess.DEVNULL, env=environment)
-        timer = threading.Timer(limit, child.kill)
+        timer = threading.Timer(limit, kill, (child.pid,))
         timer.start()
         _, status, used = os.wait4(child.pid, 0)
         seconds = time.perf_counter() - start
