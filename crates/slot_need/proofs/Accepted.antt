@@ -1,6 +1,6 @@
 -- The text of a scenario is accepted, and its plan has each task occur as the scenario says.
-use Rattle.std.proofs.Common.{◌≡◌, ◌≢◌, ℕ, zero, suc, ◌+◌, ◌-◌, ◌*◌, ◌<◌, ◌≤◌, All, List, [], ◌∷◌, length, map, slice_get, get_or, Option, Some, None, refl, sym, ap, ◌∙◌, subst, arith}
-use Rattle.std.specs.Prelude.{filter, slice_index_or, sum_by}
+use Rattle.std.proofs.Common.{◌≡◌, ℕ, ◌+◌, ◌-◌, ◌*◌, ◌<◌, ◌≤◌, All, List, [], ◌∷◌, length, map, slice_get, Option, Some, None, refl, sym, ap, ◌∙◌, subst, arith}
+use Rattle.std.specs.Prelude.{filter}
 use Rattle.std.specs.List.{range_with_len}
 use Rattle.std.specs.Option.{option_map}
 use Rattle.std.specs.List.Sorted.{IsStrictlyIncreasing}
@@ -9,8 +9,6 @@ use Rattle.std.proofs.lemmas.List.{length-map}
 use Rattle.std.proofs.lemmas.List.FromFn.{get_or-map-range_with_len, length-map-range_with_len, length-range_with_len}
 use Rattle.std.proofs.lemmas.List.Sums.{count_by-le-length, length-filter, sum_by-le}
 use Rattle.std.proofs.lemmas.Option.{get_or_from_slice_get, slice_get-map}
-use Rattle.dbp_plan.specs.declared.diagram.Clock.{Clock}
-use Rattle.dbp_plan.specs.declared.diagram.Clock.TheVariants.{On}
 use Rattle.dbp_plan.specs.declared.diagram.Diagram.{Diagram}
 use Rattle.dbp_plan.specs.declared.diagram.Task.{Task}
 use Rattle.dbp_plan.specs.declared.limits.TheConstants.{MAX_OCCURRENCES}
@@ -35,7 +33,7 @@ use Rattle.dia_check.proofs.CheckedRanks.{checked-ranked}
 use Rattle.dia_check.proofs.DeclaredNames.{declared-names}
 use Rattle.dia_check.proofs.PlaceLaws.{all-places}
 use Rattle.dia_check.proofs.SameTasks.{checked-again}
-use Rattle.trace_rows.specs.Headers.{input_names, kind_of_column}
+use Rattle.trace_rows.specs.Headers.{kind_of_column}
 use Rattle.trace_rows.specs.Written.{AreCellsOf, CanWrite, WrittenRow, written_samples, written_times}
 use Rattle.trace_rows.proofs.WrittenRows.{each-row}
 use Rattle.trace_rows.proofs.WrittenText.{section-kept}
@@ -46,21 +44,20 @@ use Rattle.trace_io.specs.WrittenTraces.{HasWrittenTrace, written_events}
 use Rattle.trace_io.proofs.WrittenTraces.{events-written, samples-written, written-plan}
 use Rattle.rank_order.specs.Service.{IsService}
 use Rattle.rank_order.specs.ServiceOf.{service}
-use Rattle.slot_need.specs.declared.column.Column.{Column}
 use Rattle.slot_need.specs.declared.column.Firing.{Firing}
 use Rattle.slot_need.specs.declared.column.Firing.TheVariants.{Never, Each, Once}
 use Rattle.slot_need.specs.Bodies.{IsDiagramOf, IsScenario, column_names, row_at, scenario_body, scenario_rows}
 use Rattle.slot_need.specs.Faults.{need_fault}
 use Rattle.slot_need.specs.Live.{NeedsAllSlots}
-use Rattle.slot_need.specs.Scenarios.{firing_count, firing_of_event, firing_of_first, firing_of_reader, firing_of_task, firing_time, fires_at, last_firing, lower_readers, scenario_columns, scenario_end}
+use Rattle.slot_need.specs.Scenarios.{firing_count, firing_of_event, firing_of_first, firing_of_reader, firing_of_task, firing_time, fires_at, last_firing, scenario_columns, scenario_end}
 use Rattle.slot_need.proofs.ColumnNames.{all_columns, columns-apart, columns-named, known-event, name-at, no-input}
 use Rattle.slot_need.proofs.Columns.{all-names, distinct-names, known-names, marks-of-events, name_of}
 use Rattle.slot_need.proofs.LiveRows.{live-rows}
 use Rattle.slot_need.proofs.NeedFaults.{IsOnEvent, first-on-event, on-event, short-scenario, under-fixed}
-use Rattle.slot_need.proofs.Readers.{few-firings, some-firings}
+use Rattle.slot_need.proofs.Readers.{few-firings}
 use Rattle.slot_need.proofs.Served.{no-overrun}
 use Rattle.slot_need.proofs.ScenarioTimes.{event-times, no-samples, times_of_event}
-use Rattle.slot_need.proofs.TaskFirings.{each-number, fires-each, inside-scenario, is-reader, never-fires, no-number, not-itself, one-number, reader-fires}
+use Rattle.slot_need.proofs.TaskFirings.{each-number, fires-each, inside-scenario, is-reader, never-fires, no-number, one-number, reader-fires}
 
 pub ranked-diagram : (body : Body) (d : Diagram) → IsDiagramOf body d → IsPrintable body → IsRanked d
 ranked-diagram body d is printable = checked-ranked (record { body = body; lines = is.lines }) d printable is.each is.checked

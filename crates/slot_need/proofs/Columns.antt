@@ -1,5 +1,5 @@
 -- The columns of a scenario's trace: their names, and what is written under each. Only those of events that occur are kept.
-use Rattle.std.proofs.Common.{◌≡◌, ◌≢◌, ℕ, zero, suc, ◌+◌, ◌<◌, Bool, true, false, All, List, [], ◌∷◌, map, slice_get, Some, refl, sym, ap, ◌∙◌, inl, inr, arith}
+use Rattle.std.proofs.Common.{◌≡◌, ◌≢◌, ℕ, zero, suc, ◌+◌, ◌<◌, true, false, All, List, [], ◌∷◌, map, slice_get, Some, refl, sym, ap, ◌∙◌, inl, inr, arith}
 use Rattle.std.specs.Prelude.{filter, slice_index_or}
 use Rattle.std.specs.List.{list_all}
 use Rattle.std.specs.Str.{bytes_eq}
@@ -12,7 +12,7 @@ use Rattle.dbp_plan.specs.NameLists.{index_of, is_among}
 use Rattle.dbp_plan.proofs.NameLaws.{same-bytes}
 use Rattle.trace_rows.specs.declared.cell.Kind.TheVariants.{Mark}
 use Rattle.trace_rows.specs.Headers.{are_distinct, input_names, kind_of_column}
-use Rattle.trace_rows.specs.Written.{AreCellsOf, IsCellOf, WrittenCell, is_mark, mark, nothing}
+use Rattle.trace_rows.specs.Written.{AreCellsOf, IsCellOf, WrittenCell, is_mark, nothing}
 use Rattle.slot_need.specs.declared.column.Column.{Column}
 use Rattle.slot_need.specs.declared.column.Firing.{Firing}
 use Rattle.slot_need.specs.declared.column.Firing.TheVariants.{Never, Each, Once}

@@ -1,13 +1,17 @@
 pub mod Accepted
 pub mod ColumnNames
 pub mod Columns
+pub mod FullSlots
 pub mod KeptItems
+pub mod KnownEnds
 pub mod LiveRows
 pub mod NeedFaults
 pub mod Outcomes
+pub mod Pigeonholes
 pub mod Ranges
 pub mod Readers
 pub mod ScenarioTimes
 pub mod SectionLines
 pub mod Served
 pub mod TaskFirings
+pub mod UsedSlots

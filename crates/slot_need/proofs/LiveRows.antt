@@ -1,10 +1,10 @@
 -- The rows of a scenario's task that matter after its last firing: as many as the task has slots.
-use Rattle.std.proofs.Common.{◌≡◌, ◌≢◌, ℕ, zero, suc, ◌+◌, ◌-◌, ◌*◌, ◌<◌, ◌≤◌, ◌⊎◌, Bool, true, false, List, [], ◌∷◌, ◌++◌, length, map, get_or, slice_get, Option, Some, None, refl, sym, ap, ◌∙◌, subst, inl, inr, arith, length-append}
-use Rattle.std.specs.Prelude.{AllPairs, IsTrue, count_by, filter, nat_le, slice_index, slice_index_or, ◌==◌, ◌&&◌}
+use Rattle.std.proofs.Common.{◌≡◌, ◌≢◌, ℕ, ◌+◌, ◌-◌, ◌*◌, ◌<◌, ◌≤◌, ◌⊎◌, true, List, ◌++◌, length, map, get_or, slice_get, Some, refl, sym, ap, ◌∙◌, subst, inl, inr, arith, length-append}
+use Rattle.std.specs.Prelude.{AllPairs, IsTrue, filter, nat_le, slice_index_or, ◌==◌, ◌&&◌}
 use Rattle.std.specs.List.{list_any, position_or_len, range_with_len}
 use Rattle.std.specs.Option.{option_map}
 use Rattle.std.proofs.Math.Nat.{mul-le-mul_right}
-use Rattle.std.proofs.lemmas.Bool.{and_parts, cases_lt, eq-eqb, eqb-true, ltb-true}
+use Rattle.std.proofs.lemmas.Bool.{and_parts, cases_lt, eq-eqb, eqb-true}
 use Rattle.std.proofs.lemmas.List.{length-map}
 use Rattle.std.proofs.lemmas.List.FromFn.{get_or-range_with_len, length-map-range_with_len, length-range_with_len}
 use Rattle.std.proofs.lemmas.List.Kept.{AllPairs-filter}
@@ -25,7 +25,6 @@ use Rattle.dbp_plan.proofs.OwnSamples.{range-place}
 use Rattle.dbp_plan.proofs.TaskTimes.{come_counted}
 use Rattle.dbp_slots.specs.Slots.{counts_of, is_to_lower, longest_delay}
 use Rattle.dia_check.proofs.LinkLists.{any-at}
-use Rattle.rank_order.specs.Ends.{IsEnd}
 use Rattle.rank_order.specs.Instances.{Instance, IsInstance, release_of}
 use Rattle.rank_order.specs.Service.{IsService}
 use Rattle.rank_order.specs.ServiceOf.{service}
@@ -59,7 +58,7 @@ module _ (d : Diagram) (w : ℕ) (there : w < length d.tasks) (fixed : d.policy 
   times-count : length (times_of p.batches w) ≡ count
   times-count = own-count d w there fixed p is (service p) serves
 
-  firing-at : (k : ℕ) → k < count → slice_get (times_of p.batches w) k ≡ Some (k * cost)
+  pub firing-at : (k : ℕ) → k < count → slice_get (times_of p.batches w) k ≡ Some (k * cost)
   firing-at k below = ap (λ (ts : List ℕ). slice_get ts k) is.task ∙ range-place (firing_time d w) count k below
 
   rises : Rises (times_of p.batches w)
@@ -83,21 +82,21 @@ module _ (d : Diagram) (w : ℕ) (there : w < length d.tasks) (fixed : d.policy 
   lower = filter (is_to_lower d.ranks w) d.links
 
   -- the number of a link's reader
-  abbrev place_of : Link → ℕ
+  abbrev pub place_of : Link → ℕ
   place_of l = position_or_len (λ r. r == l.reader) readers
 
   -- the row that its reader reads over the link
-  abbrev row_of : Link → ℕ
+  abbrev pub row_of : Link → ℕ
   row_of l = (place_of l + 1) * group - l.delay
 
-  record IsLower (l : Link) : Type 0 where
+  pub record IsLower (l : Link) : Type 0 where
     pub index : ℕ
     pub at : slice_get d.links index ≡ Some l
     pub passes : is_to_lower d.ranks w l ≡ true
     pub reader : slice_get readers (place_of l) ≡ Some l.reader
     pub delay : l.delay ≤ longest_delay d.links w
 
-  lower-link : (k : ℕ) (l : Link) → slice_get d.links k ≡ Some l → is_to_lower d.ranks w l ≡ true → IsLower l
+  pub lower-link : (k : ℕ) (l : Link) → slice_get d.links k ≡ Some l → is_to_lower d.ranks w l ≡ true → IsLower l
   lower-link k l at passes =
       let (from, below) = and_parts (l.writer == w) _ passes in
       let ends = all_place (λ (l : Link). (l.writer < length d.tasks) × (l.reader < length d.tasks) × (l.writer ≢ l.reader)) d.links k l ranked.closed.ends at in
@@ -154,12 +153,12 @@ module _ (d : Diagram) (w : ℕ) (there : w < length d.tasks) (fixed : d.policy 
   ]
 
   -- rows that a reader reads lie in its group, and before the latest ones
-  record IsInGroup (l : Link) : Type 0 where
+  pub record IsInGroup (l : Link) : Type 0 where
     pub above : place_of l * group < row_of l
     pub within : row_of l ≤ (place_of l + 1) * group
     pub before : (place_of l + 1) * group + group ≤ count
 
-  in-group : (l : Link) → IsLower l → IsInGroup l
+  pub in-group : (l : Link) → IsLower l → IsInGroup l
   in-group l is =
       let below : place_of l < length readers = slice_get_within readers (place_of l) l.reader is.reader in
       let most : (place_of l + 1) * group ≤ length readers * group = mul-le-mul_right group (omega (arith, below)) in
@@ -167,7 +166,7 @@ module _ (d : Diagram) (w : ℕ) (there : w < length d.tasks) (fixed : d.policy 
       let all : count ≡ length readers * group + group = omega arith in
       record { above = omega (arith, next, is.delay); within = omega arith; before = omega (arith, most, all) }
 
-  groups-apart : (l m : Link) → IsLower l → IsLower m → l ≢ m → row_of l ≢ row_of m
+  pub groups-apart : (l m : Link) → IsLower l → IsLower m → l ≢ m → row_of l ≢ row_of m
   groups-apart l m is_l is_m other same =
       let g = in-group l is_l in
       let h = in-group m is_m in
@@ -215,11 +214,11 @@ module _ (d : Diagram) (w : ℕ) (there : w < length d.tasks) (fixed : d.policy 
   abbrev last : ℕ
   last = last_firing d w
 
-  latest-last : latest_row p w last ≡ count
+  pub latest-last : latest_row p w last ≡ count
   latest-last = let some = some-firings d w in omega (arith, some, latest-at (count - 1) (omega (arith, some)))
 
   -- the reader's one instance, and the latest row at its release
-  reader-instance : (j i : ℕ) → slice_get readers j ≡ Some i → IsInstance p (record { task = i; number = 1 })
+  pub reader-instance : (j i : ℕ) → slice_get readers j ≡ Some i → IsInstance p (record { task = i; number = 1 })
   reader-instance j i at = record {
     task = subst (λ (e : Diagram). i < length e.tasks) (sym is.diagram) (is-reader d w j i at).1;
     from_one = omega arith;
@@ -265,7 +264,7 @@ module _ (d : Diagram) (w : ℕ) (there : w < length d.tasks) (fixed : d.policy 
   ]
 
   -- what a reader reads over a link
-  row-read : (l : Link) (x : Instance) → IsLower l → l.reader ≡ x.task → IsInstance p x → row_of l ≡ latest_row p w (release_of p x) - l.delay
+  pub row-read : (l : Link) (x : Instance) → IsLower l → l.reader ≡ x.task → IsInstance p x → row_of l ≡ latest_row p w (release_of p x) - l.delay
   row-read l x linked reader instance = elim (instance-cases d w there fixed p is (service p) serves x instance) [
     | inl same ↦ absurd (not-itself d w l.reader (is-reader d w (place_of l) l.reader linked.reader).0 (reader ∙ same))
     | inr r ↦

@@ -1,10 +1,10 @@
 -- Tasks of a diagram without a fault: each is on an event of its own.
-use Rattle.std.proofs.Common.{◌≡◌, ◌≢◌, ℕ, zero, suc, ◌<◌, ◌≤◌, Bool, true, false, List, [], ◌∷◌, length, take, slice_get, get_or, Option, Some, None, refl, sym, ap, ◌∙◌, inl, inr, arith}
-use Rattle.std.specs.Prelude.{is_some, nat_lt, slice_index_or, ◌==◌}
-use Rattle.std.specs.List.{find, list_any, position, position_or_len, range_with_len}
+use Rattle.std.proofs.Common.{◌≡◌, ◌≢◌, ℕ, zero, suc, ◌<◌, ◌≤◌, Bool, true, false, List, length, take, slice_get, get_or, Option, Some, None, refl, sym, ap, ◌∙◌, inl, inr, arith}
+use Rattle.std.specs.Prelude.{is_some, nat_lt, ◌==◌}
+use Rattle.std.specs.List.{find, position, position_or_len, range_with_len}
 use Rattle.std.proofs.lemmas.Bool.{both_ways, cases_Bool, cases_lt, eq-eqb, eqb-true, lt-ltb, or_parts}
 use Rattle.std.proofs.lemmas.List.Sums.{position_or_len_is}
-use Rattle.std.proofs.lemmas.Option.{get_or_from_slice_get, none-some, same_Some, slice_get-get_or, slice_get_within}
+use Rattle.std.proofs.lemmas.Option.{get_or_from_slice_get, slice_get-get_or, slice_get_within}
 use Rattle.dbp_plan.specs.declared.diagram.Clock.{Clock}
 use Rattle.dbp_plan.specs.declared.diagram.Clock.TheVariants.{Every, On}
 use Rattle.dbp_plan.specs.declared.diagram.Diagram.{Diagram}
@@ -16,7 +16,6 @@ use Rattle.dbp_plan.specs.ListItems.{take_place}
 use Rattle.dbp_plan.specs.Lookups.{no_declared_task, task_at}
 use Rattle.dia_check.proofs.LinkLists.{any-at}
 use Rattle.dia_check.proofs.PortLaws.{position-there}
-use Rattle.slot_need.specs.declared.fail.NeedFail.{NeedFail}
 use Rattle.slot_need.specs.Faults.{fault_under, is_off_events, is_periodic, is_same_event, is_sharing, length_fault, need_fault}
 use Rattle.slot_need.specs.Scenarios.{is_on, scenario_end}
 use Rattle.slot_need.proofs.Ranges.{found-first}

@@ -1,13 +1,12 @@
 -- When tasks occur in a scenario: each at the firings that its event is marked at.
-use Rattle.std.proofs.Common.{◌≡◌, ◌≢◌, ℕ, zero, suc, ◌+◌, ◌<◌, ◌≤◌, Bool, true, false, List, [], ◌∷◌, length, map, slice_get, Some, None, refl, sym, ap, ◌∙◌, inl, inr, arith}
+use Rattle.std.proofs.Common.{◌≡◌, ℕ, zero, suc, ◌+◌, ◌<◌, Bool, true, false, List, [], ◌∷◌, length, map, slice_get, Some, None, refl, sym, ap, ◌∙◌, inl, inr}
 use Rattle.std.specs.Prelude.{filter, slice_index_or}
 use Rattle.std.specs.List.{flat_map, range_with_len}
 use Rattle.std.proofs.lemmas.Bool.{cases_Bool}
 use Rattle.dbp_plan.specs.declared.diagram.Diagram.{Diagram}
 use Rattle.dbp_plan.specs.declared.diagram.Input.{Input}
-use Rattle.dbp_plan.specs.declared.schedule.Sample.{Sample}
 use Rattle.dia_check.specs.ItemNames.{AreNamed, input_and_event_names}
-use Rattle.trace_rows.specs.Written.{WrittenCell, WrittenRow, is_mark, nothing, value_of, written_row_samples, written_samples, written_times, written_under}
+use Rattle.trace_rows.specs.Written.{WrittenRow, is_mark, nothing, value_of, written_row_samples, written_samples, written_times, written_under}
 use Rattle.slot_need.specs.declared.column.Column.{Column}
 use Rattle.slot_need.specs.declared.column.Firing.{Firing}
 use Rattle.slot_need.specs.Bodies.{cell_at, column_names, row_at, scenario_rows}

@@ -7,7 +7,7 @@ use Rattle.trace_rows.specs.Written.{WrittenRow, cell_text, written_row, written
 use Rattle.trace_rows.proofs.SectionText.{section-push}
 use Rattle.slot_need.specs.declared.column.Column.{Column}
 use Rattle.slot_need.specs.Bodies.{cell_at, column_names, row_at}
-use Rattle.slot_need.specs.Cells.{cell_bytes, header_bytes, name_bytes, row_bytes}
+use Rattle.slot_need.specs.Cells.{header_bytes, name_bytes, row_bytes}
 
 fused : {A : Type 0} (f : A → List ℕ) (xs : List A) → flat_map (λ cell. 44 ∷ cell) (map f xs) ≡ flat_map (λ x. 44 ∷ f x) xs
 fused f [] = refl

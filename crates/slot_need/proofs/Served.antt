@@ -1,30 +1,29 @@
 -- In a scenario its task runs through: each instance is served as it is released, until it ends, and no other task before the last has ended.
-use Rattle.std.proofs.Common.{◌≡◌, ◌≢◌, ℕ, zero, suc, ◌+◌, ◌-◌, ◌*◌, ◌<◌, ◌≤◌, ◌⊎◌, Bool, true, false, List, [], ◌∷◌, length, map, get_or, slice_get, Option, Some, None, refl, sym, ap, ◌∙◌, subst, inl, inr, arith}
+use Rattle.std.proofs.Common.{◌≡◌, ◌≢◌, ℕ, zero, suc, ◌+◌, ◌-◌, ◌*◌, ◌<◌, ◌≤◌, ◌⊎◌, true, List, [], ◌∷◌, length, slice_get, Option, Some, refl, sym, ap, ◌∙◌, subst, inl, inr, arith}
 use Rattle.std.specs.Prelude.{IsTrue, slice_index, slice_index_or, ◌==◌}
-use Rattle.std.specs.List.{list_any, range_with_len}
+use Rattle.std.specs.List.{list_any}
 use Rattle.std.proofs.Math.Nat.{mul-le-mul_right}
 use Rattle.std.proofs.lemmas.Bool.{and_parts, both_ways, cases_Bool, cases_eq, cases_lt, eq-eqb, eqb-true, lt-ltb, ltb-true}
 use Rattle.std.proofs.lemmas.List.FromFn.{get_or-map-range_with_len, length-map-range_with_len}
-use Rattle.std.proofs.lemmas.Option.{none-some, slice_get_within}
 use Rattle.dbp_plan.specs.declared.diagram.Diagram.{Diagram}
 use Rattle.dbp_plan.specs.declared.diagram.Policy.{Policy}
 use Rattle.dbp_plan.specs.declared.diagram.Policy.TheVariants.{Edf, Fp}
 use Rattle.dbp_plan.specs.declared.plan.Plan.{Plan}
 use Rattle.dbp_plan.specs.Lookups.{declared_task, task_at}
-use Rattle.dbp_plan.specs.Occurrences.{time_of, times_of}
+use Rattle.dbp_plan.specs.Occurrences.{times_of}
 use Rattle.dia_check.proofs.LinkLists.{any-at}
-use Rattle.rank_order.specs.Ends.{IsEnd, Late, NoOverrun}
+use Rattle.rank_order.specs.Ends.{IsEnd, NoOverrun}
 use Rattle.rank_order.specs.Instances.{Instance, IsInstance, before_it, release_of}
 use Rattle.rank_order.specs.Order.{is_before, key_by}
-use Rattle.rank_order.specs.Service.{GoesBefore, IsFirst, IsService, Waits, left_of, served_ticks}
+use Rattle.rank_order.specs.Service.{GoesBefore, IsService, Waits, left_of, served_ticks}
 use Rattle.rank_order.proofs.Choices.{same_instance, tick_of, tick_own}
 use Rattle.rank_order.proofs.InstanceEnds.{some_cost}
 use Rattle.rank_order.proofs.Jump.{IsQuiet, Ran, runs}
 use Rattle.rank_order.proofs.OneService.{serves_waiting}
 use Rattle.rank_order.proofs.ServedTicks.{left_falls, served_grows, served_next, served_none, unserved}
 use Rattle.slot_need.specs.Bodies.{IsScenario}
-use Rattle.slot_need.specs.Scenarios.{firing_count, firing_of_reader, firing_time, group_size, is_lower_reader, lower_readers, scenario_end}
-use Rattle.slot_need.proofs.TaskFirings.{inside-scenario, is-reader}
+use Rattle.slot_need.specs.Scenarios.{firing_count, firing_of_reader, firing_time, lower_readers}
+use Rattle.slot_need.proofs.TaskFirings.{is-reader}
 
 -- under fixed priorities the higher rank goes first
 fixed-first : (policy : Policy) (d : Diagram) (i j a b : ℕ) → policy ≡ Fp → slice_index d.ranks i < slice_index d.ranks j → IsTrue (is_before (key_by policy d i a) (key_by policy d j b))
@@ -53,7 +52,7 @@ module _ (d : Diagram) (w : ℕ) (there : w < length d.tasks) (fixed : d.policy 
   own-cost : (declared_task p w).cost ≡ cost
   own-cost = ap (λ (e : Diagram). (task_at e w).cost) is.diagram
 
-  own-named : w < length p.diagram.tasks
+  pub own-named : w < length p.diagram.tasks
   own-named = subst (λ (e : Diagram). w < length e.tasks) (sym is.diagram) there
 
   pub cost-some : 1 ≤ cost

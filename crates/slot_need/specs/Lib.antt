@@ -3,5 +3,6 @@ pub mod Bodies
 pub mod Faults
 pub mod Live
 pub mod Scenarios
+pub mod SlotsInUse
 -- Definitions that only private functions and proofs cite.
 pub mod Cells

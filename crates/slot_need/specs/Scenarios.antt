@@ -1,6 +1,6 @@
 -- The scenario of a task: who fires when. Each reader below the task fires late in a group of firings of its own, so at the
 -- last firing each of them still holds rows of its group.
-use Rattle.std.specs.Prelude.{ℕ, ◌+◌, ◌-◌, ◌*◌, ◌==◌, ◌&&◌, if◌then◌else◌, Bool, true, false, nat_lt, List, filter, map, length, slice_index, slice_index_or, Option, Some, None}
+use Rattle.std.specs.Prelude.{ℕ, ◌+◌, ◌-◌, ◌*◌, ◌==◌, ◌&&◌, if◌then◌else◌, Bool, true, false, nat_lt, List, filter, map, length, slice_index, Option, Some, None}
 use Rattle.std.specs.List.{list_any, position, range_with_len}
 use Rattle.dbp_plan.specs.declared.diagram.Clock.{Clock}
 use Rattle.dbp_plan.specs.declared.diagram.Clock.TheVariants.{Every, On}

@@ -1,4 +1,4 @@
-use Rattle.std.proofs.Common.{◌∙◌, ap, sym, arith}
+use Rattle.std.proofs.Common.{◌∙◌, sym, arith}
 use Rattle.slot_need.specs.Faults.{is_sharing}
 use Rattle.slot_need.proofs.Ranges.{found-first, none-found}
 use Rattle.slot_need.proofs.fault.first_sharing.Goals as goal

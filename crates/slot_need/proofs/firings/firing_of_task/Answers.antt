@@ -1,5 +1,4 @@
-use Rattle.std.proofs.Common.{◌≡◌, ◌<◌, ◌≤◌, ◌+◌, ◌*◌, Some, length, ap, sym, ◌∙◌, arith, ◌==◌, List, ℕ}
-use Rattle.std.specs.List.{position}
+use Rattle.std.proofs.Common.{◌+◌, length, ap, sym, ◌∙◌, arith, ◌==◌, List, ℕ}
 use Rattle.std.proofs.Math.Nat.{mul-le-mul_left}
 use Rattle.std.proofs.lemmas.List.Quantifiers.{position-Some}
 use Rattle.slot_need.proofs.Readers.{few-readers}

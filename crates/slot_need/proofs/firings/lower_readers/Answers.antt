@@ -1,4 +1,4 @@
-use Rattle.std.proofs.Common.{◌≡◌, ◌++◌, ◌∷◌, [], ℕ, List, length, true, false, ap, sym, ◌∙◌, arith, length-append}
+use Rattle.std.proofs.Common.{◌≡◌, ◌++◌, ◌∷◌, [], ℕ, List, true, false, ap, sym, ◌∙◌, arith, length-append}
 use Rattle.slot_need.specs.Scenarios.{is_lower_reader}
 use Rattle.slot_need.proofs.Ranges.{dropped-more, kept-more}
 use Rattle.slot_need.proofs.firings.lower_readers.Goals.{then-is_lower_reader, else-is_lower_reader}
