@@ -97,7 +97,7 @@ class Drawing:
 
     def __init__(self, draw):
         self.draw = draw
-        count, most = draw.randrange(1, MOST_TASKS + 1), draw.choice((0, 3, 1_000_000))
+        count, most = draw.choice((draw.randrange(1, MOST_TASKS), MOST_TASKS)), draw.choice((0, 3, 1_000_000))
         self.writer = draw.randrange(count)
         self.prios = [draw.randrange(most + 1) for _ in range(count)]
         if draw.randrange(2):
@@ -114,7 +114,7 @@ class Drawing:
             others = [it for it in places if it not in (reader, self.writer)]
             writers = self.draw.sample(others, len(others) > 0 and self.draw.randrange(3) == 0)
             if reader != self.writer:
-                writers += [self.writer] * self.draw.randrange(most + 1)
+                writers += [self.writer] * self.draw.randrange(self.draw.randrange(2), most + 1)
             self.draw.shuffle(writers)
             reads = [(it, self.delay(reader, it, longest)) for it in writers]
             self.reads[reader] = [it for it in reads if it[1] is not None][:room]
