@@ -1,6 +1,7 @@
 pub mod BusyPeriods
 pub mod Choices
 pub mod EditedItems
+pub mod HigherRanks
 pub mod InstanceEnds
 pub mod Jump
 pub mod Keys

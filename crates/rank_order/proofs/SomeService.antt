@@ -23,7 +23,7 @@ abbrev pub Among : List Instance → Instance → Type 0
 Among [] x = ⊥
 Among (y ∷ ys) x = (x ≡ y) ⊎ Among ys x
 
-abbrev Passes : List Instance → (Instance → Bool) → Instance → Type 0
+abbrev pub Passes : List Instance → (Instance → Bool) → Instance → Type 0
 Passes xs test x = Among xs x × (test x ≡ true)
 
 module _ (p : Plan) where
@@ -65,7 +65,7 @@ module _ (p : Plan) where
       ))
       (cases_Bool (goes_before p.diagram x.task (release_of p x) z.task (release_of p z)))
 
-  first_is : (test : Instance → Bool) (xs : List Instance) → ((y : Instance) → Among xs y → IsInstance p y) → IsFirst (GoesBefore p) (Passes xs test) (first_of_those p test xs)
+  pub first_is : (test : Instance → Bool) (xs : List Instance) → ((y : Instance) → Among xs y → IsInstance p y) → IsFirst (GoesBefore p) (Passes xs test) (first_of_those p test xs)
   first_is test [] all = λ y w. w.0
   first_is test (x ∷ xs) all =
       let rest = first_is test xs (λ y among. all y (inr among)) in

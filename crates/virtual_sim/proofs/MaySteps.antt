@@ -14,6 +14,7 @@ use Rattle.rank_order.specs.Order.{goes_before, is_before, key_by}
 use Rattle.rank_order.specs.Queue.{IsServedFirst}
 use Rattle.rank_order.specs.Service.{GoesBefore}
 use Rattle.rank_order.specs.ServiceOf.{service}
+use Rattle.rank_order.proofs.HigherRanks.{released_earlier}
 use Rattle.rank_order.proofs.SomeService.{service_is}
 use Rattle.dbp_rules.specs.Lookups.{task, task_entry}
 use Rattle.dbp_rules.specs.Rules.{own_time}
@@ -28,22 +29,6 @@ use Rattle.virtual_sim.specs.State.{NoBatchBefore, instance, release_count}
 use Rattle.virtual_sim.specs.declared.run.Run.{Run}
 use Rattle.virtual_sim.proofs.Running.{first_small, first_some, is_choice}
 use Rattle.virtual_sim.proofs.Steps.{busy_count_one, busy_count_none, waits_from}
-
-by_rank : (m n a b : ℕ) → n < m → is_before (record { first = m; second = a }) (record { first = n; second = b }) ≡ true → ⊥
-by_rank m n a b less before = grind (arith, nat_tests)
-
-by_deadline : (a b d e m n : ℕ) → n < m → e ≤ d → is_before (record { first = a + d; second = m }) (record { first = b + e; second = n }) ≡ true → a < b
-by_deadline a b d e m n less le before = grind (arith, nat_tests)
-
-module _ (p : Plan) (i q : ℕ) (il : i < length p.diagram.tasks) (ql : q < length p.diagram.tasks) (higher : get_or p.diagram.ranks q 0 < get_or p.diagram.ranks i 0) where
-  by_policy : (policy : Policy) (a b : ℕ) → p.diagram.policy ≡ policy → is_before (key_by policy p.diagram i a) (key_by policy p.diagram q b) ≡ true → a < b
-  by_policy Fp a b is before = absurd (by_rank (get_or p.diagram.ranks i 0) (get_or p.diagram.ranks q 0) a b higher before)
-  by_policy Edf a b is before =
-      by_deadline a b (unwrap_or (declared_task p i).deadline 0) (unwrap_or (declared_task p q).deadline 0) (get_or p.diagram.ranks i 0) (get_or p.diagram.ranks q 0) higher (higher-deadline p.diagram p.rules.ranked i q il ql higher is) before
-
-  -- one that goes before a higher-ranked one was released earlier
-  pub released_earlier : (a b : ℕ) → IsTrue (goes_before p.diagram i a q b) → a < b
-  released_earlier a b before = by_policy p.diagram.policy a b refl before
 
 module _ (p : Plan) (r : Run) (run : IsRun p r) (s : State) (ended : (j : ℕ) → j < length p.diagram.tasks → (task s j).part.ended ≡ length (get_or r.ends j []))
     (aimed : (j : ℕ) → j < length p.diagram.tasks → (task_entry s j).aimed ≡ release_count p.batches r.released j) where

@@ -1,0 +1,4 @@
+pub mod FreeFirst
+pub mod OneCpu
+pub mod OneServiceOn
+pub mod SomeServiceOn

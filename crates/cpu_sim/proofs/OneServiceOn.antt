@@ -1,0 +1,51 @@
+-- A plan has one service at most on its processors.
+use Rattle.std.proofs.Common.{◌≡◌, ℕ, zero, suc, List, [], ◌∷◌, Option, refl, sym, ap, ◌∙◌, arith}
+use Rattle.std.specs.Prelude.{◌||◌, nat_lt, ◌==◌, ◌&&◌}
+use Rattle.std.specs.List.{list_any}
+use Rattle.dbp_plan.specs.declared.diagram.Read.{Read}
+use Rattle.dbp_plan.specs.declared.plan.Plan.{Plan}
+use Rattle.dbp_plan.specs.Lookups.{declared_task, link_at}
+use Rattle.rank_order.specs.Instances.{Instance}
+use Rattle.rank_order.specs.Service.{GoesBefore}
+use Rattle.rank_order.proofs.Choices.{first_like, tick_of}
+use Rattle.rank_order.proofs.OneService.{one_choice}
+use Rattle.rank_order.proofs.ServedTicks.{served_next, served_none}
+use Rattle.cpu_sim.specs.Processors.{IsServiceOn, MayBeServed, cpu_of, is_blocked, read_instance, served_on, waits_for_writer}
+
+-- equal counts block equally
+pub blocked-like : (p : Plan) (served other : Instance → ℕ) → ((x : Instance) → served x ≡ other x) → (x : Instance) → is_blocked p served x ≡ is_blocked p other x
+blocked-like p served other same x = any-like (declared_task p x.task).reads
+  where
+    one-like : (r : Read) → waits_for_writer p served x r ≡ waits_for_writer p other x r
+    one-like r =
+        let l = link_at p.diagram.links r.link in
+        let y : Instance = record { task = l.writer; number = read_instance p x l.writer } in
+        ap (λ n. (r.at == n) && ((l.delay == 0) && (nat_lt 0 y.number && nat_lt (served y) (declared_task p l.writer).cost))) (same x)
+        ∙ ap (λ n. (r.at == other x) && ((l.delay == 0) && (nat_lt 0 y.number && nat_lt n (declared_task p l.writer).cost))) (same y)
+
+    any-like : (rs : List Read) → list_any (waits_for_writer p served x) rs ≡ list_any (waits_for_writer p other x) rs
+    any-like [] = refl
+    any-like (r ∷ rs) = ap (λ b. b || list_any (waits_for_writer p served x) rs) (one-like r) ∙ ap (λ b. waits_for_writer p other x r || b) (any-like rs)
+
+may-like : (p : Plan) (s s' : ℕ → ℕ → Option Instance) (c t : ℕ) → ((x : Instance) → served_on p s t x ≡ served_on p s' t x) → (x : Instance) → MayBeServed p s c t x → MayBeServed p s' c t x
+may-like p s s' c t same x may = record {
+  waits = record { instance = may.waits.instance; released = may.waits.released; unfinished = omega (arith, same x, may.waits.unfinished) };
+  own = may.own;
+  free = blocked-like p (served_on p s' t) (served_on p s t) (λ y. sym (same y)) x ∙ may.free;
+}
+
+module _ (p : Plan) (s s' : ℕ → ℕ → Option Instance) (h : IsServiceOn p s) (h' : IsServiceOn p s') where
+  same_tick : (c t : ℕ) → ((x : Instance) → served_on p s t x ≡ served_on p s' t x) → s c t ≡ s' c t
+  same_tick c t same =
+      one_choice p (MayBeServed p s' c t) (s c t) (s' c t)
+      (first_like (GoesBefore p) (MayBeServed p s c t) (MayBeServed p s' c t) (s c t) (may-like p s s' c t same) (may-like p s' s c t (λ x. sym (same x))) (h.each c t))
+      (h'.each c t)
+
+  same_served : (t : ℕ) (x : Instance) → served_on p s t x ≡ served_on p s' t x
+  same_served zero x = served_none (s (cpu_of p x)) x ∙ sym (served_none (s' (cpu_of p x)) x)
+  same_served (suc t) x =
+      let now = ap (tick_of x) (same_tick (cpu_of p x) t (same_served t)) in
+      omega (arith, same_served t x, now, served_next (s (cpu_of p x)) x t, served_next (s' (cpu_of p x)) x t)
+
+  pub one-service-on : (c t : ℕ) → s c t ≡ s' c t
+  one-service-on c t = same_tick c t (same_served t)

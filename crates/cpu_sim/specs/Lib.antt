@@ -1,0 +1,3 @@
+-- Definitions that public clauses cite.
+pub mod Processors
+pub mod Services
