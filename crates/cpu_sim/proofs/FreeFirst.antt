@@ -1,6 +1,6 @@
 -- The first of all instances that wait isn't blocked: a writer that it waits for would go before it.
 use Rattle.std.proofs.Common.{◌≡◌, ◌≢◌, ℕ, suc, ◌-◌, ◌<◌, ◌≤◌, Bool, true, false, List, [], ◌∷◌, length, slice_get, Some, refl, sym, ap, ◌∙◌, subst, inl, inr, arith}
-use Rattle.std.specs.Prelude.{nat_le, slice_index}
+use Rattle.std.specs.Prelude.{◌==◌, ◌&&◌, nat_le, nat_lt, slice_index}
 use Rattle.std.specs.List.{list_any}
 use Rattle.std.proofs.lemmas.Bool.{and_parts, cases_Bool, eqb-true, ltb-true}
 use Rattle.std.proofs.lemmas.List.Sums.{count_by-le-length}
@@ -18,7 +18,7 @@ use Rattle.rank_order.specs.Instances.{Instance, release_of}
 use Rattle.rank_order.specs.Service.{GoesBefore, IsFirst, Waits}
 use Rattle.rank_order.proofs.HigherRanks.{goes_before_lower}
 use Rattle.rank_order.proofs.OneService.{not_both}
-use Rattle.cpu_sim.specs.Processors.{is_blocked, read_instance, waits_for_writer}
+use Rattle.cpu_sim.specs.Processors.{is_blocked, read_number, read_blocks}
 
 -- an item that passes
 passing : {A : Type 0} (test : A → Bool) (xs : List A) → list_any test xs ≡ true → (k : ℕ) × (x : A) × (slice_get xs k ≡ Some x) × (test x ≡ true)
@@ -35,11 +35,14 @@ module _ (p : Plan) (left : Instance → ℕ → ℕ) (t : ℕ) (served : Instan
     pub first : GoesBefore p y x
     pub other : y.task ≢ x.task
 
-  writer-of : (x : Instance) → Waits p left t x → (r : Read) (k : ℕ) → slice_get (declared_task p x.task).reads k ≡ Some r → waits_for_writer p served x r ≡ true → (y : Instance) × WaitsFor x y
+  writer-of : (x : Instance) → Waits p left t x → (r : Read) (k : ℕ) → slice_get (declared_task p x.task).reads k ≡ Some r → read_blocks p served x r ≡ true → (y : Instance) × WaitsFor x y
   writer-of x waits r k at blocked =
-      let (due, more) = and_parts _ _ blocked in
-      let (direct, most) = and_parts _ _ more in
-      let (some, unfinished) = and_parts _ _ most in
+      let link = link_at p.diagram.links r.link in
+      let last : Instance = record { task = link.writer; number = read_number p x link.writer } in
+      let is_left = nat_lt (served last) (declared_task p link.writer).cost in
+      let (due, more) = and_parts (r.at == served x) ((link.delay == 0) && (nat_lt 0 last.number && is_left)) blocked in
+      let (direct, most) = and_parts (link.delay == 0) (nat_lt 0 last.number && is_left) more in
+      let (some, unfinished) = and_parts (nat_lt 0 last.number) is_left most in
       let i = x.task in
       let (task, at_i) = at_place p.diagram.tasks i waits.instance.task in
       let is : declared_task p i ≡ task = get_or_from_slice_get p.diagram.tasks i task no_declared_task at_i in
@@ -53,7 +56,7 @@ module _ (p : Plan) (left : Instance → ℕ → ℕ) (t : ℕ) (served : Instan
       let own : l.reader ≡ i = ranked.closed.own i task r l k at_i at_r at_l in
       let down = all_place (λ (l : Link). l.delay ≡ 0 → slice_index p.diagram.ranks l.writer < slice_index p.diagram.ranks l.reader) p.diagram.links r.link l ranked.downward at_l (eqb-true l.delay 0 direct) in
       let higher : slice_index p.diagram.ranks l.writer < slice_index p.diagram.ranks i = subst (λ (j : ℕ). slice_index p.diagram.ranks l.writer < slice_index p.diagram.ranks j) own down in
-      let n = read_instance p x l.writer in
+      let n = read_number p x l.writer in
       let y : Instance = record { task = l.writer; number = n } in
       let times = times_of p.batches l.writer in
       let one : 0 < n = ltb-true 0 n some in
@@ -77,7 +80,7 @@ module _ (p : Plan) (left : Instance → ℕ → ℕ) (t : ℕ) (served : Instan
   first-is-free x first = elim (cases_Bool (is_blocked p served x)) [
     | inr free ↦ free
     | inl blocked ↦
-        let (k, r, at, passes) = passing (waits_for_writer p served x) (declared_task p x.task).reads blocked in
+        let (k, r, at, passes) = passing (read_blocks p served x) (declared_task p x.task).reads blocked in
         let (y, writer) = writer-of x first.0 r k at passes in
         elim (first.1 y writer.waits) [
           | inl same ↦ absurd (writer.other (ap (λ (z : Instance). z.task) same))

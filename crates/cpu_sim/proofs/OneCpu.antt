@@ -36,7 +36,7 @@ module _ (p : Plan) (left : Instance → ℕ → ℕ) (t : ℕ) (served : Instan
 module _ (p : Plan) (serve : ℕ → ℕ → Option Instance) (h : IsServiceOn p serve) where
   -- ---- some processor serves
 
-  serves-one : (c t : ℕ) (o : Option Instance) → serve c t ≡ o → IsFirst (GoesBefore p) (MayBeServed p serve c t) o → (x : Instance) → MayBeServed p serve c t x → (z : Instance) × (serve c t ≡ Some z)
+  pub serves-one : (c t : ℕ) (o : Option Instance) → serve c t ≡ o → IsFirst (GoesBefore p) (MayBeServed p serve c t) o → (x : Instance) → MayBeServed p serve c t x → (z : Instance) × (serve c t ≡ Some z)
   serves-one c t None is first x may = absurd (first x may)
   serves-one c t (Some z) is first x may = (z, is)
 

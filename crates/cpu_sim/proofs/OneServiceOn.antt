@@ -10,22 +10,22 @@ use Rattle.rank_order.specs.Service.{GoesBefore}
 use Rattle.rank_order.proofs.Choices.{first_like, tick_of}
 use Rattle.rank_order.proofs.OneService.{one_choice}
 use Rattle.rank_order.proofs.ServedTicks.{served_next, served_none}
-use Rattle.cpu_sim.specs.Processors.{IsServiceOn, MayBeServed, cpu_of, is_blocked, read_instance, served_on, waits_for_writer}
+use Rattle.cpu_sim.specs.Processors.{IsServiceOn, MayBeServed, cpu_of, is_blocked, read_number, served_on, read_blocks}
 
 -- equal counts block equally
 pub blocked-like : (p : Plan) (served other : Instance → ℕ) → ((x : Instance) → served x ≡ other x) → (x : Instance) → is_blocked p served x ≡ is_blocked p other x
 blocked-like p served other same x = any-like (declared_task p x.task).reads
   where
-    one-like : (r : Read) → waits_for_writer p served x r ≡ waits_for_writer p other x r
+    one-like : (r : Read) → read_blocks p served x r ≡ read_blocks p other x r
     one-like r =
         let l = link_at p.diagram.links r.link in
-        let y : Instance = record { task = l.writer; number = read_instance p x l.writer } in
+        let y : Instance = record { task = l.writer; number = read_number p x l.writer } in
         ap (λ n. (r.at == n) && ((l.delay == 0) && (nat_lt 0 y.number && nat_lt (served y) (declared_task p l.writer).cost))) (same x)
         ∙ ap (λ n. (r.at == other x) && ((l.delay == 0) && (nat_lt 0 y.number && nat_lt n (declared_task p l.writer).cost))) (same y)
 
-    any-like : (rs : List Read) → list_any (waits_for_writer p served x) rs ≡ list_any (waits_for_writer p other x) rs
+    any-like : (rs : List Read) → list_any (read_blocks p served x) rs ≡ list_any (read_blocks p other x) rs
     any-like [] = refl
-    any-like (r ∷ rs) = ap (λ b. b || list_any (waits_for_writer p served x) rs) (one-like r) ∙ ap (λ b. waits_for_writer p other x r || b) (any-like rs)
+    any-like (r ∷ rs) = ap (λ b. b || list_any (read_blocks p served x) rs) (one-like r) ∙ ap (λ b. read_blocks p other x r || b) (any-like rs)
 
 may-like : (p : Plan) (s s' : ℕ → ℕ → Option Instance) (c t : ℕ) → ((x : Instance) → served_on p s t x ≡ served_on p s' t x) → (x : Instance) → MayBeServed p s c t x → MayBeServed p s' c t x
 may-like p s s' c t same x may = record {
