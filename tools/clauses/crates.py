@@ -28,6 +28,11 @@ class Crate:
         """Returns the file that lists the public names."""
         return FOLDER / self.name / "src" / "lib.rt"
 
+    @property
+    def has_wrong_bodies(self):
+        """Returns whether the crate has bodies that the prover must refuse, as a crate of the program has."""
+        return (FOLDER / self.name / "must-fail").is_dir()
+
 
 def crates_of(text):
     """Returns the crates that the text of crates.txt lists, in its order."""
@@ -51,9 +56,10 @@ def is_library(crate, crates):
 
 
 def is_of_tests(crate, crates):
-    """Returns whether a crate is for tests: it has tests, or only those use it."""
+    """Returns whether a crate is for tests: it has tests, or only those use it and it has no wrong bodies."""
     users = [it for it in crates if crate.name in it.libraries]
-    return crate.name.endswith(TESTS) or bool(users) and all(is_of_tests(it, crates) for it in users)
+    is_alone = bool(users) and not crate.has_wrong_bodies
+    return crate.name.endswith(TESTS) or is_alone and all(is_of_tests(it, crates) for it in users)
 
 
 def from_the_lowest(crates):

@@ -43,8 +43,8 @@ fn scenario_body(alloc: Global, body: Body, diagram: &Diagram, task: u32) -> Res
 }
 
 /// The document of the scenario of the task, which is numbered from 0: the body with another end, another trace and no
-/// script. All slots of the task are in use at its last tick. The diagram came from this body, and only the order of declaration, the
-/// links, the ranks and the task's cost matter to the scenario. The rows are at most 144, since each task is on an event
+/// script. All slots of the task are in use at its last tick. The diagram came from this body. Only its declarations, its
+/// links, its ranks and the task's cost matter to the scenario. The rows are at most 144, since each task is on an event
 /// of its own. With a refusal the body is given up.
 pub fn need(alloc: Global, body: Body, diagram: &Diagram, task: u32) -> Result<Body, NeedFail>
     requires diagram { IsDiagramOf body diagram.now }
