@@ -5,7 +5,8 @@
   bench/planted.py CHANGE FOLDER
 
 FOLDER is new. It gets `dbp`, which proves the crates of the copy and builds crates/dbp/out/dbp: give that program to
-`bench/hangs.py --program`. No clause speaks of bells, rounds or paces, so the proofs hold for each of these copies.
+`bench/hangs.py --program`. No clause speaks of bells, rounds or paces; but that a copy is proved was never tried, and
+the numbers that `drawn_pauses` computes have no proof. The copies of bench/RESULTS.md were built without any.
 """
 
 import argparse
