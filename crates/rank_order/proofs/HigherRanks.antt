@@ -8,9 +8,7 @@ use Rattle.dbp_plan.specs.declared.diagram.Policy.TheVariants.{Fp, Edf}
 use Rattle.dbp_plan.specs.declared.plan.Plan.{Plan}
 use Rattle.dbp_plan.specs.Lookups.{declared_task}
 use Rattle.dbp_plan.proofs.RankLaws.{higher-deadline}
-use Rattle.rank_order.specs.Instances.{Instance, release_of}
 use Rattle.rank_order.specs.Order.{goes_before, is_before, key_by}
-use Rattle.rank_order.specs.Service.{GoesBefore}
 
 by_rank : (m n a b : ℕ) → n < m → is_before (record { first = m; second = a }) (record { first = n; second = b }) ≡ true → ⊥
 by_rank m n a b less before = grind (arith, nat_tests)

@@ -1,16 +1,9 @@
 -- The instance that is served first may step under the condition on ranks.
-use Rattle.std.specs.Prelude.{IsTrue, unwrap_or}
-use Rattle.std.proofs.Common.{◌≡◌, ℕ, ◌+◌, ◌-◌, ◌<◌, ◌≤◌, true, [], length, get_or, refl, ap, ◌∙◌, ⊎_elim, arith}
+use Rattle.std.proofs.Common.{◌≡◌, ℕ, ◌+◌, ◌-◌, ◌<◌, [], length, get_or, ap, ◌∙◌, ⊎_elim, arith}
 use Rattle.std.proofs.lemmas.Bool.{cases_eq}
-use Rattle.std.proofs.lemmas.Bool.Decides.{nat_tests}
-use Rattle.dbp_plan.specs.declared.diagram.Policy.{Policy}
-use Rattle.dbp_plan.specs.declared.diagram.Policy.TheVariants.{Fp, Edf}
 use Rattle.dbp_plan.specs.declared.plan.Plan.{Plan}
-use Rattle.dbp_plan.specs.Lookups.{declared_task}
 use Rattle.dbp_plan.specs.Occurrences.{times_of}
-use Rattle.dbp_plan.proofs.RankLaws.{higher-deadline}
 use Rattle.rank_order.specs.Instances.{Instance, release_of}
-use Rattle.rank_order.specs.Order.{goes_before, is_before, key_by}
 use Rattle.rank_order.specs.Queue.{IsServedFirst}
 use Rattle.rank_order.specs.Service.{GoesBefore}
 use Rattle.rank_order.specs.ServiceOf.{service}
