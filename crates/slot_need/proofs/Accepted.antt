@@ -46,7 +46,7 @@ use Rattle.rank_order.specs.Service.{IsService}
 use Rattle.rank_order.specs.ServiceOf.{service}
 use Rattle.slot_need.specs.declared.column.Firing.{Firing}
 use Rattle.slot_need.specs.declared.column.Firing.TheVariants.{Never, Each, Once}
-use Rattle.slot_need.specs.Bodies.{IsDiagramOf, IsScenario, column_names, row_at, scenario_body, scenario_rows}
+use Rattle.slot_need.specs.Bodies.{IsCheckedDiagramOf, IsScenario, column_names, row_at, scenario_body, scenario_rows}
 use Rattle.slot_need.specs.Faults.{need_fault}
 use Rattle.slot_need.specs.Live.{NeedsAllSlots}
 use Rattle.slot_need.specs.Scenarios.{firing_count, firing_of_event, firing_of_first, firing_of_reader, firing_of_task, firing_time, fires_at, last_firing, scenario_columns, scenario_end}
@@ -59,10 +59,10 @@ use Rattle.slot_need.proofs.Served.{no-overrun}
 use Rattle.slot_need.proofs.ScenarioTimes.{event-times, no-samples, times_of_event}
 use Rattle.slot_need.proofs.TaskFirings.{each-number, fires-each, inside-scenario, is-reader, never-fires, no-number, one-number, reader-fires}
 
-pub ranked-diagram : (body : Body) (d : Diagram) → IsDiagramOf body d → IsPrintable body → IsRanked d
+pub ranked-diagram : (body : Body) (d : Diagram) → IsCheckedDiagramOf body d → IsPrintable body → IsRanked d
 ranked-diagram body d is printable = checked-ranked (record { body = body; lines = is.lines }) d printable is.each is.checked
 
-module _ (spells : (body : Body) → IsPrintable body → SpellsBody (canonical_text body) body) (item-lines : (text : List ℕ) (doc : Doc) → Spells text doc → HasItemLines doc) (body : Body) (d : Diagram) (w : ℕ) (is : IsDiagramOf body d) (printable : IsPrintable body) (there : w < length d.tasks) (none : need_fault d w ≡ None) where
+module _ (spells : (body : Body) → IsPrintable body → SpellsBody (canonical_text body) body) (item-lines : (text : List ℕ) (doc : Doc) → Spells text doc → HasItemLines doc) (body : Body) (d : Diagram) (w : ℕ) (is : IsCheckedDiagramOf body d) (printable : IsPrintable body) (there : w < length d.tasks) (none : need_fault d w ≡ None) where
   abbrev old : Doc
   old = record { body = body; lines = is.lines }
 

@@ -32,7 +32,7 @@ use Rattle.dbp_rules.specs.Wired.{wiring_of}
 use Rattle.instance_steps.specs.Events.{Event}
 use Rattle.instance_steps.specs.Plays.{Plays}
 use Rattle.virtual_sim.specs.Record.{IsRecord, StandsAfterBatch, events_so_far}
-use Rattle.slot_need.specs.Bodies.{IsDiagramOf, IsScenario, scenario_body}
+use Rattle.slot_need.specs.Bodies.{IsCheckedDiagramOf, IsScenario, scenario_body}
 use Rattle.slot_need.specs.Faults.{need_fault}
 use Rattle.slot_need.specs.Scenarios.{firing_count, last_firing, lower_readers}
 use Rattle.slot_need.specs.SlotsInUse.{UsesAllSlots}
@@ -67,7 +67,7 @@ pub record Laws : Type 0 where
   pub sound : (p : Plan) (table : Table) (steps : List Step) (s : State) → IsMeaning p.diagram p.samples p.batches table → Leads p (wiring_of p Ranked) (start_of p (wiring_of p Ranked)) steps s → Sound p (wiring_of p Ranked) (table_row table) s
   pub parts : (p : Plan) (table : Table) (s : State) → Sound p (wiring_of p Ranked) (table_row table) s → HoldsInTenParts p (wiring_of p Ranked) (table_row table) s
 
-module _ (laws : Laws) (body : Body) (d : Diagram) (w : ℕ) (of : IsDiagramOf body d) (printable : IsPrintable body) (there : w < length d.tasks) (none : need_fault d w ≡ None) where
+module _ (laws : Laws) (body : Body) (d : Diagram) (w : ℕ) (of : IsCheckedDiagramOf body d) (printable : IsPrintable body) (there : w < length d.tasks) (none : need_fault d w ≡ None) where
   uses-all : (p : Plan) → IsScenario d w p → (script : List Step) → IsRecord p script → UsesAllSlots p script w (last_firing d w)
   uses-all p is script record_is =
       let fixed = under-fixed d w none in

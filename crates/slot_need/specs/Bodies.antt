@@ -14,7 +14,7 @@ use Rattle.slot_need.specs.declared.column.Firing.{Firing}
 use Rattle.slot_need.specs.Scenarios.{firing_count, firing_of_reader, firing_time, fires_at, lower_readers, scenario_columns, scenario_end}
 
 -- the diagram is that of a document with this body, on some lines
-pub record IsDiagramOf (body : Body) (d : Diagram) : Type 0 where
+pub record IsCheckedDiagramOf (body : Body) (d : Diagram) : Type 0 where
   pub lines : DocLines
   pub each : HasItemLines (record { body = body; lines = lines })
   pub checked : IsCheckedOf (record { body = body; lines = lines }) d

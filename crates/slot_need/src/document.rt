@@ -7,7 +7,7 @@ ghost use Rattle.dbp_plan.specs.Ranked.{IsRanked};
 ghost use Rattle.dia_read.specs.Canonical.{canonical_text};
 ghost use Rattle.dia_read.specs.Printable.{IsPrintable};
 ghost use Rattle.trace_io.specs.Texts.{Accepts};
-ghost use Rattle.slot_need.specs.Bodies.{IsDiagramOf, IsScenario, scenario_body};
+ghost use Rattle.slot_need.specs.Bodies.{IsCheckedDiagramOf, IsScenario, scenario_body};
 ghost use Rattle.slot_need.specs.Faults.{IsNeedFail, need_fault};
 ghost use Rattle.slot_need.specs.Live.{NeedsAllSlots};
 ghost use Rattle.slot_need.specs.Scenarios.{last_firing};
@@ -47,7 +47,7 @@ fn scenario_body(alloc: Global, body: Body, diagram: &Diagram, task: u32) -> Res
 /// links, its ranks and the task's cost matter to the scenario. The rows are at most 144, since each task is on an event
 /// of its own. With a refusal the body is given up.
 pub fn need(alloc: Global, body: Body, diagram: &Diagram, task: u32) -> Result<Body, NeedFail>
-    requires diagram { IsDiagramOf body diagram.now }
+    requires diagram { IsCheckedDiagramOf body diagram.now }
     requires printable { IsPrintable body }
     requires task { task < length diagram.now.tasks }
     ensures body { IfOk result (λ written. written ≡ scenario_body body diagram.now task) }

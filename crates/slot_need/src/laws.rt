@@ -9,7 +9,7 @@ ghost use Rattle.dia_read.specs.Printable.{IsPrintable};
 ghost use Rattle.trace_io.specs.Texts.{Accepts};
 ghost use Rattle.dbp_rules.specs.declared.step.Step.{Step};
 ghost use Rattle.virtual_sim.specs.Record.{IsRecord};
-ghost use Rattle.slot_need.specs.Bodies.{IsDiagramOf, scenario_body};
+ghost use Rattle.slot_need.specs.Bodies.{IsCheckedDiagramOf, scenario_body};
 ghost use Rattle.slot_need.specs.Faults.{need_fault};
 ghost use Rattle.slot_need.specs.Scenarios.{last_firing};
 ghost use Rattle.slot_need.specs.SlotsInUse.{UsesAllSlots};
@@ -26,7 +26,7 @@ use virtual_sim::a_record_stands_after_each_batch;
 /// of the task is its current one, a kept one, or that of a claim that stands. Of other batches it says nothing, nor that
 /// no protocol could do with fewer slots.
 pub fn all_slots_are_in_use()
-    ensures { (body : Body) (d : Diagram) (w : ℕ) → IsDiagramOf body d → IsPrintable body → w < length d.tasks
+    ensures { (body : Body) (d : Diagram) (w : ℕ) → IsCheckedDiagramOf body d → IsPrintable body → w < length d.tasks
         → need_fault d w ≡ None → (p : Plan) → Accepts (canonical_text (scenario_body body d w)) p
         → (script : Items Step) → IsRecord p script → UsesAllSlots p script w (last_firing d w) }
 {
