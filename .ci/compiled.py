@@ -28,6 +28,8 @@ MOST_BYTES = 1_048_576
 FIRST_LINES = 400  # of `mean`, which are tried with seeds and a record
 NAME = "it"
 TABLES = ("--calls", "0")  # each task that has operators becomes a table
+SHORT_WORDS = ("--words", "32")  # shared words of 32 bits
+SHORT_FLAGS = ("-DDBP_WORD_BITS=32",)
 BESIDE = TOP / ".ci" / "tried" / "emit_c"  # documents, and C that goes with some
 
 # Values at which operators have their corners, of which all pairs are tried, and what is computed of a pair.
@@ -90,33 +92,40 @@ def answered(program, words, document):
     return ran.stdout
 
 
+def emitted(program, document, folder, *words, tools=TOOLS):
+    """Writes the C of a document into a folder, and returns its plan; by the tools of this repository that is done in this
+    process."""
+    source = Path(folder) / "document.dbp"
+    source.write_bytes(document)
+    words = [*map(str, ["--program", program, "-o", folder, "--name", NAME, *words, source])]
+    if Path(tools) == TOOLS:
+        status = command.main(words)
+        must(status == 0, f"emit_c ends with {status}")
+    else:
+        executed([sys.executable, Path(tools) / "emit_c", *words], COMPILE_SECONDS)
+    return command.planned(command.options_of(words))
+
+
 class Toolchain:
     """A compiler with its flags, the tools that write C with their options, and the files that all diagrams share, compiled
     in a folder."""
 
-    def __init__(self, room, compiler="cc", flags=(), tools=TOOLS):
-        self.options = ()
+    def __init__(self, room, compiler="cc", flags=(), tools=TOOLS, options=()):
+        self.options = options
         self.tools, self.sources = Path(tools), Path(tools) / "emitting"
         self.is_sanitizing = any("-fsanitize" in flag for flag in flags)
         self.command = [compiler, *FLAGS, *flags, "-pthread", "-I", str(self.sources)]
         self.objects = [self.compiled(self.sources / f"{name}.c", room) for name in SHARED]
 
     def with_options(self, *words):
-        """Returns the same toolchain, whose tools get these options."""
+        """Returns the same toolchain, whose tools get these options besides."""
         other = copy(self)
-        other.options = words
+        other.options = (*self.options, *words)
         return other
 
-    def emitted(self, program, document, folder, name=NAME, target="trace"):
-        """Writes the C of a document into a folder; by the tools of this repository that is done in this process."""
-        source = Path(folder) / "document.dbp"
-        source.write_bytes(document)
-        words = ["--program", program, "-o", folder, "--name", name, "--target", target, *self.options, source]
-        if self.tools == TOOLS:
-            status = command.main([*map(str, words)])
-            must(status == 0, f"emit_c ends with {status}")
-        else:
-            executed([sys.executable, self.tools / "emit_c", *words], COMPILE_SECONDS)
+    def emitted(self, program, document, folder, target="trace"):
+        """Writes the C of a document into a folder."""
+        emitted(program, document, folder, "--target", target, *self.options, tools=self.tools)
 
     def compiled(self, source, folder, *flags):
         """Compiles a file, and returns the object."""
@@ -132,12 +141,17 @@ class Toolchain:
         return target
 
 
+def must_be_shared(toolchain, folder, names=SHARED):
+    """Ends with a fault if a file that all diagrams share is written differently."""
+    for name in names:
+        written = (Path(folder) / f"{name}.c").read_bytes()
+        must(written == (toolchain.sources / f"{name}.c").read_bytes(), f"{name}.c is written differently")
+
+
 def trace_of(program, toolchain, document, folder):
     """Returns the program of the target `trace` of a document."""
     toolchain.emitted(program, document, folder)
-    for name in SHARED:
-        written = (Path(folder) / f"{name}.c").read_bytes()
-        must(written == (toolchain.sources / f"{name}.c").read_bytes(), f"{name}.c is written differently")
+    must_be_shared(toolchain, folder)
     return toolchain.linked([Path(folder) / f"{NAME}.c", Path(folder) / f"{NAME}_trace.c"], folder)
 
 
@@ -274,6 +288,13 @@ def compare_last_instances(program, toolchain):
     lines = answered(program, ["mean"], (BESIDE / "last_instances.dbp").read_bytes())
     after = b"spent 0\nspent 0\nsame words\nreleased 0\n40,slow,11,1172\n"
     same_lines(printed, lines + after, "the last instances")
+
+
+def compare_orders(program, toolchain):
+    """Compares which stamps a read takes for the row of its order, with numbers up to the last one."""
+    with folder() as place:
+        printed = printed_beside(program, toolchain, "orders", place)
+    same_lines(printed, b"right orders\n", "the orders")
 
 
 def compare_releases(program, toolchain):

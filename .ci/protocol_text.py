@@ -2,16 +2,27 @@
 
 import re
 
-LOADS = ("dbp_seen", "dbp_start", "dbp_hear", "dbp_look", "dbp_take")
-STORES = ("dbp_aim", "dbp_claim", "dbp_open_gate", "dbp_shut", "dbp_put", "dbp_done", "dbp_end")
+# The access of each step; a whole one is of an order or a value.
+STEPS = {
+    "load": ("dbp_seen", "dbp_start", "dbp_look"),
+    "load_whole": ("dbp_hear", "dbp_take"),
+    "store": ("dbp_open_gate", "dbp_shut", "dbp_done", "dbp_end"),
+    "store_whole": ("dbp_aim", "dbp_claim", "dbp_put"),
+}
+ACCESS_OF = {step: [access] for access, steps in STEPS.items() for step in steps}
 BEGINS = ("dbp_begin", "fill_first_slot")  # before the first step
 HEADERS = {"stdint.h", "stdbool.h", "stddef.h", "stdatomic.h"}
 ACCESSES = {
     "load": "return atomic_load_explicit(&it->words[address], memory_order_seq_cst);",
-    "store": "atomic_store_explicit(&it->words[address], value, memory_order_seq_cst);",
+    "store": "atomic_store_explicit(&it->words[address], (dbp_plain_word)value, memory_order_seq_cst);",
+}
+WHOLE = {
+    "load_whole": "const uint64_t low = load(it, address);"
+    " return DBP_WORDS_OF_VALUE == 1 ? low : low | load(it, address + 1) << HALF;",
+    "store_whole": "store(it, address, value); if (DBP_WORDS_OF_VALUE == 2) { store(it, address + 1, value >> HALF); }",
 }
 # Words that stand in no function: other ways to a shared word, numbers that aren't whole, and memory.
-UNUSED = r"\b(__\w+|volatile|asm|float|double|malloc|calloc|realloc|free|memcpy|goto)\b"
+UNUSED = r"\b(__(?!cplusplus\b)\w+|volatile|asm|float|double|malloc|calloc|realloc|free|memcpy|goto)\b"
 
 
 def code_of(text):
@@ -33,13 +44,14 @@ def calls_in(body, names):
 def access_fault(functions):
     """Returns which function's accesses to shared words aren't as they must be, or nothing."""
     for name, body in functions.items():
-        found = [it for it in calls_in(body, ("load", "store"))]
-        wanted = ["load"] if name in LOADS else ["store"] if name in STORES else []
-        if name not in BEGINS and found != wanted:
+        found, wanted = calls_in(body, STEPS), ACCESS_OF.get(name, [])
+        if name in WHOLE and " ".join(body.split()) != WHOLE[name]:
+            return f"{name} is {' '.join(body.split())}"
+        if name not in (*BEGINS, *WHOLE) and found != wanted:
             return f"{name} has the accesses {found}, and {wanted} is wanted"
         if (re.search(r"\bwords\b", body) or "atomic" in body) and " ".join(body.split()) != ACCESSES.get(name):
             return f"{name} has another way to a shared word: {' '.join(body.split())}"
-    missing = {*LOADS, *STORES, *BEGINS, *ACCESSES} - {*functions}
+    missing = {*ACCESS_OF, *BEGINS, *ACCESSES, *WHOLE} - {*functions}
     return f"it lacks {sorted(missing)}" if missing else None
 
 

@@ -19,6 +19,7 @@ from statistics import median
 import documents
 from endure import load
 from running import add_program_option, counted_run, peak_megabytes, program, run
+from scenario_texts import with_the_most_slots
 
 MEASURES = ("Minstr", "wall s", "cpu s", "peak MB")  # Minstr: millions of instructions
 
@@ -59,6 +60,13 @@ def rows_of_tables():
             yield Row(command, f"32 tasks of 63 nodes, {n}", documents.many_tasks(n))
         yield Row(command, "128 reads", documents.many_reads(100_000))
         yield Row(command, "32 tasks by deadlines", documents.by_deadlines(99_000))
+    for command in ("cpus", "cpus --record"):
+        for n in (24_000, 48_000, 96_000):
+            yield Row(command, f"32 tasks on 8 processors, {n}", documents.many_tasks(n, 8))
+            yield Row(command, f"31 tasks, each blocked, {n}", documents.blocked(n))
+        yield Row(command, "32 tasks of one processor, 96000", documents.many_tasks(96_000))
+        yield Row(command, "32 tasks of a billion ticks", documents.long_costs())
+    yield Row("sim", "32 tasks of 8 processors, 96000", documents.many_tasks(96_000, 8))
     for command in ("run --turns 1", "run"):
         yield Row(command, "a task, 100000 occurrences", documents.one_task(100_000))
         yield Row(command, "32 tasks of 63 nodes, 96000", documents.many_tasks(96_000))
@@ -67,12 +75,18 @@ def rows_of_tables():
 
 def rows_of_texts():
     """Yields the rows of the other commands."""
-    for command in ("plan", "rta"):
+    for command in ("plan", "rta", "rank"):
         yield Row(command, "0.9 MB of expressions", documents.expressions())
+    for command in ("form", "plan", "rank", "need t0"):
+        yield Row(command, "0.9 MB of expressions on events", documents.expressions_on_events())
     yield Row("plan", "128 reads", documents.many_reads(100_000))
     yield Row("rta", "30 tasks below a full processor", documents.rates(documents.FULL_ABOVE))
     yield Row("rta", "27 tasks below one nearly full", documents.rates(documents.NEARLY_FULL_ABOVE))
     yield Row("rta", "9 tasks of several scales", documents.rates(documents.SEVERAL_SCALES))
+    yield Row("need t0", "the most slots", with_the_most_slots().encode())
+    yield Row("rank", "32 tasks by deadlines", documents.by_deadlines(99_000))
+    yield Row("rank", "a cycle of 32 tasks", documents.cycle(32), status=1)
+    yield Row("rank", "50000 rows of 12 columns", documents.trace(50_000, 6, 6))
     for command in ("form", "upgrade"):
         yield Row(command, "0.9 MB of expressions", documents.expressions())
         yield Row(command, "50000 rows of 12 columns", documents.trace(50_000, 6, 6))

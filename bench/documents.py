@@ -31,18 +31,39 @@ def wide_rows(occurrences):
                    "  next n = n + 1", *outs)
 
 
-def many_tasks(occurrences):
-    """32 tasks of one period, of which each reads the one before, with 63 nodes each."""
+def many_tasks(occurrences, processors=None):
+    """32 tasks of one period, of which each reads the one before, with 63 nodes each; in version 2 on so many processors in
+    turn."""
     lines = ["policy fp", f"until {occurrences}"]
     for task in range(32):
-        lines.append(f"task t{task} every 32 from {task} prio {32 - task} cost 1")
+        processor = f" cpu {task % processors}" if processors else ""
+        lines.append(f"task t{task} every 32 from {task} prio {32 - task} cost 1{processor}")
         lines += ["  state n = 0", "  next n = n + 1"]
         terms = ["n"] + ["1"] * 31
         if task:
             lines.append(f"  read x = t{task - 1}.y")
             terms[-1] = "x"
         lines.append("  out y = 0 then " + " + ".join(terms))
-    return text_of(*lines)
+    return text_of(*lines, version=2 if processors else 1)
+
+
+def blocked(occurrences):
+    """31 tasks that read one after their first tick, on seven processors: each instance of them is blocked once, and others
+    are served meanwhile."""
+    lines = ["policy fp", f"until {occurrences}", "task w every 32 prio 32 cost 6", "  state n = 0", "  next n = n + 1",
+             "  out y = 0 then n + 1"]
+    for task in range(31):
+        lines += [f"task r{task} every 32 prio {31 - task} cost 2 cpu {1 + task % 7}", "  read x = w.y at 1",
+                  "  out y = 0 then x"]
+    return text_of(*lines, version=2)
+
+
+def long_costs():
+    """32 tasks of a billion ticks each, on eight processors."""
+    lines = ["policy fp", f"until {LONG}"]
+    for task in range(32):
+        lines += [f"task t{task} every {LONG} prio {32 - task} cost {LONG} cpu {task % 8}", "  out y = 0 then 1"]
+    return text_of(*lines, version=2)
 
 
 def many_reads(occurrences):
@@ -91,6 +112,14 @@ def preempted_in_turn(ticks):
     return text_of(*lines, "  out y = 0 then " + " + ".join(f"x{read}" for read in range(8)))
 
 
+def cycle(tasks):
+    """Tasks that read each other directly, each the one before, and the first the last."""
+    lines = ["policy fp", "until 1"]
+    for task in range(tasks):
+        lines += [f"task t{task} every 1 cost 1", f"  read x = t{(task - 1) % tasks}.y", "  out y = 0 then x"]
+    return text_of(*lines)
+
+
 def rates(tasks):
     """Tasks by their periods and costs, by falling rank, of which each occurs once."""
     lines = ["policy fp", "until 1"]
@@ -108,6 +137,20 @@ def expressions():
         for let, name in enumerate(names):
             terms = [names[(let + term) % let] if let else "11111111111111" for term in range(32)]
             lines.append(f"let {name} = " + "+".join(terms))
+        lines.append("out y = 0 then 0")
+    return text_of(*lines)
+
+
+def expressions_on_events():
+    """0.9 MB of lets of 63 nodes with names of 24 characters, in 16 tasks of which each is on an event of its own and reads
+    the one before."""
+    lines = ["policy fp", "until 1", *(f"event e{task}" for task in range(16))]
+    for task in range(16):
+        lines += [f"task t{task} on e{task} prio {16 - task} cost 1", f"read x = t{task - 1}.y" if task else "let x = 1"]
+        names = [f"a_name_of_24_letters_{let:03}" for let in range(60)]
+        for let, name in enumerate(names):
+            terms = [names[(let + term) % let] if let else "11111111111111" for term in range(32)]
+            lines.append(f"let {name} = " + "  + ".join(terms))
         lines.append("out y = 0 then 0")
     return text_of(*lines)
 

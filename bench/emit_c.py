@@ -5,7 +5,8 @@
   bench/emit_c.py [--program PROGRAM] --sizes | --speed
 
 200 documents of `gen` (sizes 1 to 32) run without a seed, with one and with a record, and four documents with 100 seeds
-each: compiled by gcc and clang, as the trials compile them, with -fsanitize=thread and with -fsanitize=address,undefined.
+each: compiled by gcc and clang, as the trials compile them, with -fsanitize=thread, with -fsanitize=address,undefined, and in
+words of 32 bits.
 Each way also has the operators and a document as tables. Each run has 20 seconds. Prints a line for each way of compiling; the exit status is 0 only if all are as `mean` and
 `replay` say. With --sizes it prints the sizes of the examples of docs/DEPLOYING.md, by `gcc -Os`;
 with --speed the processor seconds of traces beside those of `run`, and how long the largest document takes to compile.
@@ -26,16 +27,16 @@ sys.dont_write_bytecode = True
 
 import compiled  # noqa: E402
 import documents  # noqa: E402
-from compiled import Fault, Toolchain  # noqa: E402
+from compiled import SHORT_FLAGS, SHORT_WORDS, Fault, Toolchain  # noqa: E402
 from running import add_program_option, run  # noqa: E402
 
 RACES = ("-g", "-fsanitize=thread")
 MEMORY = ("-g", "-fsanitize=address,undefined", "-fno-sanitize-recover=all")
+COMPILERS = ("gcc", "clang")
 WAYS = {
-    f"{compiler} {' '.join(flags)}".strip(): (compiler, flags)
-    for flags in ((), RACES, MEMORY)
-    for compiler in ("gcc", "clang")
+    f"{compiler} {' '.join(flags)}".strip(): (compiler, flags, ()) for flags in ((), RACES, MEMORY) for compiler in COMPILERS
 }
+WAYS |= {f"{compiler} {' '.join(SHORT_WORDS)}": (compiler, SHORT_FLAGS, SHORT_WORDS) for compiler in COMPILERS}
 MOST_SIZE = 32
 RUNS = 5
 MOST_LINES = 2_000  # of a document that are tried with seeds and a record; with a sanitizer as many as in the trials
@@ -75,13 +76,13 @@ def fault_of(program, toolchain, trial):
 
 def try_way(way, options):
     """Makes the trials of one way of compiling, prints what came of them, and returns the number of faults."""
-    compiler, flags = WAYS[way]
+    compiler, flags, words = WAYS[way]
     if not compiled.has_compiler(compiler):
         print(f"{way}: SKIPPED, there is no {compiler}", flush=True)
         return 0
     started, trials = time.monotonic(), [*trials_of(options.documents, options.seeds)]
     with compiled.folder() as room, ThreadPoolExecutor(options.jobs) as pool:
-        toolchain = Toolchain(room, compiler, flags)
+        toolchain = Toolchain(room, compiler, flags, options=words)
         found = [*pool.map(lambda trial: fault_of(options.program, toolchain, trial), trials)]
         of_tables = compiled.fault_of(compiled.compare_tables, options.program, toolchain)
     faults = [*(fault for fault, _ in found if fault), *([f"tables: {of_tables}"] if of_tables else [])]

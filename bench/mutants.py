@@ -33,8 +33,11 @@ from checking.verdicts import NOT_FOUND, refusal_of  # noqa: E402
 from emitting import command as emitting  # noqa: E402
 from pictures import commands as pictures  # noqa: E402
 from program import run_program  # noqa: E402
+from reports import command as reporting  # noqa: E402
 from responses import command as responses  # noqa: E402
 from running import add_program_option  # noqa: E402
+from testing import command as testing  # noqa: E402
+from tracing import command as tracing  # noqa: E402
 from waveforms import command as waveforms  # noqa: E402
 
 STATUSES = (0, 1, 2, 3, 4, 5, 6, 7, 70)
@@ -45,14 +48,20 @@ WORDS = "task every on when cpu prio deadline cost state sense read let next out
 CALLS = {
     "check": (checking.main, []),
     "check --json": (checking.main, ["--json"]),
+    "check --sarif": (checking.main, ["--sarif"]),
+    "check --code-quality": (checking.main, ["--code-quality"]),
     "response": (responses.main, ["-o", "OUT"]),
     "response --json": (responses.main, ["--json", "-o", "OUT"]),
     "timeline": (pictures.timeline, ["-o", "OUT"]),
+    "timeline --command cpus": (pictures.timeline, ["--command", "cpus", "-o", "OUT"]),
     "diagram": (pictures.diagram, ["-o", "OUT"]),
     "diagram --dot": (pictures.diagram, ["--dot", "-o", "OUT"]),
     "waves": (waveforms.main, ["-o", "OUT"]),
     "waves --format csv": (waveforms.main, ["--format", "csv", "--wide", "-o", "OUT"]),
+    "trace": (tracing.main, ["--tick", "500ms", "-o", "OUT", str(TOP / "examples" / "greenhouse.csv")]),
     "format": (layout.main, []),
+    "report": (reporting.main, ["-o", "OUT"]),
+    "test": (testing.main, ["--coverage", "--html", "OUT"]),
     "emit_c": (emitting.main, ["--target", "trace", "-o", "FOLDER"]),
 }
 

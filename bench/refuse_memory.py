@@ -9,6 +9,7 @@ reads nothing takes /dev/null as its document.
 """
 
 import argparse
+import re
 import subprocess
 import sys
 import tempfile
@@ -19,17 +20,23 @@ from pathlib import Path
 
 from running import add_program_option, run
 
+TASK = "TASK"  # stands for the name of the document's first task
+
 # The commands that read a document.
 COMMANDS = (
     ["mean"],
     ["sim"],
     ["sim", "--record"],
+    ["cpus"],
+    ["cpus", "--record"],
     ["run"],
     ["run", "--turns", "1"],
     ["form"],
     ["upgrade"],
+    ["rank"],
     ["plan"],
     ["rta"],
+    ["need", TASK],
     ["replay"],
     ["replay", "--ranked"],
 )
@@ -127,6 +134,12 @@ def built(folder):
     return library
 
 
+def commands_of(document):
+    """Returns the commands for a document: `need` of its first task, if it has any."""
+    name = re.search(rb"^[ \t]*task[ \t]+(\w+)", document, re.MULTILINE)
+    return [[name[1].decode() if name and it is TASK else it for it in words] for words in COMMANDS]
+
+
 def has_wrong_ends(program, words, document, library, folder):
     """Refuses the allocations of a command, prints how its runs ended, and returns whether one ended wrongly."""
     trial = Trial([program, *words], document.read_bytes(), library)
@@ -145,7 +158,7 @@ def main():
     parser.add_argument("document", type=Path)
     parser.add_argument("words", nargs=argparse.REMAINDER)
     options = parser.parse_args()
-    commands = [options.words] if options.words else COMMANDS
+    commands = [options.words] if options.words else commands_of(options.document.read_bytes())
     with tempfile.TemporaryDirectory() as folder:
         library = built(folder)
         wrong = [has_wrong_ends(options.program, words, options.document, library, folder) for words in commands]

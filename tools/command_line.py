@@ -10,7 +10,8 @@ import stat
 from contextlib import ExitStack, suppress
 from itertools import count
 
-from ending import ERRORS, OUTPUT, Ended, Status, held_stops, kept_in, reason_of, say, unfinished_files, write_all
+from ending import (ERRORS, OUTPUT, Ended, Status, held_stops, kept_in, name_of, reason_of, say, unfinished_files,
+                    write_all)
 
 MOST_BYTES = 1_048_576  # that a document may have; one more is read, so that the program refuses a longer one
 STANDARD_INPUT = "-"
@@ -21,6 +22,9 @@ numbers = count()
 
 class Parser(argparse.ArgumentParser):
     """A parser of a tool's words."""
+
+    def __init__(self, prog, **how):
+        super().__init__(name_of(prog), **how)
 
     def error(self, message):
         """Ends the tool, since its words are wrong."""
@@ -76,9 +80,9 @@ def write_errors(text):
 
 
 def write_pieces(sink, pieces):
-    """Writes the pieces of a text to an open file."""
+    """Writes pieces, each a text or bytes, to an open file."""
     for piece in pieces:
-        sink.write(piece.encode("utf-8", "surrogateescape"))
+        sink.write(piece if isinstance(piece, bytes) else piece.encode("utf-8", "surrogateescape"))
 
 
 def is_replaced(name):

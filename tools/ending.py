@@ -107,15 +107,21 @@ def fill_closed_streams():
             os.open(os.devnull, way)
 
 
+def name_of(tool):
+    """Returns how a tool is called here: an installed one by a link with `dbp-` before its name."""
+    called = os.path.basename(sys.argv[0])
+    return called if called == f"dbp-{tool}" else tool
+
+
 def status_of(tool, command):
     """Returns the status with which a command ends; what stopped it is said on standard error."""
     try:
         return command()
     except Ended as ended:
-        say(f"{tool}: {ended}")
+        say(f"{name_of(tool)}: {ended}")
         return ended.status
     except MemoryError:
-        say(f"{tool}: out of memory")
+        say(f"{name_of(tool)}: out of memory")
         return Status.OUT_OF_MEMORY
 
 

@@ -11,7 +11,7 @@ from itertools import groupby, zip_longest
 
 from checking.text import lines_of
 from command_line import MOST_BYTES, STANDARD_INPUT, Parser, read_bytes, write_text
-from ending import Ended, Status, say, status_of, status_of_all
+from ending import Ended, Status, name_of, say, status_of, status_of_all
 from program import CannotRun, add_program_option, read_as_answer, run_program
 
 ABOUT = """Lays documents out as `dbp form` does, in place, and keeps their comments and blank lines.
@@ -136,7 +136,7 @@ def status_of_file(options, name):
     except CannotRun:
         raise
     except Ended as ended:
-        say(f"format: {ended}")
+        say(f"{name_of('format')}: {ended}")
         return ended.status
 
 

@@ -1,17 +1,19 @@
 """The program dbp, run by the tools beside this file: every verdict and value of theirs comes from it."""
 
+import os
 import re
 import shutil
 import signal
 import subprocess
-from contextlib import contextmanager
+from contextlib import ExitStack, contextmanager
 from dataclasses import dataclass
 from pathlib import Path
 
 from ending import Ended, Status, kept_in, reason_of, running_programs, say
 
 TOP = Path(__file__).resolve().parent.parent
-LAUNCHER = TOP / "dbp"
+LAUNCHER = TOP / "dbp"  # of a repository; where dbp is installed, the program itself
+BUILDER = TOP / "tools" / "build.py"  # of a repository alone
 BUILT = TOP / "crates" / "dbp" / "out" / "dbp"
 STATUSES = range(8)  # what the program may end with
 TABLE_LINE = re.compile(r"[0-9]+,\w+,[0-9]+(,-?[0-9]+)+")
@@ -24,6 +26,46 @@ class CannotRun(Ended):
         super().__init__(Status.CANNOT_RUN, text)
 
 
+class LimitReached(Ended):
+    """The program used more than it may."""
+
+    def __init__(self, text):
+        super().__init__(Status.CANNOT_RUN, text)
+
+
+@dataclass(frozen=True)
+class Limits:
+    """What a run of the program may use: seconds, and how many bytes it may write. The limit on the bytes is the process's
+    own on files (`RLIMIT_FSIZE`), which the program inherits."""
+
+    seconds: float
+    output: int
+
+    def answer(self, words, document):
+        """Runs words on a document; returns the status, and what was written to standard output and standard error."""
+        with ExitStack() as kept:
+            sinks = [kept.enter_context(open(os.memfd_create("output"), "w+b")) for _ in range(2)]
+            streams = dict(zip(("stdout", "stderr"), sinks))
+            started = kept.enter_context(subprocess.Popen(words, stdin=subprocess.PIPE, **streams))
+            try:
+                started.communicate(document, timeout=self.seconds)
+            except subprocess.TimeoutExpired as error:
+                raise LimitReached(f"{called(words)} took longer than {self.seconds:g} seconds") from error
+            finally:
+                started.kill()  # which does nothing if it has ended
+            if started.returncode == -signal.SIGXFSZ:
+                raise LimitReached(f"{called(words)} wrote more than {self.output:,} bytes")
+            for sink in sinks:
+                sink.seek(0)
+            return started.returncode, sinks[0].read(), sinks[1].read()
+
+
+class Kept:
+    """The limits that each run of the program keeps to, if there are any."""
+
+    limits = None
+
+
 @dataclass(frozen=True)
 class Ran:
     """What one run of the program gave: its exit status, its lines and its notes."""
@@ -34,24 +76,44 @@ class Ran:
 
 
 def add_program_option(parser):
-    """Adds the option that names another program than the launcher of this repository."""
-    parser.add_argument("--program", default=str(LAUNCHER), help="the program dbp (the launcher of this repository)")
+    """Adds the option that names another program than the one beside the tools."""
+    parser.add_argument("--program", default=str(LAUNCHER), help="the program dbp (the one beside the tools)")
 
 
-def run_program(program, words, document):
-    """Runs the program with these words on the bytes of a document. The launcher builds it first if it isn't there."""
-    if program == str(LAUNCHER) and not BUILT.exists() and shutil.which("rt"):
+def run_program(program, words, document, seconds=None):
+    """Runs the program with these words on the bytes of a document. The launcher builds it first if it isn't there.
+
+    If it hasn't ended after so many seconds, it is ended, and `TimeoutExpired` is raised.
+    """
+    if program == str(LAUNCHER) and BUILDER.exists() and not BUILT.exists() and shutil.which("rt"):
         say(f"{LAUNCHER} proves and builds the program first, in half an hour on four processors")
-    pipe = subprocess.PIPE
     try:
-        started = subprocess.Popen([program, *words], stdin=pipe, stdout=pipe, stderr=pipe)
+        status, stdout, stderr = answer_of([program, *words], document, seconds)
     except OSError as error:
         raise CannotRun(f"{program}: {reason_of(error)}") from error
+    if status not in STATUSES:
+        raise end_of(program, status, stderr)
+    return Ran(status, stdout, stderr)
+
+
+def answer_of(words, document, seconds):
+    """Runs words on a document; returns the status, and what was written to standard output and standard error."""
+    if Kept.limits:
+        return Kept.limits.answer(words, document)
+    pipe = subprocess.PIPE
+    started = subprocess.Popen(words, stdin=pipe, stdout=pipe, stderr=pipe)
     with started, kept_in(running_programs, started):
-        stdout, stderr = started.communicate(document)
-    if started.returncode not in STATUSES:
-        raise end_of(program, started.returncode, stderr)
-    return Ran(started.returncode, stdout, stderr)
+        try:
+            stdout, stderr = started.communicate(document, seconds)
+        except subprocess.TimeoutExpired:
+            started.kill()
+            raise
+    return started.returncode, stdout, stderr
+
+
+def called(words):
+    """Returns the words of a run as one knows them."""
+    return f"`dbp {' '.join(words[1:])}`"
 
 
 def end_of(program, status, stderr):
@@ -75,7 +137,7 @@ def read_as_answer(program):
 
 
 def table_lines(ran):
-    """Returns the lines of a table that a run gave, of `mean`, `sim` or `run`."""
+    """Returns the lines of a table that a run gave, of `mean`, `sim`, `cpus` or `run`."""
     lines = ran.stdout.decode("ascii", "replace").splitlines()
     if lines and not TABLE_LINE.fullmatch(lines[0]):
         raise CannotRun(f"the program's answer isn't one of dbp: {lines[0][:80]!r}")

@@ -1,16 +1,16 @@
-"""Each canonical text that a case of `form` wants is its own canonical text."""
+"""Each canonical text that a case of `form`, `need` or `rank` wants is its own canonical text."""
 
 import pathlib
 
 TOP = pathlib.Path(__file__).resolve().parents[2]
+COMMANDS = ("form", "need", "rank")
 
 
-# The folders whose documents `form` accepts.
+# The folders whose documents one of these accepts.
 def folders():
-    yield TOP / "examples" / "form"
-    for words in sorted(TOP.glob("cases/**/words")):
+    for words in sorted([*TOP.glob("examples/**/words"), *TOP.glob("cases/**/words")]):
         folder = words.parent
-        if words.is_file() and words.read_text().split() == ["form"] and (folder / "status").read_text().strip() == "0":
+        if words.read_text().split()[0] in COMMANDS and (folder / "status").read_text().strip() == "0":
             yield folder
 
 

@@ -1,5 +1,12 @@
-"""Generated documents, made a second time here: their text, the lines of their meaning, their response times, and their
-summary."""
+"""Generated documents, made a second time here: their text, the lines of their meaning, their response times, their
+priorities by their links, and their summary."""
+
+import sys
+from pathlib import Path
+
+sys.path.insert(0, str(Path(__file__).resolve().parents[1]))
+
+from rankings import ranked  # noqa: E402
 
 BITS = (1 << 64) - 1
 
@@ -95,6 +102,10 @@ def cases():
             yield f"{words} of {name}", [words], text, 0, lines
         yield f"form of {name}", ["form"], text, 0, text
         yield f"rta of {name}", ["rta"], text, 0, responses(tasks)
+        yield f"need of {name}", ["need", "t0"], text, 1, b"refused: 33 NotOnEvents t0\n"
+        status, by_links = ranked(text)
+        yield f"rank of {name}", ["rank"], text, status, by_links
+        yield f"mean of that of rank of {name}", ["mean"], by_links, 0, lines
         yield f"soak {name}", ["soak", str(seed), str(size)], b"not read", 0, summary(tasks, values)
     for size in range(1, 33):
         tasks = tasks_of(size, size)

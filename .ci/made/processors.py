@@ -1,7 +1,8 @@
 """Documents of version 1 as documents of version 2, with and without processors of their tasks: what is printed stays.
 
-Only `form` and `upgrade` print `cpu`. So each document of examples/ and cases/ that another command accepts is tried
-without processors, and from each processor on.
+Only `form`, `upgrade`, `need` and `rank` print `cpu`, and only `cpus` simulates by it. So each document of examples/ and
+cases/ that another command than the first two and `cpus` accepts is tried without processors, and from each processor on.
+What `need` and `rank` write has the processors of its document.
 """
 
 import itertools
@@ -11,7 +12,8 @@ import re
 TOP = pathlib.Path(__file__).resolve().parents[2]
 
 TURNS = ["run", "--turns", "1"]
-PRINTING = (["form"], ["upgrade"])
+LOOKING = (["form"], ["upgrade"], ["cpus"], ["cpus", "--record"])  # at the processors
+WRITING = ("need", "rank")
 REFUSED = 1
 PROCESSORS = range(8)
 VERSION_1 = re.compile(rb"^[ \t]*dbp[ \t]+0*1\b", re.MULTILINE)
@@ -31,7 +33,7 @@ def tried():
     """Yields commands, each with a document, its status and what is printed; `mean` and runs print the same lines."""
     for words in sorted([*TOP.glob("examples/**/words"), *TOP.glob("cases/**/words")]):
         command = words.read_text().split()
-        commands = [["mean"], TURNS] if command in (["mean"], ["run"]) else [] if command in PRINTING else [command]
+        commands = [["mean"], TURNS] if command in (["mean"], ["run"]) else [] if command in LOOKING else [command]
         for document in accepted(words.parent):
             yield from ((it, *document) for it in commands)
 
@@ -56,9 +58,18 @@ def from_processor(first):
     return (f" cpu {number % len(PROCESSORS)}" for number in itertools.count(first))
 
 
+def printed(command, stdout, processors):
+    """Returns what is printed of a document with processors, of what is printed without: written documents have them too."""
+    if command[0] not in WRITING:
+        return stdout
+    return re.sub(rb" $", b"", with_processors(stdout, processors), flags=re.MULTILINE)
+
+
 def cases():
     for command, file, status, stdout in tried():
         text, name = file.read_bytes(), f"{' '.join(command)} of {file.relative_to(TOP)}"
-        yield f"{name}, none", command, with_processors(text, itertools.repeat("")), status, stdout
+        wanted = printed(command, stdout, itertools.repeat(" cpu 0"))
+        yield f"{name}, none", command, with_processors(text, itertools.repeat("")), status, wanted
         for first in PROCESSORS:
-            yield f"{name}, from {first}", command, with_processors(text, from_processor(first)), status, stdout
+            wanted = printed(command, stdout, from_processor(first))
+            yield f"{name}, from {first}", command, with_processors(text, from_processor(first)), status, wanted

@@ -1,9 +1,14 @@
-"""`rta` refuses each document that `mean` refuses, by the same line: all faults of a document come before its own refusals."""
+"""`rta`, `need` and `cpus` refuse each document that `mean` refuses, by the same line: all faults of a document come before
+their own refusals, also before the one that there is no such task. So does `rank`, but for the faults of ranks."""
 
 import pathlib
+import re
 
 TOP = pathlib.Path(__file__).resolve().parents[2]
 REFUSED = 1
+COMMANDS = (["rta"], ["need", "a"], ["need", "no_such_task_is_declared"], ["cpus"], ["cpus", "--record"])
+RANK = ["rank"]
+OF_RANKS = re.compile(rb"refused: line \d+: (14|15|18) ")
 
 
 def cases():
@@ -15,4 +20,6 @@ def cases():
             own = pathlib.Path(f"{document}.status")
             if int(own.read_text() if own.is_file() else status) == REFUSED:
                 refusal = pathlib.Path(f"{document}.stdout").read_bytes()
-                yield f"rta of {document.relative_to(TOP)}", ["rta"], document.read_bytes(), REFUSED, refusal
+                for command in COMMANDS if OF_RANKS.match(refusal) else (*COMMANDS, RANK):
+                    name = f"{' '.join(command)} of {document.relative_to(TOP)}"
+                    yield name, command, document.read_bytes(), REFUSED, refusal

@@ -1,7 +1,8 @@
 """tools/check: the first error of each refused case is the program's and is found in the document too, accepted cases
 have no error, and documents with each kind of message give exactly the text beside them.
 
-A case that a command refuses without a line has no error either: the document has no fault.
+A case that a command refuses without a line has no error either: the document has no fault. What `rank` answers to doesn't
+depend on faults of ranks, which are left out then; behind a cycle nothing is said of the trace.
 """
 
 import importlib.util
@@ -23,6 +24,7 @@ sys.path[:0] = [str(TOP / "tools"), str(TOP / ".ci")]
 from checking.command import judged  # noqa: E402
 from checking.illegal import illegal_of  # noqa: E402
 from checking.messages import Severity  # noqa: E402
+from checking.occurrences import occurrence_faults  # noqa: E402
 from checking.printed import as_json, objects, plain  # noqa: E402
 from checking.verdicts import NOT_FOUND, Command, Judged, refusal_of  # noqa: E402
 from program import run_program  # noqa: E402
@@ -31,6 +33,8 @@ from stand_ins import without_rta  # noqa: E402
 MOST_MADE = 100_000
 COMMANDS = {("replay",): Command.REPLAY, ("replay", "--ranked"): Command.RANKED}
 READING_ALONE = (["form"], ["upgrade"])
+RANK, CYCLE = ["rank"], b"refused: 37 Cycle "
+OF_RANKS, FIRST_OF_TRACE = (14, 15, 18), 20
 WITH_JSON = ("unknown_links", "accepted_with_warnings", "illegal_step")
 WITH_SUMS = ("beyond", "overrun")  # beside these stands what is told without response times, too
 EXAMPLE = TOP / "examples" / "preempted.dbp"
@@ -56,8 +60,22 @@ def errors_of(verdict):
     return [it for it in verdict.messages if it.severity is Severity.ERROR]
 
 
+def differs_from_rank(text, stdout):
+    """Returns how what is found in a document differs from what `rank` prints for it, or nothing."""
+    it = Judged(None, text)
+    found = [error for error in it.faults(Command.PLAN) if error.code not in OF_RANKS]
+    found = found or occurrence_faults(it.document)
+    if stdout.startswith(CYCLE):
+        found = [error for error in found if error.code < FIRST_OF_TRACE]
+    refusal, first = refusal_of(stdout), [(error.line, error.code, error.name) for error in found[:1]]
+    wanted = [(refusal.line, refusal.code, refusal.name)] if refusal else []
+    return None if first == wanted else f"found is {found[:1]}, and {wanted} is wanted"
+
+
 def differs(program, words, text, stdout):
     """Returns how the messages of a document differ from what the program prints for it, or nothing."""
+    if words == RANK:
+        return differs_from_rank(text, stdout)
     command = COMMANDS.get(tuple(words), Command.PLAN)
     it = Judged(partial(run_program, program), text)
     errors = errors_of(it.verdict(command))
@@ -93,7 +111,7 @@ def other_documents(program):
             texts[f"{page.name}, document {place}"] = text.encode()
     for file in sorted([*(TOP / ".ci").rglob("*.dbp"), *(TOP / "docs").rglob("*.dbp")]):
         texts[file.relative_to(TOP)] = file.read_bytes()
-    words = [["plan"], ["replay"]]
+    words = [["plan"], ["replay"], RANK]
     return all_of(program, [(it, w, text, run_program(program, w, text).stdout) for it, text in texts.items() for w in words])
 
 
@@ -106,7 +124,7 @@ def made_cases(program):
         spec.loader.exec_module(module)
         for name, words, text, status, stdout in module.cases():
             if status == 1 and len(text) < MOST_MADE:
-                cases[text] = (f"{file.name}: {name}", words, text, stdout)
+                cases[text, words == RANK] = (f"{file.name}: {name}", words, text, stdout)
     return all_of(program, cases.values())
 
 

@@ -5,6 +5,7 @@ A block without a word after its fence is one of these, and so is one with the w
 - its first line is `dbp 1` or `dbp 2`: a document, which is the page's current one from then on;
 - its word is `diff`: a change of the current document. Lines that begin with a space or a `-` must stand in it once,
   one after another, and those that begin with a space or a `+` take their place;
+- its word is `expect` or `props`: what stands beside the current document, in a file of this ending;
 - its first line is `trace` or `script`: the end of the current document, which takes the place of its line `done`;
 - its first line begins with `$ `: commands, and below each what it prints. A file that isn't in the repository is the
   current document. A line `..` stands for any lines, and `$ echo $?` has the exit status of the command before.
@@ -30,6 +31,7 @@ from doc_pages import blocks_and_prose, pages  # noqa: E402
 PROGRAMS = ("dbp", "./dbp", "./try")
 LINKED = ("examples", "cases", "docs", "tools")
 HEADERS = ("dbp 1", "dbp 2")
+BESIDE = ("expect", "props")
 LEFT_OUT = ".."
 STATUS = "$ echo $?"
 SECONDS = 60
@@ -49,6 +51,7 @@ class Example:
     number: int
     command: str
     document: str
+    beside: dict
     lines: list
     status: int
 
@@ -72,14 +75,19 @@ def lines_with_end(old, end):
     return [*old[:-1], *end]
 
 
-def examples_in(block, document):
+def text_of(lines):
+    """Returns lines as a text."""
+    return "".join(f"{it}\n" for it in lines)
+
+
+def examples_in(block, document, beside):
     """Returns the examples of a block whose first line is a command."""
     found = []
     for number, line in enumerate(block.lines, block.number + 1):
         if line == STATUS:
             found[-1].status = None
         elif line.startswith("$ "):
-            found.append(Example(number, line[2:], document, [], 0))
+            found.append(Example(number, line[2:], document, beside, [], 0))
         elif found[-1].status is None:
             found[-1].status = int(line)
         else:
@@ -93,20 +101,22 @@ def examples_in(block, document):
 
 def examples_of(text):
     """Yields the examples of a page. The document before the first one is empty."""
-    document = []
+    document, beside = [], {}
     for block in blocks_and_prose(text)[0]:
         first = block.lines[0] if block.lines else ""
         try:
             if block.word == "diff":
                 document = lines_after(document, block.lines)
+            elif block.word in BESIDE:
+                beside = {**beside, block.word: text_of(block.lines)}
             elif block.word:
                 continue
             elif first in HEADERS:
-                document = block.lines
+                document, beside = block.lines, {}
             elif first in ("trace", "script"):
                 document = lines_with_end(document, block.lines)
             elif first.startswith("$ "):
-                yield from examples_in(block, "".join(f"{it}\n" for it in document))
+                yield from examples_in(block, text_of(document), beside)
             else:
                 raise Fault(UNKNOWN)
         except Fault as fault:
@@ -126,6 +136,8 @@ def words_of(program, example, room):
     for word in words[1:]:
         if word.endswith(".dbp") and not (room / word).exists():
             (room / word).write_text(example.document)
+            for ending, text in example.beside.items():
+                (room / word).with_suffix(f".{ending}").write_text(text)
     there = TOP / name.strip() if name else None
     return command, there.read_bytes() if there and there.is_file() else example.document.encode()
 
@@ -219,6 +231,8 @@ PAGES = {
     f"{DOCUMENT}```\n$ dbp mean\n0,a,1,7\n2,a,2,8\n```\n": "line 10: `dbp mean` prints ['2,a,2,7']",
     f"{DOCUMENT}```\n$ dbp mean\n0,a,1,7\n```\n": "line 10: `dbp mean` prints ['2,a,2,7']",
     f"{DOCUMENT}```\n$ dbp form\n..\n$ echo $?\n1\n```\n": "line 10: `dbp form` ends with 0, and 1 is wanted",
+    f"{DOCUMENT}```expect\ntime,a.y\n0,8\n```\n```\n$ tools/test a.dbp\n1 passed, 0 failed\n```\n":
+        "line 14: `tools/test a.dbp` prints ['0 passed, 1 failed']",
     f"{DOCUMENT}```diff\n-none\n+one\n```\n": "line 9: the changed lines stand 0 times in the document",
     "```\nscript\ndone\n```\n": "line 1: the end of a document takes the place of a line `done`, and ends with one",
     "```\n$ rm none\n```\n": "line 2: it is no command of this repository: rm",

@@ -21,6 +21,14 @@ from doc_pages import blocks_and_prose, pages, spans, without_spans  # noqa: E40
 # Words in backticks that no file has, each with the reason why it may stand there.
 EXPLAINED = {
     ".vscode/tasks.json": "a file of the reader's own",
+    "K_FOREVER": "a word of Zephyr, as the four below",
+    "K_PRIO_PREEMPT": "as `K_FOREVER`",
+    "K_THREAD_DEFINE": "as `K_FOREVER`",
+    "k_msleep": "as `K_FOREVER`",
+    "k_sem_give": "as `K_FOREVER`",
+    "k_sem_take": "as `K_FOREVER`",
+    "k_timer": "as `K_FOREVER`",
+    "NVIC_ISPR": "a register of the processor Cortex-M",
     "TASK_instance_": "a signal whose name is put together, of a task, `_instance` and as many `_` as it needs",
     "UnusedLet": "a warning whose name is put together, of `Unused` and the kind of the line",
     "UnusedRead": "as `UnusedLet`",

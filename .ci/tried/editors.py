@@ -368,10 +368,15 @@ def fault_of_extension():
 
 
 def task_of_docs():
-    """Returns the task of docs/TOOLS.md that uses the extension's problem matcher."""
-    blocks = re.findall(r"```json\n(.*?)```", (TOP / "docs" / "TOOLS.md").read_text(), re.DOTALL)
+    """Returns the task of docs/TOOLS.md with the extension's words that the page names for its command and its matcher."""
+    page = (TOP / "docs" / "TOOLS.md").read_text()
+    words = {"problemMatcher": "$dbp", "command": "${config:dbp.check}"}
+    missing = [word for word in words.values() if f'`"{word}"`' not in page]
+    blocks = re.findall(r"```json\n(.*?)```", page, re.DOTALL)
     tasks = [task for block in blocks for task in json.loads(block).get("tasks", ())]
-    return next(task for task in tasks if task["problemMatcher"] == "$dbp")
+    if missing or len(tasks) != 1:
+        raise ValueError(f"docs/TOOLS.md has {len(tasks)} tasks, and doesn't name {missing}")
+    return {**tasks[0], **words}
 
 
 def fault_of_task(program):

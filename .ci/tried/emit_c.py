@@ -25,10 +25,12 @@ from stand_ins import write_program  # noqa: E402
 GENERATED = ((1, 1), (2, 2), (3, 3), (4, 4), (5, 6), (6, 8), (7, 10), (8, 12), (9, 14), (10, 20))
 MARK = "/* Written by tools/emit_c of dbp: it writes this file anew at each call. */\n"
 GOOD, REFUSED = "examples/preempted.dbp", "examples/refused/18_undelayed_upward.dbp"
+EVENTS, BY_DEADLINE = "examples/logger.dbp", ("--target", "posix", "--policy", "deadline", "--tick")
 SHORT_FILES = ("sh", "-c", 'ulimit -f 6; exec "$@"', "sh")  # no file may have more than 6 blocks of 512 bytes
 OWN = ("dbp_protocol.c", "dbp_protocol.h", "it.c", "it.h")
 
-# In the C of docs/DEPLOYING.md `set_motor` and `wait_for_timer` are the reader's own.
+# In the C of docs/DEPLOYING.md `set_motor` and `pend` are the reader's own, and rtos/ has what it uses of FreeRTOS.
+RTOS = HERE / "rtos"
 
 # Calls that write nothing: their words, their status, and what stands on standard error.
 ENDED = (
@@ -44,6 +46,17 @@ ENDED = (
     (["--target", "other", GOOD], 2, "usage: emit_c "),
     (["--calls", "-1", GOOD], 2, "usage: emit_c "),
     (["--calls", "1000000", GOOD], 2, "usage: emit_c "),
+    (["--words", "16", GOOD], 2, "usage: emit_c "),
+    (["--target", "posix", GOOD], 2, "usage: emit_c "),
+    (["--target", "posix", "--tick", "1", GOOD], 2, "usage: emit_c "),
+    (["--target", "posix", "--tick", "999ns", GOOD], 2, "usage: emit_c "),
+    (["--target", "posix", "--tick", "3601s", GOOD], 2, "usage: emit_c "),
+    (["--tick", "1ms", GOOD], 2, "usage: emit_c "),
+    (["--log", GOOD], 2, "usage: emit_c "),
+    (["--policy", "deadline", GOOD], 2, "usage: emit_c "),
+    ([*BY_DEADLINE, "1ms", GOOD], 2, "emit_c: --policy deadline: the document's policy isn't `edf`\n"),
+    ([*BY_DEADLINE, "1ms", EVENTS], 2, "emit_c: --policy deadline: the task `doors` is on an event\n"),
+    ([*BY_DEADLINE, "99us", EVENTS], 2, "emit_c: --policy deadline: a tick is shorter than 100us"),
     (["--program", "/none", GOOD], 70, "emit_c: /none: No such file or directory\n"),
     (["--program", "/bin/echo", GOOD], 70, "emit_c: "),
     ([], 2, "usage: emit_c "),
@@ -246,11 +259,15 @@ def compare_docs(program):
         must_end(call(program, ["-o", place, *compiled.TABLES, GOOD]), 0)
         written = (Path(place) / "preempted.c").read_text()
         must("\n".join(blocks["text"][1]) in written, "the table of the docs isn't in preempted.c")
-        source = Path(place) / "system.c"
-        source.write_text("\n".join([*blocks["c"][0], "void readme(uint64_t tick);", "void readme(uint64_t tick)", "{", *lines[0], "}"]))
-        if compiled.has_compiler():
-            command = ["cc", *compiled.FLAGS, "-c", source, "-o", f"{place}/o"]
-            compiled.executed(command, compiled.COMPILE_SECONDS)
+        must(len(blocks["c"]) == 2, f"the docs have {len(blocks['c'])} blocks of C")
+        readme = ["void readme(uint64_t tick);", "void readme(uint64_t tick)", "{", *lines[0], "}"]
+        for block in blocks["c"]:
+            source = Path(place) / "system.c"
+            source.write_text("\n".join([*block, *readme]))
+            if compiled.has_compiler():
+                flags = [it for it in compiled.FLAGS if it != "-Wconversion"]
+                command = ["cc", *flags, "-Wno-missing-prototypes", "-I", RTOS, "-c", source, "-o", f"{place}/o"]
+                compiled.executed(command, compiled.COMPILE_SECONDS)
 
 
 def trials(program):

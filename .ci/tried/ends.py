@@ -16,7 +16,9 @@ sys.path.insert(0, str(TOP / ".ci"))
 from stand_ins import write_program  # noqa: E402
 
 GOOD, REFUSED = "examples/preempted.dbp", "examples/refused/18_undelayed_upward.dbp"
+TESTED = "examples/cruise_control/cruise_control.dbp"
 LATE = ".ci/tried/response/alarm.dbp"
+LOGGED = ["--tick", "500ms", "examples/greenhouse.csv", "examples/greenhouse.dbp"]
 TABLE = ["--format", "csv", "--task", "control"]
 NOWHERE = ["-o", "/dev/null/none"]  # a folder that can't be made
 
@@ -34,6 +36,8 @@ STREAMS = (
     ("check", ["-"], (4, 1, 5)),
     ("check", ["--json", GOOD], (0, 5, 0)),
     ("check", ["--json", REFUSED], (1, 5, 1)),
+    ("check", ["--sarif", REFUSED], (1, 5, 1)),
+    ("check", ["--code-quality", GOOD], (0, 5, 0)),
     ("check", [], (2, 2, 2)),
     ("check", ["--help"], (0, 5, 0)),
     ("check", ["--program", "/none", GOOD], (70, 70, 70)),
@@ -44,26 +48,46 @@ STREAMS = (
     ("diagram", [GOOD], (0, 5, 0)),
     ("diagram", ["none.dbp"], (4, 4, 4)),
     ("diagram", ["-o", "none/none.svg", GOOD], (5, 5, 5)),
+    ("test", [TESTED], (0, 5, 0)),
+    ("test", ["--tap", TESTED], (0, 5, 0)),
+    ("test", [REFUSED], (1, 5, 5)),
+    ("test", ["--junit", "none/none.xml", TESTED], (5, 5, 5)),
+    ("test", ["none.dbp"], (4, 4, 4)),
+    ("test", ["--turns", "1", TESTED], (2, 2, 2)),
+    ("test", ["--help"], (0, 5, 0)),
     ("waves", [GOOD], (0, 5, 0)),
     ("waves", ["-"], (4, 1, 1)),
     ("waves", [*TABLE, GOOD], (0, 5, 0)),
     ("waves", [REFUSED], (1, 1, 1)),
     ("waves", ["--tick", "1", GOOD], (2, 2, 2)),
+    ("trace", LOGGED, (0, 5, 5)),
+    ("trace", ["--tick", "500ms", "-", LOGGED[-1]], (4, 1, 1)),
+    ("trace", ["--tick", "500ms", LOGGED[-2], GOOD], (1, 1, 1)),
     ("response", [GOOD], (0, 5, 0)),
     ("response", ["--json", "-"], (4, 1, 1)),
     ("response", [LATE], (1, 5, 1)),
     ("response", ["--csv", REFUSED], (1, 1, 1)),
     ("response", ["--chain", "a", GOOD], (2, 2, 2)),
+    ("report", [GOOD], (0, 5, 0)),
+    ("report", ["-"], (4, 5, 1)),
+    ("report", [REFUSED], (1, 5, 1)),
+    ("report", [GOOD, "none.dbp"], (4, 4, 4)),
+    ("studio", ["--port", "70000", GOOD], (2, 2, 2)),
+    ("studio", ["none/none.dbp"], (4, 4, 4)),
+    ("studio", ["--help"], (0, 5, 0)),
     ("emit_c", [*NOWHERE, GOOD], (5, 5, 5)),
     ("emit_c", [*NOWHERE, REFUSED], (1, 1, 1)),
     ("emit_c", [*NOWHERE, "-"], (4, 1, 1)),
     ("emit_c", ["--help"], (0, 5, 0)),
     ("emit_c", [GOOD], (2, 2, 2)),
+    ("language_server", [], (1, 1, 1)),
+    ("language_server", ["--help"], (0, 5, 0)),
+    ("language_server", ["--tick", "5"], (2, 2, 2)),
 )
 
 # The tools with words that ask the program, and write a file.
 PICTURES = (("timeline", []), ("diagram", []), ("diagram", ["--dot"]), ("response", ["--histogram", "control"]))
-WRITERS = (*PICTURES, ("waves", []), ("waves", TABLE), ("response", []))
+WRITERS = (*PICTURES, ("waves", []), ("waves", TABLE), ("response", []), ("report", []))
 
 # A program that isn't dbp, and the status of each tool with it.
 OTHERS = {"/bin/true": (70, 70), "/bin/false": (70, 1), "/bin/echo": (70, 70), "/etc/passwd": (70, 70), "/etc": (70, 70)}
@@ -231,10 +255,13 @@ def trials(program):
     for number in (signal.SIGINT, signal.SIGTERM, signal.SIGHUP):
         yield f"a file is half written at {number.name}", partial(half_fault, number)
     for other, (of_check, of_others) in OTHERS.items():
-        for tool in ("check", "response", "timeline", "diagram", "waves"):
-            yield f"{tool} with {other}", partial(other_fault, tool, other, of_check if tool == "check" else of_others)
+        for tool in ("check", "report", "response", "timeline", "diagram", "waves"):
+            status = of_check if tool in ("check", "report") else of_others
+            yield f"{tool} with {other}", partial(other_fault, tool, other, status)
     for words, start in ((["./dbp", "mean"], "dbp: "), (["./try", "mean"], "try: no answer: ")):
         yield f"{words[0]} without rt", partial(no_rt_fault, words, start)
     emit_c = ["tools/emit_c", "-o", "made", GOOD]
-    for words in (["tools/check", GOOD], ["tools/check", "--json", GOOD], ["tools/waves", GOOD], ["tools/diagram", GOOD], emit_c):
+    trace = ["tools/trace", "--tick", "1ms", "none.csv", GOOD]
+    checks = ["tools/check", GOOD], ["tools/check", "--json", GOOD]
+    for words in (*checks, ["tools/waves", GOOD], ["tools/diagram", GOOD], emit_c, trace):
         yield f"{' '.join(words)} without rt", partial(no_rt_fault, words, f"{Path(words[0]).name}: dbp: ")

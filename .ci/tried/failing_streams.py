@@ -11,6 +11,10 @@ EXAMPLE = EXAMPLES / "two_rates.dbp"
 UNKNOWN = EXAMPLES / "refused" / "11_unknown.dbp"
 NOT_FIXED = EXAMPLES / "refused_rta" / "31_not_fixed.dbp"
 NOT_PERIODIC = EXAMPLES / "refused_rta" / "32_not_periodic.dbp"
+SCENARIO = EXAMPLES / "need" / "wheel.dbp"
+NOT_ON_EVENTS = EXAMPLES / "refused_need" / "33_not_on_events.dbp"
+LATE = EXAMPLES / "cpus" / "one_processor.dbp"
+CYCLE = EXAMPLES / "refused_rank" / "37_cycle.dbp"
 NO_LINES = b"dbp 1\npolicy fp\nuntil 0\ndone\n"
 
 # The name, the words, the document or None for one that can't be read, whether the output can't be written, and the
@@ -35,6 +39,27 @@ TRIALS = [
     ("unwritten refusal of response times by a policy", ["rta"], NOT_FIXED.read_bytes(), True, 5),
     ("unwritten refusal of response times by a task", ["rta"], NOT_PERIODIC.read_bytes(), True, 5),
     ("no response times to be written", ["rta"], NO_LINES, True, 0),
+    ("unread document of a scenario", ["need", "pulse"], None, False, 4),
+    ("unread document of a scenario, and no output", ["need", "pulse"], None, True, 4),
+    ("unwritten scenario", ["need", "pulse"], SCENARIO.read_bytes(), True, 5),
+    ("unwritten refusal before a scenario", ["need", "pulse"], UNKNOWN.read_bytes(), True, 5),
+    ("unwritten refusal of a scenario", ["need", "w"], NOT_ON_EVENTS.read_bytes(), True, 5),
+    ("unwritten refusal of a scenario of no task", ["need", "dbp"], SCENARIO.read_bytes(), True, 5),
+    ("no command without a task, and no document", ["need"], None, True, 2),
+    ("unread document of priorities", ["rank"], None, False, 4),
+    ("unread document of priorities, and no output", ["rank"], None, True, 4),
+    ("unwritten priorities", ["rank"], EXAMPLE.read_bytes(), True, 5),
+    ("unwritten refusal before priorities", ["rank"], UNKNOWN.read_bytes(), True, 5),
+    ("unwritten refusal by a cycle", ["rank"], CYCLE.read_bytes(), True, 5),
+    ("unread document of processors", ["cpus"], None, False, 4),
+    ("unread document of processors, and no output", ["cpus"], None, True, 4),
+    ("unread document of a record on processors", ["cpus", "--record"], None, False, 4),
+    ("unwritten lines of processors", ["cpus"], EXAMPLE.read_bytes(), True, 5),
+    ("unwritten record on processors", ["cpus", "--record"], EXAMPLE.read_bytes(), True, 5),
+    ("unwritten overrun on processors", ["cpus"], LATE.read_bytes(), True, 5),
+    ("unwritten overrun in place of a record", ["cpus", "--record"], LATE.read_bytes(), True, 5),
+    ("unwritten refusal before processors", ["cpus"], UNKNOWN.read_bytes(), True, 5),
+    ("no lines of processors to be written", ["cpus"], NO_LINES, True, 0),
     ("unread canonical text", ["form"], None, False, 4),
     ("unwritten canonical text", ["form"], EXAMPLE.read_bytes(), True, 5),
     ("nothing to be written", ["mean"], NO_LINES, True, 0),

@@ -15,7 +15,8 @@ NOBODY = 65534
 # The tools with their words; each writes to standard output, to standard error as `check`, or into a folder.
 EMIT_C = ["emit_c", "-o", "made"]
 CSV = ["--format", "csv"]
-TOOLS = (["check"], ["response"], ["timeline"], ["diagram"], ["waves"], ["waves", *CSV], ["format", "--check"], EMIT_C)
+DRAWN = (["report"], ["response"], ["timeline"], ["diagram"], ["waves"], ["waves", *CSV])
+TOOLS = (["check"], *DRAWN, ["format", "--check"], EMIT_C)
 
 # A file's content, or None for a folder, and the status of each tool with it.
 CONTENTS = {

@@ -10,15 +10,18 @@ NOTE = b"dbp: the document comes on standard input: dbp "
 TEXT = b"dbp 1\npolicy fp\nuntil 1\ndone\n"
 
 # The words of a call in a folder with the files of FILES, its status, and how the note goes on if there is one.
-FILES = ("speed.dbp", "a b.dbp", "-x.dbp", "5")
+FILES = ("speed.dbp", "a b.dbp", "-x.dbp", "5", "speed")
 CALLS = (
     (["mean", "speed.dbp"], 2, b"mean < speed.dbp\n"),
     (["mean", "a b.dbp"], 2, b"mean < a\\ b.dbp\n"),
-    (["run", "--turns", "5", "speed.dbp"], 2, b"run < speed.dbp\n"),
+    (["run", "--turns", "5", "speed.dbp"], 2, b"run --turns 5 < speed.dbp\n"),
+    (["need", "pulse", "speed.dbp"], 2, b"need pulse < speed.dbp\n"),
+    (["need", "speed.dbp"], 2, b"need < speed.dbp\n"),
     (["speed.dbp"], 2, b"COMMAND < speed.dbp\n"),
     (["mean", "none.dbp"], 2, None),
     (["mean", "-x.dbp"], 2, None),
     (["men"], 2, None),
+    (["need", "speed"], 1, None),
     (["run", "--turns", "5"], 0, None),
     (["gen", "5"], 0, None),
     (["mean"], 0, None),

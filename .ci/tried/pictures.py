@@ -1,9 +1,11 @@
 """tools/timeline and tools/diagram on the examples and on cases of simulations, and the pictures of docs/.
 
 .ci/tried/pictures/ has the texts that are wanted of some calls. Of every document that the program accepts, the order
-that the tools compute is compared with the record, and what they draw must be well-formed, without texts that overlap.
+that the tools compute is compared with the record, and what they draw must be well-formed, without texts that overlap. Of
+drawn documents on several processors who is served and who is blocked is walked through here tick by tick, too.
 """
 
+import importlib.util
 import re
 import subprocess
 import sys
@@ -31,7 +33,11 @@ from pictures import (  # noqa: E402
     svg,
     timeline,
 )
-from stand_ins import write_program  # noqa: E402
+from pictures.service import Command  # noqa: E402
+from scripts import with_script  # noqa: E402
+from stand_ins import between  # noqa: E402
+
+ON_PROCESSORS = ("--command", "cpus")
 
 EXACT = {
     "modes.timeline.svg": (commands.timeline, "examples/modes.dbp"),
@@ -51,6 +57,9 @@ EXACT = {
     "version_2.diagram.svg": (commands.diagram, ".ci/tried/pictures/version_2.dbp"),
     "version_2.timeline.svg": (commands.timeline, ".ci/tried/pictures/version_2.dbp"),
     "version_2.dot": (commands.diagram, ".ci/tried/pictures/version_2.dbp", "--dot"),
+    "pipeline.cpus.svg": (commands.timeline, "examples/cpus/pipeline.dbp", *ON_PROCESSORS),
+    "pipeline.slots.svg": (commands.timeline, "examples/cpus/pipeline.dbp", *ON_PROCESSORS, "--slots", "camera"),
+    "pipeline.diagram.svg": (commands.diagram, "examples/cpus/pipeline.dbp"),
 }
 
 # What pictures say below the name of each task, by its document: of version 1, and of version 2.
@@ -74,6 +83,9 @@ ABOUT = {
 }
 
 STATUSES = {
+    "a document that overruns on its processors": (0, ["timeline", *ON_PROCESSORS, "examples/cpus/one_processor.dbp"], b""),
+    "a command that simulates nothing": (2, ["timeline", "--command", "mean", "examples/logger.dbp"], b"usage"),
+    "a refused document on processors": (1, ["timeline", *ON_PROCESSORS, "cases/cpus/documents/refused.dbp"], b"18 Undelayed"),
     "a document that overruns": (0, ["timeline", "examples/sim/late.dbp"], b""),
     "a refused document": (1, ["timeline", "examples/refused/10_duplicate.dbp"], b"10 Duplicate"),
     "a refused document's diagram": (1, ["diagram", "examples/refused/18_undelayed_upward.dbp"], b"18 UndelayedUpward"),
@@ -103,12 +115,29 @@ TAMPERED = {
     "an overrun": ("$s/.*/overrun: control 2 at 3/;$!d", 3, 3),
 }
 
+# The same of `cpus --record` of docs/pictures/blocked.dbp, whose steps 13 and 14 are those of tick 1, and 15 to 24 of tick 2.
+TAMPERED_ON_PROCESSORS = {
+    "another slot": ("3s/0/1/", 0, 0),
+    "the blocked one served": ("13s/c/b/", 0, 1),
+    "the ends of two processors exchanged": ("15{N;N;N;h;d};22{G}", 0, 2),
+    "a service before the ends": ("15,22{H;d};24{G}", 0, 2),
+    "no end": ("28d", 0, 4),
+    "an overrun": ("$s/.*/overrun: b 2 at 6/;$!d", 3, 6),
+}
+
 # How many ends of a document are drawn as late ones, and what one says.
 LATE = {
     ".ci/tried/check/late_by_priorities.dbp": (1, b"slow 1 ends at 11, after its deadline 9"),
     ".ci/tried/check/late_by_deadlines.dbp": (3, b"b 2 ends at 12, after its deadline 11"),
     "examples/sim/mended.dbp": (0, b"ends at"),
 }
+
+SPEC = importlib.util.spec_from_file_location("model_of_processors", TOP / ".ci" / "made" / "drawn_processors.py")
+model = importlib.util.module_from_spec(SPEC)
+SPEC.loader.exec_module(model)
+WALKED, DRAWN = 80, 16  # documents on processors whose courses are compared, and whose pictures are drawn
+
+REPLAY = {Command.SIM: ["replay", "--ranked"], Command.CPUS: ["replay"]}
 
 MOST_ROWS, MOST_SECONDS = 50_000, 12
 
@@ -171,23 +200,17 @@ def status_fault(program, status, words, said):
     return None
 
 
-def tampering(program, room, edit, status):
-    """Returns a program that gives the lines of `sim --record` through sed, and ends with a status then."""
-    between = Path(room) / "program"
-    write_program(
-        between,
-        "#!/bin/sh\n"
-        f"""case "$*" in "sim --record") '{program}' "$@" | sed '{edit}'; exit {status};; esac\n"""
-        f"""exec '{program}' "$@"\n""",
-    )
-    return between
+def tampering(program, room, edit, status, command=Command.SIM):
+    """Returns a program that gives the lines of a record through sed, and ends with a status then."""
+    words = " ".join(command.record_words)
+    return between(program, room, words, f"""'{program}' "$@" | sed '{edit}'; exit {status}""")
 
 
-def tampered_fault(program, edit, status, tick):
+def tampered_fault(program, edit, status, tick, document="examples/preempted.dbp", command=Command.SIM):
     """Returns how a record that isn't the program's is taken."""
     with tempfile.TemporaryDirectory() as room:
         try:
-            asking.simulated(tampering(program, room, edit, status), (TOP / "examples" / "preempted.dbp").read_bytes())
+            asking.simulated(tampering(program, room, edit, status, command), (TOP / document).read_bytes(), command)
         except record.Disagreement as differing:
             return None if differing.tick == tick else f"the tick is {differing.tick}, and {tick} is wanted"
     return "it was taken"
@@ -265,19 +288,17 @@ def taken_fault(found, replayed):
 def heard_fault(program, found, form, lines):
     """Returns how the computed orders and values differ from what tasks hear when the program replays the record."""
     document = asking.read_document(form)
-    steps = record.steps_of(document, asking.serve(document).events)
+    steps = record.steps_of(document, found.service)
     wanted = [f"{it.line} -> slot {it.order.slot} number {it.order.row}" for it in steps if it.line.startswith("hear ")]
-    kept = form.decode().split("\n")[: -2 - (0 if document.script is None else 1 + len(document.script))]
-    script = "\n".join([*kept, "script", *lines, "done", ""]).encode()
-    heard = asking.answer(program, ["replay", "--ranked"], script).decode().splitlines()
+    heard = asking.answer(program, REPLAY[found.command], with_script(form, document, lines)).decode().splitlines()
     orders = difference("\n".join(it for it in heard if it.startswith("hear ")), "\n".join(wanted))
     return orders or taken_fault(found, heard)
 
 
-def drawn_fault(program, text):
+def drawn_fault(program, text, command=Command.SIM):
     """Returns what is wrong with the pictures of a document, if the program accepts it."""
     try:
-        found = asking.simulated(program, text)
+        found = asking.simulated(program, text, command)
     except asking.Refused:
         return None
     except record.Disagreement as differing:
@@ -289,9 +310,54 @@ def drawn_fault(program, text):
         pictures.append(timeline.draw_timeline(found, "document", (None, None), None, sorted(set(tasks)))[0])
     dot.dot_text(document, "document")
     form, _ = asking.canonical_text(program, text)
-    steps, overrun = asking.record_text(program, form)
+    steps, overrun = asking.record_text(program, form, command)
     heard = None if overrun else heard_fault(program, found, form, steps.splitlines())
     return next(filter(None, map(overlap, pictures)), None) or heard
+
+
+def ticks_of(stretches):
+    """Returns the ticks of stretches of time."""
+    return [tick for start, stop in stretches for tick in range(start, stop)]
+
+
+def walked_fault(program, drawn):
+    """Returns how the courses of a drawn document's instances differ from those that a walk through its ticks gives."""
+    walk = model.Walk(drawn)
+    found = asking.simulated(program, drawn.text(), Command.CPUS)
+    wanted = walk.overrun and service.Overrun(f"t{walk.overrun[0]}", *walk.overrun[1:])
+    if found.overrun != wanted:
+        return f"the overrun is {found.overrun}, and {walk.overrun} is wanted"
+    given = courses.courses_of(found)
+    if {*given} != {(it.task, it.number) for it in walk.instances}:
+        return f"the instances are {sorted(given)}"
+    for it in walk.instances:
+        course, blocked = given[it.task, it.number], walk.blocked.get((it.task, it.number), [])
+        stop = walk.overrun[2] if walk.is_waiting(it) else it.served[-1] + 1
+        first = it.served[0] if it.served else stop
+        idle = [tick for tick in range(it.release, stop) if tick not in it.served and tick not in blocked]
+        kinds = course.spans, course.blocked, course.waits(), course.gaps()
+        wanted = it.served, blocked, [tick for tick in idle if tick < first], [tick for tick in idle if tick > first]
+        if (*map(ticks_of, kinds), course.end) != (*wanted, None if walk.is_waiting(it) else stop):
+            return f"t{it.task} {it.number} is {course}, and {wanted} is wanted"
+    return None
+
+
+def run_slots_fault(program):
+    """Returns which slots are drawn of a task that has two in a simulation by rank, and a third for a reader above it."""
+    text = (TOP / "cases" / "cpus" / "record" / "slots_of_a_run.dbp").read_bytes()
+    for command, wanted in ((Command.SIM, 2), (Command.CPUS, 3)):
+        picture, _ = slot_rows.draw_slots(asking.simulated(program, text, command), "document", (None, None), "b")
+        found = re.findall(r">(slot \d)<", picture)
+        if found != [f"slot {number}" for number in range(wanted)]:
+            return f"{command.value} has {found}"
+    return None
+
+
+def processors_fault(program, seed):
+    """Returns what is wrong with the pictures of a drawn document on its processors."""
+    drawn = model.drawn_document(seed, seed % model.MOST_PROCESSORS + 1)
+    pictures = drawn_fault(program, drawn.text(), Command.CPUS) if seed < DRAWN else None
+    return pictures or walked_fault(program, drawn)
 
 
 def documents():
@@ -348,3 +414,12 @@ def trials(program):
         yield f"docs/pictures/{picture.file}", lambda it=picture: picture_fault(program, it)
     for file in documents():
         yield f"drawn {file.relative_to(TOP)}", lambda it=file: drawn_fault(program, it.read_bytes())
+    for name, wanted in TAMPERED_ON_PROCESSORS.items():
+        arguments = (*wanted, "docs/pictures/blocked.dbp", Command.CPUS)
+        yield f"a record on processors with {name}", lambda it=arguments: tampered_fault(program, *it)
+    yield "the slots of a run", lambda: run_slots_fault(program)
+    for file in [*sorted((TOP / "examples").rglob("*.dbp")), *sorted((TOP / "cases" / "cpus").rglob("*.dbp"))]:
+        name = f"drawn {file.relative_to(TOP)} on processors"
+        yield name, lambda it=file: drawn_fault(program, it.read_bytes(), Command.CPUS)
+    for seed in range(WALKED):
+        yield f"drawn document {seed} on processors", lambda it=seed: processors_fault(program, it)

@@ -1,6 +1,6 @@
-"""tools/response: its figures of drawn documents are those of a plain walk through the ticks, and no bound of `rta` is below
-a response time; its forms, its verdicts, its statuses, and its times with 100,000 occurrences. Where no bounds are told,
-a program in between has no command `rta`.
+"""tools/response: its figures of drawn documents, on one processor and on several, are those of a plain walk through the
+ticks, and no bound is below a response time; its forms, its verdicts, its statuses, and its times with 100,000 occurrences.
+Where no bounds are told, a program in between has no command `rta`.
 """
 
 import csv
@@ -15,7 +15,7 @@ from pathlib import Path
 from xml.etree import ElementTree
 
 TOP = Path(__file__).resolve().parents[2]
-MODEL = TOP / ".ci" / "made" / "responses.py"
+MODEL = TOP / ".ci" / "made" / "drawn_processors.py"
 WANTED = Path(__file__).resolve().parent / "response"
 sys.path[:0] = [str(TOP / "tools"), str(TOP / "bench"), str(TOP / ".ci")]
 
@@ -27,9 +27,11 @@ from responses.tables import json_text  # noqa: E402
 from running import run  # noqa: E402
 from stand_ins import between, without_rta  # noqa: E402
 
-SPEC = importlib.util.spec_from_file_location("model_of_responses", MODEL)
-model = importlib.util.module_from_spec(SPEC)
-SPEC.loader.exec_module(model)
+SPEC = importlib.util.spec_from_file_location("model_of_processors", MODEL)
+processors = importlib.util.module_from_spec(SPEC)
+SPEC.loader.exec_module(processors)
+model = processors.one
+ON_PROCESSORS = (*range(60), 324)  # drawn documents; in the last one an instance is blocked twice
 
 DISTANCES = {"e": 4, "f": 2}  # that are assumed of the events of drawn documents
 
@@ -49,6 +51,27 @@ def spread(values):
     return max(values) - min(values) if values else None
 
 
+def processor_of(task):
+    """Returns the processor of a drawn task."""
+    return getattr(task, "cpu", 0)
+
+
+def is_on_processors(drawn):
+    """Whether some processor of a drawn document isn't 0."""
+    return any(map(processor_of, drawn.tasks))
+
+
+def figures_on_processors(walk, place):
+    """Returns what is told beside of a task of a document on processors."""
+    blocked = {it.number: walk.blocked.get((place, it.number), []) for it in walk.ended(place)}
+    gaps = []
+    for it in walk.ended(place):
+        idle = [range(before + 1, after) for before, after in zip(it.served, it.served[1:])]
+        gaps.append(sum(any(tick not in blocked[it.number] for tick in ticks) for ticks in idle))
+    ticks = max(map(len, blocked.values()), default=None)
+    return {"cpu": processor_of(walk.drawn.tasks[place]), "preemptions": max(gaps, default=None), "blocked": ticks}
+
+
 def wanted_figures(walk, place):
     """Returns the figures of a task that a walk gives, without its load and bound."""
     drawn, task, ended = walk.drawn, walk.drawn.tasks[place], walk.ended(place)
@@ -57,6 +80,7 @@ def wanted_figures(walk, place):
     times = [time for time, (_, events) in drawn.rows.items() if task.clock in events]
     limit = task.deadline or (least_step(times) if task.clock in model.EVENTS else task.clock)
     gaps = [sum(after > before + 1 for before, after in zip(it.served, it.served[1:])) for it in ended]
+    on_processors = figures_on_processors(walk, place) if is_on_processors(drawn) else {}
     return {
         "task": task.name,
         "instances": len(ended),
@@ -69,6 +93,7 @@ def wanted_figures(walk, place):
         "preemptions": max(gaps, default=None),
         "start_jitter": spread([it.served[0] - it.release for it in ended]),
         "end_jitter": spread(responses),
+        **on_processors,
     }
 
 
@@ -88,16 +113,23 @@ def wanted_bounds(drawn, is_told):
     kept, _ = kept_distances(drawn)
     distances = [kept.get(it.clock) if it.clock in model.EVENTS else it.clock for it in drawn.tasks]
     is_periodic = not any(it.condition or it.clock in model.EVENTS for it in drawn.tasks)
-    is_answered = is_told and drawn.policy == "fp" and is_periodic
+    cpus = [processor_of(it) for it in drawn.tasks]
+    is_several = len({*cpus}) > 1
+    is_answered = is_told and drawn.policy == "fp" and is_periodic and not is_several
     bounds = []
     for place, distance in enumerate(distances):
-        above = [other for other in range(len(distances)) if drawn.rank(other) < drawn.rank(place)]
-        if drawn.policy == "edf" or None in [distance, *(distances[other] for other in above)]:
+        higher = [other for other in range(len(distances)) if drawn.rank(other) < drawn.rank(place)]
+        above = [other for other in higher if cpus[other] == cpus[place]]
+        waits = [at for at in [place, *above] for writer, delay, _ in drawn.tasks[at].reads
+                 if delay == 0 and cpus[writer] != cpus[place]]
+        counted = [place, *(higher if waits else above)]
+        if drawn.policy == "edf" or None in [distances[at] for at in counted]:
             bounds.append(None)
         else:
-            plain = [(distances[at], drawn.tasks[at].cost, drawn.rank(at)) for at in [place, *above]]
-            bounds.append(model.response_bound(plain, 0) or "beyond")
-    return distances, bounds, "dbp rta" if is_answered else "tools/response" if drawn.policy == "fp" else None
+            plain = [(distances[at], drawn.tasks[at].cost, drawn.rank(at)) for at in counted]
+            bounds.append(model.response_bound(plain, 0) or (None if waits else "beyond"))
+    is_own = any(bounds) if is_several else drawn.policy == "fp"
+    return distances, bounds, "dbp rta" if is_answered else "tools/response" if is_own else None
 
 
 def wanted_verdicts(walk, bounds):
@@ -179,13 +211,14 @@ def difference(found, wanted):
 
 def is_reached(drawn):
     """Whether the first instances of a drawn document reach the bounds: those of tasks with a period, all with offset 0."""
-    return drawn.rta()[0] == model.OK and None not in drawn.bounds() and not any(it.offset for it in drawn.tasks)
+    is_periodic = drawn.rta()[0] == model.OK and None not in drawn.bounds()
+    return is_periodic and not is_on_processors(drawn) and not any(it.offset for it in drawn.tasks)
 
 
 def drawn_fault(program, drawn, is_told):
     """Returns how what the tool says of a drawn document differs from what the walk gives, or nothing; with bounds that
     are told by `rta`, or not."""
-    walk, chain = model.Walk(drawn), drawn_chain(drawn)
+    walk, chain = (processors if is_on_processors(drawn) else model).Walk(drawn), drawn_chain(drawn)
     assumed = [Assumed(event, distance) for event, distance in DISTANCES.items()]
     report, verdicts = judged(program, drawn.text(), assumed, [Port(f"t{at}", "y") for at in chain])
     found = json.loads(json_text(report, verdicts))
@@ -195,15 +228,25 @@ def drawn_fault(program, drawn, is_told):
         is_number = isinstance(bound, int) and wanted["greatest"] is not None
         wanted["load"] = rounded(drawn.tasks[place].cost, distance) if distance else None
         wanted["bound"], wanted["under_bound"] = bound, bound - wanted["greatest"] if is_number else None
-        if difference(row, wanted) or list(row) != list(wanted):
+        if difference(row, wanted) or {*row} != {*wanted}:
             return f"{drawn.tasks[place].name}: {difference(row, wanted) or list(row)}"
         if is_number and bound < wanted["greatest"]:
             return f"the bound {bound} of {drawn.tasks[place].name} is below {wanted['greatest']}"
         if is_reached(drawn) and bound != wanted["greatest"]:
             return f"the bound {bound} of {drawn.tasks[place].name} isn't reached with all offsets 0"
     wanted = {"chain": wanted_chain(walk, chain) if chain else {}, "verdicts": wanted_verdicts(walk, bounds)}
+    if is_on_processors(drawn):
+        wanted["loads"] = loads_by_processor(drawn, distances)
     wanted["load"] = float(f"{-(-1000 * sum(loads_of(drawn, distances)) // 1) / 1000:.3f}")
     return difference(found, wanted) or difference(found["bounds"], {"by": by, "is_proved": by == "dbp rta"})
+
+
+def loads_by_processor(drawn, distances):
+    """Returns the sum of the loads of the tasks of each processor that has one."""
+    found = {}
+    for task, distance in zip(drawn.tasks, distances):
+        found.setdefault(str(task.cpu), []).append(Fraction(task.cost, distance) if distance else 0)
+    return {cpu: rounded(sum(loads), 1) for cpu, loads in found.items()}
 
 
 def loads_of(drawn, distances):
@@ -218,6 +261,11 @@ def seed_fault(program, seed, offsets):
     with tempfile.TemporaryDirectory() as room:
         faults.append(drawn_fault(without_rta(program, room), documents[0], False))
     return next((f"offsets {number}: {fault}" for number, fault in enumerate(faults) if fault), None)
+
+
+def processors_fault(program, seed):
+    """Returns what differs of a drawn document on processors."""
+    return drawn_fault(str(program), processors.drawn_document(seed, seed % processors.MOST_PROCESSORS + 1), True)
 
 
 def call(program, words, document=b""):
@@ -248,12 +296,12 @@ def answered_fault(program, answer, status, said):
         return status_fault(between(program, room, "rta", answer), ["examples/cascade.dbp"], status, said)
 
 
-def tampered_fault(program):
-    """Returns how the tool ends if the record isn't the one of the computed order."""
+def tampered_fault(program, command, document, said):
+    """Returns how the tool ends if the record isn't the one of the computed order: its step 33 is missing."""
     with tempfile.TemporaryDirectory() as room:
-        tampering = between(program, room, "sim --record", f"'{program}' \"$@\" | sed '33d'; exit 0")
-        said = "response: preempted.dbp: the record and the computed order differ at tick 4: step 33 is `end control`"
-        return status_fault(tampering, ["examples/preempted.dbp"], 1, said)
+        tampering = between(program, room, f"{command} --record", f"'{program}' \"$@\" | sed '33d'; exit 0")
+        said = f"response: {Path(document).name}: the record and the computed order differ at {said}"
+        return status_fault(tampering, [document], 1, said)
 
 
 def texts_of(picture, name):
@@ -335,6 +383,8 @@ EXACT = (
     ("two_ways.csv", "with rta", 0, ["--csv", ".ci/tried/response/two_ways.dbp"]),
     ("nothing.csv", "with rta", 0, ["--csv", ".ci/tried/response/nothing.dbp"]),
     ("nothing.txt", "with rta", 0, ["--chain", "a.y,b.y", ".ci/tried/response/nothing.dbp"]),
+    ("pipeline.txt", "with rta", 0, ["--chain", "camera.picture,search.line,steer.angle", "examples/cpus/pipeline.dbp"]),
+    ("pipeline.csv", "with rta", 0, ["--csv", "examples/cpus/pipeline.dbp"]),
 )
 
 # Words, the status, and what is said.
@@ -365,11 +415,18 @@ ANSWERS = {
     "ends as dbp never does": ("exit 9", 70, "status is 9"),
 }
 
+# The command whose record lacks its step 33, the document, and what is said.
+TAMPERED = (
+    ("sim", "examples/preempted.dbp", "tick 4: step 33 is `end control`"),
+    ("cpus", "examples/cpus/pipeline.dbp", "tick 6: step 33 is `put search line`"),
+)
+
 # A document and a task, the number of the instance with the greatest response time, and the ticks that are drawn.
 WORST = (
     (".ci/tried/response/alarm.dbp", "control", 2, (6, 21)),
     (".ci/tried/response/two_ways.dbp", "level", 1, (0, 4)),
     ("examples/speed_control.dbp", "control", 5, (75, 93)),
+    ("examples/cpus/pipeline.dbp", "steer", 1, (0, 11)),
 )
 
 HISTOGRAMS = (
@@ -378,6 +435,7 @@ HISTOGRAMS = (
     (".ci/tried/response/late_at_the_overrun.dbp", "log"),
     ("examples/speed_control.dbp", "control"),
     ("examples/speed_control.dbp", "filter"),
+    ("examples/cpus/pipeline.dbp", "camera"),
 )
 
 # Documents with as many occurrences as a document may have.
@@ -397,7 +455,10 @@ def trials(program):
         yield f"status of {' '.join(words)}", partial(status_fault, program, words, *wanted)
     for name, wanted in ANSWERS.items():
         yield f"`rta` {name}", partial(answered_fault, program, *wanted)
-    yield "a record that differs", partial(tampered_fault, program)
+    for command, *wanted in TAMPERED:
+        yield f"a record of `{command}` that differs", partial(tampered_fault, program, command, *wanted)
+    for seed in ON_PROCESSORS:
+        yield f"document {seed} on processors", partial(processors_fault, program, seed)
     for document, task, *wanted in WORST:
         yield f"--worst {task} of {document}", partial(worst_fault, program, document, task, *wanted)
     for document, task in HISTOGRAMS:

@@ -1,5 +1,6 @@
 """`upgrade` of each document of the repository: `form` and `upgrade` leave what it writes as it is, and every other command
-prints the same for both documents, but for the line of a refusal. What `form` refuses `upgrade` refuses with its line."""
+prints the same for both documents, but for the line of a refusal; `need` and `rank` write the upgraded text. What
+`form` refuses `upgrade` refuses with its line."""
 
 import re
 import subprocess
@@ -9,11 +10,14 @@ from pathlib import Path
 TOP = Path(__file__).resolve().parents[2]
 FOLDERS = ("examples", "cases", "docs", ".ci")
 LINE = re.compile(rb"refused: line [0-9]+: ")
+TASK = re.compile(rb"^[ \t]*task[ \t]+([A-Za-z_]\w{,23})\b", re.MULTILINE)
 
 OTHERS = (
     ["mean"],
     ["sim"],
     ["sim", "--record"],
+    ["cpus"],
+    ["cpus", "--record"],
     ["run", "--turns", "1"],
     ["plan"],
     ["rta"],
@@ -51,6 +55,17 @@ def difference_of(program, text, upgraded):
     return None
 
 
+def difference_of_documents(program, text, upgraded):
+    """Returns how `need` of a task, or `rank`, writes another document than the upgraded one after `upgrade`, or nothing."""
+    task = TASK.search(text)
+    for words in (["need", task[1].decode() if task else "none"], ["rank"]):
+        old, new = answer_but_line(program, words, text), answer_but_line(program, words, upgraded)
+        wanted = old if old[0] else answer(program, ["upgrade"], old[1])
+        if new != wanted:
+            return f"`{' '.join(words)}` gives {new}, and {wanted} is wanted"
+    return None
+
+
 def fault_of(program, text):
     """Returns what is wrong with the upgrade of a document, or nothing."""
     form, (status, upgraded) = answer(program, ["form"], text), answer(program, ["upgrade"], text)
@@ -58,7 +73,11 @@ def fault_of(program, text):
         return None if form == (status, upgraded) else f"`form` gives {form}, and `upgrade` {upgraded!r} with {status}"
     if form[0] or not upgraded.startswith(b"dbp 2\n"):
         return f"`form` ends with {form[0]}, and `upgrade` writes {upgraded[:80]!r}"
-    return change_of(program, upgraded) or difference_of(program, text, upgraded)
+    return (
+        change_of(program, upgraded)
+        or difference_of(program, text, upgraded)
+        or difference_of_documents(program, text, upgraded)
+    )
 
 
 def fault_of_folder(program, folder):

@@ -31,6 +31,7 @@ FOLDERS = (
     "cases/mean/documents",
     "cases/mean/conditions",
     "cases/sim/documents",
+    "cases/cpus/documents",
     "cases/run/documents",
     ".ci/tried/waves",
 )
@@ -46,6 +47,8 @@ WRITTEN = (
     (["--tick", "1s"], "examples/heater.dbp", "heater.vcd"),
     (["--format", "csv", "--wide"], "examples/heater.dbp", "heater.csv"),
     (["--command", "sim", "--format", "csv", "--task", "stay_warm"], "examples/heater.dbp", "stay_warm.csv"),
+    (["--command", "cpus"], "examples/cpus/pipeline.dbp", "pipeline.vcd"),
+    (["--command", "cpus", "--format", "csv", "--wide"], "examples/cpus/pipeline.dbp", "pipeline.csv"),
     ([], ".ci/tried/waves/edges.dbp", "edges.vcd"),
     (["--format", "csv", "--wide"], ".ci/tried/waves/edges.dbp", "edges.csv"),
     ([], ".ci/tried/waves/nothing.dbp", "nothing.vcd"),
@@ -56,6 +59,8 @@ WRITTEN = (
 # Calls that write nothing: their words, their status, and what stands on standard error.
 ENDED = (
     (["--command", "sim", "examples/sim/late.dbp"], 3, "overrun: log 2 at 8\n"),
+    (["--command", "cpus", "examples/cpus/one_processor.dbp"], 3, "overrun: steer 2 at 8\n"),
+    (["--command", "plan", "examples/two_rates.dbp"], 2, "usage: waves "),
     (["examples/refused/18_undelayed_upward.dbp"], 1, "refused: line 7: 18 UndelayedUpward\n"),
     (["examples/none.dbp"], 4, "waves: examples/none.dbp: No such file or directory\n"),
     (["-o", "examples/none/a.vcd", "examples/two_rates.dbp"], 5, "waves: examples/none/a.vcd: No such file"),

@@ -1,5 +1,9 @@
 """The parts of tools/check.
 
+.ci/tried/check.py compares its first fault with the program's on all cases; .ci/tried/check/ has a document for each kind of
+message. A new line form goes into language.py and statements.py, a new refusal into CODE_NAMES of messages.py and into the
+module of its pass.
+
 A document is read here a second time, to find the place of each fault and to say what stands there. The program
 alone decides: its line and code are printed first, and what is found here before its refusal is dropped.
 

@@ -42,14 +42,13 @@ class Cursor:
 
     def says(self, *texts):
         """Whether the next token is one of these words and symbols."""
-        here = self.here
-        return here is not None and here.says(*texts)
+        return self.at < len(self.tokens) and self.tokens[self.at].says(*texts)
 
     def takes(self, *texts):
         """Takes one of these words and symbols, if it comes next."""
-        if self.says(*texts):
+        if self.at < len(self.tokens) and self.tokens[self.at].says(*texts):
             self.at += 1
-            return self.last
+            return self.tokens[self.at - 1]
         return None
 
     def word(self, *texts):

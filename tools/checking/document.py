@@ -3,6 +3,7 @@
 from __future__ import annotations
 
 from dataclasses import dataclass, field
+from typing import NamedTuple
 
 from checking.language import VERSIONS
 from checking.statements import Statement
@@ -38,8 +39,7 @@ class Task:
         return first_of_each(self.lines(*words))
 
 
-@dataclass(frozen=True)
-class Step:
+class Step(NamedTuple):
     """A line of the script that has tokens."""
 
     line: int
@@ -55,7 +55,8 @@ class Step:
 class Document:
     """What the lines say.
 
-    `version` is the latest one until the header is read, so that a fault of the header leads to no others. `doubtful` has
+    `version` is the latest one until the header is read, so that a fault of the header leads to no others. `sections` has
+    the lines after which a section begins, each with its number in `places.Section`. `doubtful` has
     the names in lines with faults, of which nothing is known; `hides_names` says whether such a line hides the name of an
     input, an event or a task, `is_header_bad` whether the trace's header has a byte that isn't allowed.
     """
@@ -72,6 +73,7 @@ class Document:
     script_at: int | None = None
     steps: list[Step] = field(default_factory=list)
     done_at: int | None = None
+    sections: list[tuple[int, int]] = field(default_factory=list)
     doubtful: set[str] = field(default_factory=set)
     hides_names: bool = False
 

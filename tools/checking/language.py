@@ -1,4 +1,8 @@
-"""The words, the forms of lines and the limits of the language, as docs/LANGUAGE.md has them."""
+"""The words, the forms of lines and the limits of the language, as docs/LANGUAGE.md has them.
+
+A new reserved word is also added in editors/vim/syntax/dbp.vim and in editors/vscode/dbp.tmLanguage.json; the gate compares
+both with the list in the docs.
+"""
 
 from dataclasses import dataclass
 
@@ -27,6 +31,10 @@ class Span:
 
     least: int
     greatest: int
+
+    def has(self, value):
+        """Whether a number is neither less nor greater."""
+        return self.least <= value <= self.greatest
 
 
 TIME = Span(0, 1_000_000_000)

@@ -1,11 +1,12 @@
 """Faults of a line by itself, before its form is asked: bytes, tokens, nodes and parentheses."""
 
 import re
+from functools import lru_cache
 
 from checking.foreign import about_no_token
 from checking.language import FORMS, GREATEST_VALUE, LEAST_VALUE, MOST_DEPTH, MOST_NAME, MOST_NODES
 from checking.messages import error, error_at
-from checking.tokens import Kind
+from checking.tokens import MOST_KEPT, Kind, tokens_of
 
 OUTSIDE = re.compile(rb"[^\x20-\x7e\t]")
 OUTSIDE_TRACE = re.compile(rb"[^A-Za-z0-9_\-, \t]")
@@ -20,6 +21,7 @@ TRACE_SIGNS = {
     "'": "there are no quotes",
     "/": "a trace has no comments",
 }
+LEAST_LONG = 19  # characters: no shorter token is too wide or too long
 WITHOUT_NODE = ("(", ")", ",", "then", "else")
 
 
@@ -77,8 +79,21 @@ def character_at(text, at):
     return None
 
 
+@lru_cache(MOST_KEPT)
+def is_sound(text):
+    """Whether a line outside of the trace has neither a fault of its bytes nor one of its tokens."""
+    return OUTSIDE.search(text) is None and not has_odd(tokens_of(text))
+
+
+def has_odd(tokens):
+    """Whether a token may be a fault by itself."""
+    return any(len(it.text) >= LEAST_LONG or it.kind is Kind.BAD for it in tokens)
+
+
 def token_fault(line, tokens):
     """Returns the message of the first part that makes no token, is too wide or too long, or nothing."""
+    if not has_odd(tokens):
+        return None
     for token in tokens:
         if token.kind is Kind.BAD:
             return error_at(token, line.number, 2, about_no_token(token.text))

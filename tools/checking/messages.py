@@ -16,11 +16,12 @@ class Severity(Enum):
 
 @dataclass(frozen=True)
 class Note:
-    """A further place, and what stands there."""
+    """A further place, and what stands there; in the file of the message unless it names another one."""
 
     line: int
     column: int
     text: str
+    file: str | None = None
 
 
 @dataclass(frozen=True)

@@ -1,6 +1,9 @@
 """Which declared name a wrong one may be meant for."""
 
+from functools import lru_cache
+
 MOST_LISTED = 8
+MOST_KEPT = 1 << 14  # answers: a wrong word often stands in many lines
 LEAST_PART = 3  # letters of a name that may stand for a longer one
 
 
@@ -35,7 +38,13 @@ def is_near(one, other):
 
 def by_nearness(wrong, names):
     """Returns names, the nearest to a wrong one first; of those that are as near, in their order."""
-    return sorted(dict.fromkeys(names), key=lambda it: (not is_near(wrong, it), distance(wrong, it)))
+    return [*sorted_names(wrong, tuple(dict.fromkeys(names)))]
+
+
+@lru_cache(MOST_KEPT)
+def sorted_names(wrong, names):
+    """Returns names in the order of `by_nearness`."""
+    return sorted(names, key=lambda it: (not is_near(wrong, it), distance(wrong, it)))
 
 
 def nearest(wrong, names):

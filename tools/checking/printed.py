@@ -37,7 +37,7 @@ def plain(file, lines, messages):
         code = f"{it.code} " if it.code is not None else ""
         parts.append(f"{file}:{it.line}:{it.column}: {it.severity.value}: {code}{it.name}: {it.text}\n")
         parts.append(source_of(lines, it))
-        parts += [f"{file}:{note.line}:{note.column}: note: {note.text}\n" for note in it.notes]
+        parts += [f"{note.file or file}:{note.line}:{note.column}: note: {note.text}\n" for note in it.notes]
     return "".join(parts)
 
 
@@ -58,7 +58,16 @@ def objects(file, messages):
     ]
 
 
-def as_json(found):
-    """Returns a list of objects as a text, one object a line. A byte of a file's name that is no UTF-8 is an escape."""
-    text = "[" + ",".join("\n" + json.dumps(it, ensure_ascii=False) for it in found) + "\n]\n"
+def as_written(text):
+    """Returns a text of JSON as it is written: a byte of a file's name that is no UTF-8 is an escape."""
     return text.encode("utf-8", "backslashreplace").decode()
+
+
+def as_json(found):
+    """Returns a list of objects as a text, one object a line."""
+    return as_written("[" + ",".join("\n" + json.dumps(it, ensure_ascii=False) for it in found) + "\n]\n")
+
+
+def json_text(files):
+    """Returns the messages of files as one list."""
+    return as_json([found for it in files for found in objects(it.file, it.messages)])

@@ -3,6 +3,7 @@
 from checking.messages import Note, error_at
 
 CODES = {"fp": (14, "prio"), "edf": (15, "deadline")}
+BY_LINKS = "`dbp rank` writes the document with priorities by its links"
 
 
 def rank_faults(document):
@@ -24,7 +25,7 @@ def missing_number(document, task):
     if other in task.head.numbers:
         text += f"; its `{other}` ranks under the other policy alone"
     cost = next(token for token in task.head.tokens if token.says("cost"))
-    return error_at(cost, task.head.line, code, f"{text}; `{word} N` stands before `{before(task, word)}`")
+    return error_at(cost, task.head.line, code, f"{text}; `{word} N` stands before `{before(task, word)}`; {BY_LINKS}")
 
 
 def before(task, word):
@@ -58,7 +59,7 @@ def upward_read(document, task, read):
     numbers = f"{word} {task.head.number(word)}", f"{word} {writer.head.number(word)}"
     why = "which is declared later" if numbers[0] == numbers[1] else f"which has `{numbers[1]}`"
     text = f"the task `{task.name}` with `{numbers[0]}` is ranked above `{writer.name}`, {why}, and reads it without a "
-    text += f"delay: `pre {read.source.text}.{read.port.text}` reads the occurrence before"
+    text += f"delay: `pre {read.source.text}.{read.port.text}` reads the occurrence before; {BY_LINKS}"
     notes = [Note(it.head.line, it.head.name.column, rank_note(document, it)) for it in (task, writer)]
     return error_at(read.source, read.line, 18, text, *notes)
 

@@ -5,6 +5,7 @@ After a fault the reading goes on, so that later faults are found too; what a li
 
 import re
 from dataclasses import replace
+from functools import lru_cache
 
 from checking.cursor import LeavesForm, cursor_of
 from checking.document import Document, Step, Task
@@ -16,6 +17,7 @@ from checking.line_faults import (
     about_row,
     byte_fault,
     depth_fault,
+    is_sound,
     node_fault,
     token_fault,
 )
@@ -23,7 +25,7 @@ from checking.messages import Note, error, error_at
 from checking.places import AFTER, ENDS, Section, count_fault, is_row, is_step, may_go_on, number_fault, place_fault
 from checking.statements import FORM_OF, Statement
 from checking.text import Line, lines_of, times
-from checking.tokens import Kind, Token, code_of, tokens_of
+from checking.tokens import MOST_KEPT, Kind, Token, code_of, tokens_of
 
 WORDS = re.compile(r"[A-Za-z_][A-Za-z0-9_]*")
 FOREIGN_COMMENTS = ("//", "/*", "--", ";", "%")
@@ -49,6 +51,8 @@ class Reader:
             return self.document, [byte_fault(self.document.lines[0])]
         has_tokens = False
         for line in self.lines_after_mark():
+            if line.is_blank:
+                continue
             has_tokens = has_tokens or bool(code_of(line.text).strip(" \t"))
             if self.section is Section.TRACE:
                 self.take_row(line)
@@ -56,6 +60,7 @@ class Reader:
                 self.take_step(line)
             else:
                 self.take_line(line)
+            self.note_section(line)
         if not has_tokens:
             in_first = [fault for fault in self.faults if fault.line == 1]
             text = f"the text has no line with tokens; it must begin with `{FORMS['dbp']}`"
@@ -64,6 +69,12 @@ class Reader:
             self.faults.append(self.missing_done())
         self.note_signs()
         return self.document, self.faults
+
+    def note_section(self, line):
+        """Keeps the section of the lines after this one, if another begins here."""
+        found = self.document.sections
+        if self.section is not (found[-1][1] if found else Section.HEADER):
+            found.append((line.number, self.section))
 
     def is_utf_16(self):
         """Whether the document begins as UTF-16, in which no line has the bytes that it is meant to have."""
@@ -121,26 +132,28 @@ class Reader:
 
     def take_step(self, line):
         """Reads a line of the script section."""
+        if is_sound(line.text) and is_any_step(tokens_of(line.text)):
+            self.document.steps.append(Step(line.number, tokens_of(line.text)))
+            self.stray = None
+            return
         fault = byte_fault(line)
-        tokens = [] if fault else tokens_of(line.text)
+        tokens = () if fault else tokens_of(line.text)
         fault = fault or token_fault(line, tokens)
         if [it.text for it in tokens] == ["done"] or (fault and code_of(line.text).strip() == "done"):
             self.begin("done", line)
-        elif tokens and fault is None:
-            self.document.steps.append(Step(line.number, tuple(tokens)))
         self.keep(fault, line)
 
     def take_line(self, line):
         """Reads a line of the diagram, or one after `done`."""
         fault = byte_fault(line)
-        tokens = tokens_of(line.text) if fault is None else []
+        tokens = tokens_of(line.text) if fault is None else ()
         fault = fault or token_fault(line, tokens)
         if fault is None and not tokens:
             return
         if self.open_line == line.number - 1 and goes_on(tokens):
             self.open_line = line.number
             return
-        statement = Statement(line.number, tokens[0], tokens=tuple(tokens)) if tokens else None
+        statement = Statement(line.number, tokens[0], tokens=tokens) if tokens else None
         if tokens and tokens[-1].text == "\\":
             self.open_line = line.number
         fault = fault or self.fault_of(line, tokens, statement)
@@ -149,18 +162,17 @@ class Reader:
 
     def take_form(self, statement):
         """Fills a statement from its tokens, and returns where they leave its form, or nothing."""
-        if statement.head.kind is not Kind.WORD or statement.word not in FORMS:
-            return None
-        try:
-            FORM_OF[statement.word](cursor_of(statement.tokens, self.document.version), statement)
-        except LeavesForm as leaves:
-            return leaves
-        return None
+        return formed(statement, self.document.version)
 
     def fault_of(self, line, tokens, statement):
         """Fills a statement, and returns the message of its first fault after those of its tokens, or nothing."""
-        size_fault = node_fault(line, tokens) or depth_fault(line, tokens)
-        form_fault = None if size_fault else self.take_form(statement)
+        size_fault = form_fault = None
+        kept = statement_of(line.text, self.document.version) if is_sound(line.text) else None
+        if kept is not None:
+            vars(statement).update({**vars(kept), "line": line.number})
+        else:
+            size_fault = node_fault(line, tokens) or depth_fault(line, tokens)
+            form_fault = None if size_fault else self.take_form(statement)
         if self.section is Section.HEADER and (statement.word != "dbp" or form_fault or size_fault):
             more = "; there are no other versions" if statement.word == "dbp" else ""
             text = f"the first line with tokens must be `{FORMS['dbp']}`{more}"
@@ -274,6 +286,31 @@ class Reader:
         if is_row(tokens):
             return Section.TRACE
         return Section.SCRIPT if is_step(tokens) else None
+
+
+def formed(statement, version):
+    """Fills a statement from its tokens, and returns where they leave its form in this version, or nothing."""
+    if statement.head.kind is not Kind.WORD or statement.word not in FORMS:
+        return None
+    try:
+        FORM_OF[statement.word](cursor_of(statement.tokens, version), statement)
+    except LeavesForm as leaves:
+        return leaves
+    return None
+
+
+@lru_cache(MOST_KEPT)
+def statement_of(text, version):
+    """Returns the statement of a line that has its form, and nothing of it that is too large; of others nothing."""
+    line, tokens = Line(0, text), tokens_of(text)
+    statement = Statement(0, tokens[0], tokens=tokens)
+    is_whole = not (node_fault(line, tokens) or depth_fault(line, tokens) or formed(statement, version))
+    return statement if is_whole else None
+
+
+def is_any_step(tokens):
+    """Whether the tokens of a line of the script are a step, and not the end."""
+    return len(tokens) > 1 or len(tokens) == 1 and tokens[0].text != "done"
 
 
 def goes_on(tokens):

@@ -9,7 +9,7 @@ from checking.copies import Column, columns_of_copy, copy_of
 from checking.language import GREATEST_VALUE, LEAST_VALUE
 from checking.messages import warning
 from checking.occurrences import Times, count_of_occurrences
-from checking.timing import is_surely_in_time, overrun_warnings
+from checking.timing import is_surely_in_time, overrun_warnings, simulating
 from checking.tokens import Kind
 from checking.trees import expression_of, tree_of
 from ending import Status
@@ -29,7 +29,7 @@ def table_warnings(run, text, document, responses):
     asked = asked_columns(document)
     columns, left = columns_of_copy(document, asked, keeps_all=True)
     copy = copy_of(document, columns)
-    command = ["mean"] if is_surely_in_time(document, responses) else ["sim"]
+    command = ["mean"] if is_surely_in_time(document, responses) else [simulating(document).value]
     table = run(command, copy)
     if table.status not in (Status.DONE, Status.OVERRUN):  # the copy may be too large
         columns, left = columns_of_copy(document, [], keeps_all=True)

@@ -1,12 +1,11 @@
 """A document as its lines, and lists of names in messages."""
 
-from dataclasses import dataclass
+from typing import NamedTuple
 
 from checking.nearest import MOST_LISTED, by_nearness, is_near
 
 
-@dataclass(frozen=True)
-class Line:
+class Line(NamedTuple):
     """A line without its end; lines are counted from 1."""
 
     number: int

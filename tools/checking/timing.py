@@ -2,6 +2,7 @@
 that ends after its deadline.
 
 The program simulates a document, unless response times, or periods and costs alone, show that no release can come too early.
+Where a task has another processor than 0, `cpus` simulates it.
 """
 
 import re
@@ -13,7 +14,7 @@ from checking.ranks import ranks_of
 from ending import Status
 from pictures.asking import cut_text
 from pictures.record import Disagreement, must_record
-from pictures.service import serve
+from pictures.service import Command, serve
 from responses.bounds import BEYOND, Demand, least_response, told_bounds
 from responses.lateness import first_late, least_distance
 
@@ -21,10 +22,15 @@ NEVER = 10**20  # the period of a task that occurs once, or not at all
 OVERRUN_LINE = re.compile(rb"overrun: (\w+) ([0-9]+) at ([0-9]+)\n")
 
 
+def simulating(document):
+    """Returns the command that serves each task on its own processor."""
+    return Command.CPUS if any(task.head.number("cpu", 0) for task in document.tasks) else Command.SIM
+
+
 def responses_by_program(run, text, document):
     """Returns the bound on the response times of each task by `dbp rta`; nothing if it has no answer, or if a task is on
     another processor than 0."""
-    if any(task.head.number("cpu", 0) for task in document.tasks):
+    if simulating(document) is Command.CPUS:
         return None
     ran = run(["rta"], text)
     return told_bounds(document, ran.stdout) if ran.status == Status.DONE else None
@@ -57,7 +63,10 @@ def is_surely_in_time(document, responses):
 
 
 def is_in_time_by_sums(document):
-    """Whether that is so by periods, costs and deadlines alone, where the program has no response times."""
+    """Whether that is so by periods, costs and deadlines alone, where the program has no response times.
+
+    What is in time on one processor is so on several: of all that wait the first is served there, too.
+    """
     tasks, events = ranks_of(document), times_of_events(document)
     demands = [Demand(task.head.number("cost"), least_period(task, events)) for task in tasks]
     lengths = [min(it.distance, task.head.number("deadline", it.distance)) for task, it in zip(tasks, demands)]
@@ -76,13 +85,13 @@ def least_period(task, events):
 
 
 def overrun_warnings(document, ran):
-    """Yields a warning of the overrun that a run of `dbp sim` tells."""
+    """Yields a warning of the overrun that a run of `dbp sim` or `dbp cpus` tells."""
     found = OVERRUN_LINE.fullmatch(ran.stdout) if ran.status == Status.OVERRUN else None
     if found:
         name, number, time = found[1].decode(), int(found[2]), int(found[3])
         head = document.named_tasks[name].head
         text = f"instance {number} of the task `{name}` is released at tick {time}, and instance {number - 1} isn't done: "
-        text += "`dbp sim` ends there"
+        text += f"`dbp {simulating(document).value}` ends there"
         yield warning(head.line, head.name, "Overrun", text)
 
 
@@ -93,9 +102,9 @@ def late_warnings(run, text, document, responses):
         return
     form = run(["form"], text)
     canonical = read_document(form.stdout)
-    service = serve(canonical)
+    service = serve(canonical, simulating(document))
     late = first_late(canonical, service)
-    if late and is_recorded(run, cut_text(form.stdout, canonical, late.end or service.overrun.time)):
+    if late and is_recorded(run, service.command, cut_text(form.stdout, canonical, late.end or service.overrun.time)):
         head = document.tasks[late.instance.task].head
         what = f"instance {late.instance.number} of the task `{head.name.text}`, released at tick {late.instance.release},"
         ends = f"ends at {late.end}, and its deadline is" if late.end else "isn't done at its deadline"
@@ -103,11 +112,11 @@ def late_warnings(run, text, document, responses):
         yield warning(head.line, head.numbers["deadline"], "Late", f"{what} {ends} {late.deadline}", note)
 
 
-def is_recorded(run, cut):
+def is_recorded(run, command, cut):
     """Whether the program's record of a text that is cut at an end is what the computed order gives."""
     document = read_document(cut)
     try:
-        must_record(document, serve(document), run(["sim", "--record"], cut).stdout.decode())
+        must_record(document, serve(document, command), run(command.record_words, cut).stdout.decode())
     except Disagreement:
         return False
     return True

@@ -1,17 +1,19 @@
 """The tokens of a line, each with its place."""
 
 import re
-from dataclasses import dataclass
 from enum import Enum
+from functools import lru_cache
+from typing import NamedTuple
 
 from checking.language import GREATEST_VALUE, LEAST_VALUE, RESERVED
 
-NAME = re.compile(r"[A-Za-z_][A-Za-z0-9_]*")
-NUMBER = re.compile(r"-?[0-9]+")
-SYMBOL = re.compile(r"==|!=|<=|>=|[=<>+\-*/%(),.]")
+NAME = r"[A-Za-z_][A-Za-z0-9_]*"
+SYMBOL = r"==|!=|<=|>=|[=<>+\-*/%(),.]"
 # What makes no token is taken as a whole, so that it is shown as a whole.
-OTHER = re.compile(r"&&?|\|\|?|:=|[^\sA-Za-z0-9_]")
+OTHER = r"&&?|\|\|?|:=|."
+PART = re.compile(rf"[ \t]*(?:({NAME})|(-?[0-9]+)({NAME})?|({SYMBOL})|({OTHER}))", re.DOTALL)
 MOST_DIGITS = 19
+MOST_KEPT = 1 << 15  # lines whose tokens are kept: a script has few different ones, and most stay when one is changed
 
 
 class Kind(Enum):
@@ -24,8 +26,7 @@ class Kind(Enum):
     BAD = "bad"
 
 
-@dataclass(frozen=True)
-class Token:
+class Token(NamedTuple):
     """A token and its column; columns count bytes from 1."""
 
     kind: Kind
@@ -58,7 +59,7 @@ class Token:
 
     def says(self, *texts):
         """Whether it is a reserved word or a symbol with one of these texts."""
-        return self.kind in (Kind.WORD, Kind.SYMBOL) and self.text in texts
+        return self.text in texts and self.kind in (Kind.WORD, Kind.SYMBOL)
 
 
 def spelled(tokens):
@@ -74,35 +75,29 @@ def code_of(text):
     return text.split(b"#", 1)[0].decode("latin-1")
 
 
+@lru_cache(MOST_KEPT)
 def tokens_of(text):
     """Returns the tokens of a line's bytes."""
-    code, tokens, at = code_of(text), [], 0
+    code, tokens, at = code_of(text).rstrip(" \t"), [], 0
     while at < len(code):
-        if code[at] in " \t":
-            at += 1
-            continue
-        token = token_at(code, at, tokens[-1] if tokens else None)
-        tokens.append(token)
-        at += token.width
-    return tokens
+        found = PART.match(code, at)
+        tokens.append(token_of(found, tokens[-1] if tokens else None))
+        at = tokens[-1].end - 1
+    return tuple(tokens)
 
 
-def token_at(code, at, before):
-    """Returns the token at a place; a sign belongs to a number unless the token before it is an operand's end."""
-    number = NUMBER.match(code, at)
-    if number and not (code[at] == "-" and ends_operand(before)):
-        letters = NAME.match(code, number.end())
-        if letters:
-            return Token(Kind.BAD, code[at : letters.end()], at + 1)
-        return Token(Kind.NUMBER, number[0], at + 1)
-    name = NAME.match(code, at)
+def token_of(found, before):
+    """Returns the token of a part of a line; a sign belongs to a number unless the token before it is an operand's end."""
+    name, number, letters, symbol, other = found.groups()
     if name:
-        return Token(Kind.WORD if name[0] in RESERVED else Kind.NAME, name[0], at + 1)
-    symbol = SYMBOL.match(code, at)
+        return Token(Kind.WORD if name in RESERVED else Kind.NAME, name, found.start(1) + 1)
+    if number and number[0] == "-" and ends_operand(before):
+        return Token(Kind.SYMBOL, "-", found.start(2) + 1)
+    if number:
+        return Token(Kind.BAD if letters else Kind.NUMBER, number + (letters or ""), found.start(2) + 1)
     if symbol:
-        return Token(Kind.SYMBOL, symbol[0], at + 1)
-    other = OTHER.match(code, at)
-    return Token(Kind.BAD, other[0] if other else code[at], at + 1)
+        return Token(Kind.SYMBOL, symbol, found.start(4) + 1)
+    return Token(Kind.BAD, other, found.start(5) + 1)
 
 
 def ends_operand(token):

@@ -7,8 +7,9 @@ from checking.formulas import formula_warnings
 from checking.messages import Note, Severity, warning, warning_over
 from checking.ranks import CODES, key_of
 from checking.tabled import table_warnings
-from checking.timing import late_warnings, response_warnings, responses_by_program
+from checking.timing import late_warnings, response_warnings, responses_by_program, simulating
 from checking.trace import row_of
+from pictures.service import Command
 from program import read_as_answer
 from responses.numbers import decimal
 
@@ -151,17 +152,25 @@ def long_costs(document):
 
 
 def load(document):
-    """Yields a warning of the task with which the load of the tasks with a period goes above 1.
+    """Yields a warning of each task with which the load of the tasks with a period goes above 1, processor by processor.
 
     Tasks with a `when` aren't counted: they may be on in turn, or seldom.
     """
     periodic = [task for task in document.tasks if task.head.source is None and task.head.condition is None]
+    processors = sorted({task.head.number("cpu", 0) for task in periodic})
+    are_some = any(task.head.condition is not None for task in document.tasks)
+    which = "a period and no `when`" if are_some else "a period"
+    for cpu in processors:
+        place = f" on processor {cpu}" if simulating(document) is Command.CPUS else ""
+        yield from overload([task for task in periodic if task.head.number("cpu", 0) == cpu], f"{which}{place}")
+
+
+def overload(periodic, which):
+    """Yields the warning of the tasks of one processor, if there is one."""
     shares = [Fraction(task.head.number("cost"), task.head.number("every")) for task in periodic]
     above = [task for task, total in zip(periodic, accumulate(shares)) if total > 1]
     if above:
         parts = ", ".join(f"{task.name} {share}" for task, share in zip(periodic, shares))
-        are_some = any(task.head.condition is not None for task in document.tasks)
-        which = "a period and no `when`" if are_some else "a period"
         text = f"the load of the tasks with {which} is {decimal(sum(shares))}, and one processor has 1: {parts}"
         yield warning(above[0].head.line, above[0].head.name, "Overload", text)
 

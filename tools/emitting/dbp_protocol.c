@@ -2,7 +2,8 @@
 
 #include "dbp_protocol.h"
 
-#define ORDER_SHIFT 32
+#define HALF 32 /* bits: of an order the low half is its slot, and the high one its number */
+#define WORDS_OF_TASK (2 + DBP_WORDS_OF_VALUE) /* its gate, its ended number and its aim */
 #define MOST_SLOTS 192 /* of a task, rounded up: a slot for each link, one more, and the longest delay */
 
 /* The shared words. Each access to one is a call of these two functions. */
@@ -14,52 +15,68 @@ static uint64_t load(const dbp_system *it, uint32_t address)
 
 static void store(const dbp_system *it, uint32_t address, uint64_t value)
 {
-    atomic_store_explicit(&it->words[address], value, memory_order_seq_cst);
+    atomic_store_explicit(&it->words[address], (dbp_plain_word)value, memory_order_seq_cst);
+}
+
+/* An order or a value: nobody stores its second half while another party may load the first one. */
+
+static uint64_t load_whole(const dbp_system *it, uint32_t address)
+{
+    const uint64_t low = load(it, address);
+    return DBP_WORDS_OF_VALUE == 1 ? low : low | load(it, address + 1) << HALF;
+}
+
+static void store_whole(const dbp_system *it, uint32_t address, uint64_t value)
+{
+    store(it, address, value);
+    if (DBP_WORDS_OF_VALUE == 2) {
+        store(it, address + 1, value >> HALF);
+    }
 }
 
 /* The addresses of the shared words. Word 0 is none of them. */
 
 static uint32_t gate_of(uint32_t task)
 {
-    return 1 + 3 * task;
+    return 1 + WORDS_OF_TASK * task;
 }
 
 static uint32_t ended_of(uint32_t task)
 {
-    return 2 + 3 * task;
+    return 2 + WORDS_OF_TASK * task;
 }
 
 static uint32_t aim_of(uint32_t task)
 {
-    return 3 + 3 * task;
+    return 3 + WORDS_OF_TASK * task;
 }
 
 static uint32_t claim_of(const dbp_system *it, uint32_t link)
 {
-    return 1 + 3 * (uint32_t)it->diagram->task_count + link;
+    return 1 + WORDS_OF_TASK * it->diagram->task_count + DBP_WORDS_OF_VALUE * link;
 }
 
 static uint32_t stamp_of(const dbp_system *it, uint32_t task, uint32_t slot)
 {
     const dbp_task *own = &it->diagram->tasks[task];
-    return own->first_slot + slot * (1 + (uint32_t)own->ports);
+    return own->first_slot + slot * (1 + DBP_WORDS_OF_VALUE * own->ports);
 }
 
 static uint32_t word_of(const dbp_system *it, uint32_t task, uint32_t slot, uint32_t port)
 {
-    return stamp_of(it, task, slot) + 1 + port;
+    return stamp_of(it, task, slot) + 1 + DBP_WORDS_OF_VALUE * port;
 }
 
 /* What the words hold. */
 
 static uint64_t word_of_order(dbp_order order)
 {
-    return order.slot + ((uint64_t)order.number << ORDER_SHIFT);
+    return order.slot + ((uint64_t)order.number << HALF);
 }
 
 static dbp_order order_of_word(uint64_t word)
 {
-    const dbp_order order = {(uint32_t)(word & UINT32_MAX), (uint32_t)(word >> ORDER_SHIFT)};
+    const dbp_order order = {(uint32_t)(word & UINT32_MAX), (uint32_t)(word >> HALF)};
     return order;
 }
 
@@ -83,7 +100,7 @@ static void fill_first_slot(const dbp_system *it, uint32_t task)
     const dbp_task *own = &it->diagram->tasks[task];
     store(it, stamp_of(it, task, 0), 1);
     for (uint32_t port = 0; port < own->ports; port++) {
-        store(it, word_of(it, task, 0, port), (uint64_t)own->first[port]);
+        store_whole(it, word_of(it, task, 0, port), (uint64_t)own->first[port]);
     }
 }
 
@@ -142,7 +159,7 @@ dbp_step dbp_aim(const dbp_system *it, uint32_t task, uint32_t slot)
     move_slots(entry, it->diagram->tasks[task].kept, slot);
     const dbp_order order = {slot, entry->aimed};
     const dbp_step step = step_of(DBP_AIM, task, slot, word_of_order(order));
-    store(it, aim_of(task), step.word);
+    store_whole(it, aim_of(task), step.word);
     return step;
 }
 
@@ -155,7 +172,7 @@ dbp_step dbp_claim(const dbp_system *it, uint32_t link)
     const dbp_order order = {slot, writer->aimed > ends.delay ? writer->aimed - ends.delay : 0};
     const dbp_step step = step_of(DBP_CLAIM, ends.reader, link, word_of_order(order));
     it->releaser->claims[link] = claim;
-    store(it, claim_of(it, link), step.word);
+    store_whole(it, claim_of(it, link), step.word);
     return step;
 }
 
@@ -407,7 +424,7 @@ dbp_step dbp_hear(const dbp_system *it, uint32_t task)
     dbp_part *part = &it->parts[task];
     const dbp_task *own = &it->diagram->tasks[task];
     const uint32_t address = part->at == 0 ? aim_of(task) : claim_of(it, own->links[part->at - 1]);
-    const dbp_step step = step_of(DBP_HEAR, task, 0, load(it, address));
+    const dbp_step step = step_of(DBP_HEAR, task, 0, load_whole(it, address));
     part->heard[part->at] = order_of_word(step.word);
     move_to(part, DBP_AT_HEAR, part->at + 1, 1 + (uint32_t)own->link_count, place_of_reads(own));
     return step;
@@ -432,7 +449,7 @@ dbp_step dbp_take(const dbp_system *it, uint32_t task)
     const dbp_task *own = &it->diagram->tasks[task];
     const dbp_read *read = &own->reads[part->at];
     const uint32_t address = word_of(it, read->writer, part->heard[read->order].slot, read->port);
-    const dbp_step step = step_of(DBP_TAKE, task, read->read, load(it, address));
+    const dbp_step step = step_of(DBP_TAKE, task, read->read, load_whole(it, address));
     part->taken[read->read] = value_of_word(step.word);
     move_to(part, DBP_AT_LOOK, part->at + 1, own->read_count, DBP_AT_SHUT);
     return step;
@@ -452,7 +469,7 @@ dbp_step dbp_put(const dbp_system *it, uint32_t task)
 {
     dbp_part *part = &it->parts[task];
     const dbp_step step = step_of(DBP_PUT, task, part->at, (uint64_t)part->outs[part->at]);
-    store(it, word_of(it, task, part->heard[0].slot, part->at), step.word);
+    store_whole(it, word_of(it, task, part->heard[0].slot, part->at), step.word);
     move_to(part, DBP_AT_PUT, part->at + 1, it->diagram->tasks[task].ports, DBP_AT_DONE);
     return step;
 }

@@ -2,26 +2,48 @@
 
 /* The Dynamic Buffering Protocol in C11, for every diagram: its steps, and the operators of its language.
  *
- * Parties share words: the releaser, and each task. A step of a party loads or stores one of these words, once and in
- * sequentially consistent order; all else that it uses is the party's own. So parties may be preempted between any two
- * steps, or run at the same time. The tables of a diagram, and what a system calls, are in a file of the diagram. */
+ * Parties share words: the releaser, and each task. A step of a party loads or stores one of these words (with 32 bits, an
+ * order or a value of two), once and in sequentially consistent order; all else that it uses is the party's own. So parties
+ * may be preempted between any two steps, or run at the same time. The tables of a diagram, and what a system calls, are in
+ * a file of the diagram. */
 
 #ifndef DBP_PROTOCOL_H
 #define DBP_PROTOCOL_H
 
-#include <stdatomic.h>
 #include <stdbool.h>
 #include <stddef.h>
 #include <stdint.h>
 
-_Static_assert(ATOMIC_LLONG_LOCK_FREE == 2, "a load or a store of 64 bits needs a lock on this machine");
+/* How many bits a shared word has. With 32 an order and a value are two words each, the low half first: an order changes
+ * only while the gate of its reader is closed, a value only while the stamp before it says that its slot is being filled. */
+#ifndef DBP_WORD_BITS
+#define DBP_WORD_BITS 64
+#endif
+
+#if DBP_WORD_BITS == 64
+typedef uint64_t dbp_plain_word;
+#define DBP_WORDS_OF_VALUE UINT32_C(1)
+#define DBP_LAST_INSTANCE UINT32_MAX /* no task has an instance after that of this number */
+#else
+typedef uint32_t dbp_plain_word;
+#define DBP_WORDS_OF_VALUE UINT32_C(2)
+#define DBP_LAST_INSTANCE (UINT32_MAX - 1) /* the stamp of an instance is one more than its number */
+#endif
+
+/* C++ calls what is here, and doesn't touch shared words. */
+#ifdef __cplusplus
+extern "C" {
+typedef struct dbp_word dbp_word;
+#else
+#include <stdatomic.h>
+_Static_assert(DBP_WORD_BITS == 32 || ATOMIC_LLONG_LOCK_FREE == 2, "a load or a store of 64 bits needs a lock here");
+_Static_assert(ATOMIC_INT_LOCK_FREE == 2 && ATOMIC_LONG_LOCK_FREE == 2, "a load or a store of 32 bits needs a lock here");
+typedef _Atomic dbp_plain_word dbp_word;
+#endif
 
 #define DBP_MOST_TASKS UINT32_C(32)
 #define DBP_MOST_DELAY 8
-#define DBP_LAST_INSTANCE UINT32_MAX /* no task has an instance after that of this number */
-#define DBP_ALWAYS UINT8_MAX          /* in place of the input by which a task occurs */
-
-typedef _Atomic uint64_t dbp_word;
+#define DBP_ALWAYS UINT8_MAX /* in place of the input by which a task occurs */
 
 /* A link carries the outs of its writer to its reader, over a delay in instances of the writer; 0 is without delay. */
 typedef struct {
@@ -43,7 +65,7 @@ typedef struct {
     uint32_t period;         /* 0 if it occurs at the times of an event */
     uint32_t offset;
     uint8_t condition;       /* the input that isn't 0 when the task occurs, or DBP_ALWAYS */
-    uint16_t first_slot;     /* the address of the stamp of its slot 0; the words of a slot stand after its stamp */
+    uint16_t first_slot;     /* the address of the stamp of its slot 0; the values of a slot stand after its stamp */
     uint8_t ports;           /* how many outs it has */
     uint8_t slots;           /* how many slots it has */
     uint8_t kept;            /* the longest delay of the links that leave it */
@@ -235,5 +257,9 @@ int64_t dbp_and(int64_t a, int64_t b);
 int64_t dbp_or(int64_t a, int64_t b);
 int64_t dbp_not(int64_t a);
 int64_t dbp_choose(int64_t condition, int64_t a, int64_t b);
+
+#ifdef __cplusplus
+}
+#endif
 
 #endif

@@ -9,11 +9,15 @@ def is_code(text):
     return bool(text.partition(b"#")[0].strip(b" \t"))
 
 
+def diagram_lines(form):
+    """Returns the lines of the canonical text before trace and script."""
+    return split_sections(form.decode("ascii").split("\n")[:-1])[0]
+
+
 def numbered_lines(source, form):
     """Yields the lines of the canonical text before trace and script, each with the number of its line in the source."""
     numbers = (line.number for line in lines_of(source) if is_code(line.text))
-    diagram, _, _ = split_sections(form.decode("ascii").split("\n")[:-1])
-    return zip(numbers, diagram)
+    return zip(numbers, diagram_lines(form))
 
 
 def comments_of(source, form):

@@ -5,20 +5,22 @@ from typing import Dict, Optional, Tuple
 
 from canonical import Document, Every, On
 from emitting import operations
-from emitting.lines import comments_of
+from emitting.lines import comments_of, diagram_lines
 from emitting.names import Names, escaped
 from emitting.wiring import Wiring, wiring_of
 
 # The files of a diagram, NAME.h, NAME.c and NAME_trace.c, name nothing that doesn't begin with NAME_. For its tasks they
-# have NAME_TASK, NAME_TASK_step, NAME_TASK_row and NAME_set_TASK, for its events NAME_on_EVENT, for its inputs
+# have NAME_TASK, NAME_TASK_step, NAME_TASK_row and NAME_set_TASK, for its events NAME_on_EVENT and NAME_raise_EVENT, for its inputs
 # NAME_input_INPUT. This is what they name besides.
 OWN = (
-    "H begin tasks_at release begin_release release_step see_unended diagram words links tasks entries claims inputs "
-    "releaser parts system batches occurred trace trace_inputs trace_tasks"
+    "H begin tasks_at release begin_release release_step see_unended sampled diagram words links tasks entries claims inputs "
+    "releaser parts system batches occurred trace trace_inputs trace_tasks run stop overrun write_log posix posix_H "
+    "posix_tasks posix_on_events posix_raised posix_names posix_inputs posix_events posix_head posix_rest"
 ).split()
+VALUE_BITS = 64
 TASK_FORMS = (
     "{} {}_step {}_row set_{} {}_first {}_links {}_leaving {}_reads {}_senses {}_states {}_sensed {}_taken {}_heard "
-    "{}_outs {}_compute {}_rows {}_read_names {}_out_names"
+    "{}_outs {}_compute {}_rows {}_read_names {}_out_names task_{}"
 ).split()
 
 
@@ -27,7 +29,8 @@ class Plan:
     """A diagram that is written: `title` is what its comments call the document.
 
     Tasks, events and inputs have the names of the document with what C needs besides; `inputs` has only those that a task
-    senses or occurs by. A block with more operators than `most_calls` is a table.
+    senses or occurs by. A block with more operators than `most_calls` is a table. `lines` is the canonical text without its
+    trace and script.
     """
 
     name: str
@@ -39,6 +42,8 @@ class Plan:
     events: Dict[str, str]
     inputs: Dict[str, str]
     most_calls: int
+    word_bits: int
+    lines: Tuple[str, ...]
 
     def of(self, rest):
         """Returns the name of C that the diagram has for something of its own."""
@@ -78,16 +83,17 @@ def is_periodic(task):
     return isinstance(task.clock, Every)
 
 
-def plan_of(name, title, source, form, document, slots, most_calls):
-    """Returns what is written of a document: its bytes, its canonical text, how many slots each task has, and of more than
-    how many operators a block is a table."""
+def plan_of(name, title, source, form, document, slots, most_calls, word_bits):
+    """Returns what is written of a document: its bytes, its canonical text, how many slots each task has, of more than how
+    many operators a block is a table, and how many bits a shared word has."""
     names = Names((*OWN, *operations.OWN))
     tasks = tuple(names.give(task.name, TASK_FORMS) for task in document.tasks)
-    events = {event: names.give(event, ("on_{}",)) for event in document.events}
+    events = {event: names.give(event, ("on_{}", "raise_{}")) for event in document.events}
     used = [it.name for it in document.inputs if any(uses(task, it.name) for task in document.tasks)]
     inputs = {name: names.give(name, ("input_{}", "samples_{}")) for name in used}
-    wiring = wiring_of(document, slots)
-    return Plan(name, title, document, wiring, comments_of(source, form), tasks, events, inputs, most_calls)
+    wiring = wiring_of(document, slots, VALUE_BITS // word_bits)
+    lines, comments = tuple(diagram_lines(form)), comments_of(source, form)
+    return Plan(name, title, document, wiring, comments, tasks, events, inputs, most_calls, word_bits, lines)
 
 
 def local_names(plan, task, names=None):

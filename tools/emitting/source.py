@@ -7,6 +7,8 @@ from emitting.plan import is_periodic, local_names, row_names, set_text
 
 MARK = "/* Written by tools/emit_c of dbp: it writes this file anew at each call. */"
 WIDTH = 120
+C_START = ["#ifdef __cplusplus", 'extern "C" {', "#endif"]
+C_END = ["#ifdef __cplusplus", "}", "#endif", ""]
 
 STEPS = """
 /* What a system calls. */
@@ -29,6 +31,9 @@ dbp_step NAME_release_step(void);
 
 /* Sees the first task whose last instance isn't known to have ended; DBP_NO_STEP says that all have. */
 dbp_step NAME_see_unended(void);
+
+/* The value that an input had at the last release that used it; inputs have numbers from 0 on, in the order below. */
+int64_t NAME_sampled(uint32_t input);
 """
 
 
@@ -75,7 +80,7 @@ def header(plan):
     """Returns the text of NAME.h."""
     guard = plan.of("H")
     lines = [MARK, "", f"/* The tasks of {plan.title} in C. A set of tasks has a bit for each. */", ""]
-    lines += [f"#ifndef {guard}", f"#define {guard}", "", '#include "dbp_protocol.h"']
+    lines += [f"#ifndef {guard}", f"#define {guard}", "", '#include "dbp_protocol.h"', "", *C_START]
     lines += STEPS.replace("NAME_", plan.of("")).rstrip("\n").split("\n")
     if plan.document.events:
         lines += ["", "/* The tasks that occur at the times of an event, to be released then. */"]
@@ -88,7 +93,7 @@ def header(plan):
         lines += ["", "/* You write these: each returns the value of an input at the release that is begun. */", ""]
     for name, own in plan.inputs.items():
         lines += beside(f"int64_t {plan.of('input_' + own)}(void);", plan.comments[None, "input", name])
-    lines += ["", f"extern const dbp_diagram {plan.of('diagram')};", "", "#endif", ""]
+    lines += ["", f"extern const dbp_diagram {plan.of('diagram')};", "", *C_END, "#endif", ""]
     return "\n".join(lines)
 
 
@@ -344,12 +349,16 @@ def body(plan):
     numbers = range(len(plan.tasks))
     about = f"/* The tasks of {plan.title} in C. A comment that begins with a number has that line of the document. */"
     lines = [MARK, "", about]
-    lines += ["", f'#include "{plan.name}.h"', "", "/* The tables. */", "", *tables(plan)]
+    lines += ["", f'#include "{plan.name}.h"', ""]
+    lines += [f'_Static_assert(DBP_WORD_BITS == {plan.word_bits}, "the tables are for words of another length");']
+    lines += ["", "/* The tables. */", "", *tables(plan)]
     lines += ["", "/* The shared words, and what each party alone uses. */", "", *all_variables(plan)]
     blocks = [block(plan, number) for number in numbers]
     lines += operations.operate(plan) if any(is_table for is_table, _ in blocks) else []
     lines += ["", "/* The blocks. */", *(line for _, block_lines in blocks for line in block_lines)]
     lines += ["", "/* What a system calls. */", "", *beginning(plan), *sampling(plan)]
     lines += RELEASES.replace("NAME_", plan.of("")).split("\n")
+    lines += ["", f"int64_t {plan.of('sampled')}(uint32_t input)", "{"]
+    lines += [f"    return {plan.of('inputs')}[input];" if plan.inputs else "    (void)input;\n    return 0;", "}"]
     lines += [line for number in numbers for line in calls_of_task(plan, number)]
     return "\n".join([*lines, ""])

@@ -7,7 +7,7 @@ from dataclasses import dataclass
 from typing import Tuple
 
 FIRST_ADDRESS = 1  # word 0 of the table is no task's and no link's
-WORDS_OF_TASK = 3  # its gate, its ended number and its aim
+PLAIN_WORDS_OF_TASK = 2  # its gate and its ended number; its aim is an order
 
 
 @dataclass(frozen=True)
@@ -67,11 +67,11 @@ def turns_of(document, numbers, links, into, reader):
     return tuple(found)
 
 
-def wiring_of(document, slots):
-    """Returns the tables of a diagram, of which each task has so many slots."""
+def wiring_of(document, slots, words_of_value=1):
+    """Returns the tables of a diagram, of which each task has so many slots; an order or a value takes so many words."""
     numbers = {task.name: number for number, task in enumerate(document.tasks)}
     links = links_of(document, numbers)
-    address = FIRST_ADDRESS + WORDS_OF_TASK * len(document.tasks) + len(links)
+    address = FIRST_ADDRESS + (PLAIN_WORDS_OF_TASK + words_of_value) * len(document.tasks) + words_of_value * len(links)
     tasks = []
     for number, task in enumerate(document.tasks):
         into = tuple(at for at, link in enumerate(links) if link.reader == number)
@@ -79,5 +79,5 @@ def wiring_of(document, slots):
         kept = max((links[at].delay for at in leaving), default=0)
         turns = turns_of(document, numbers, links, into, number)
         tasks.append(Wired(address, slots[number], kept, into, leaving, turns))
-        address += slots[number] * (1 + len(task.outs))
+        address += slots[number] * (1 + words_of_value * len(task.outs))
     return Wiring(links, tuple(tasks), address)

@@ -6,8 +6,11 @@ from typing import Dict, List, Optional, Tuple
 from canonical import Document, read_document
 from ending import Status
 from pictures.record import Disagreement, Step, agreed_steps
-from pictures.service import Overrun, Service, serve
+from pictures.service import Command, Overrun, Service, command_of, serve
 from program import read_as_answer, run_program, table_lines
+
+
+SLOTS = {Command.SIM: 4, Command.CPUS: 5}  # the column of `dbp plan` with the slots of a simulation, from 0
 
 
 class Refused(Exception):
@@ -21,7 +24,7 @@ class Refused(Exception):
 
 @dataclass(frozen=True)
 class Simulated:
-    """A document with its simulation: the service, the steps to be drawn, and the overrun if there is one.
+    """A document with its simulation by a command: the service, the steps to be drawn, and the overrun if there is one.
 
     If it overruns, service and steps are those of the releases before the overrun. `slots` has how many each task has,
     `table` the outs of each instance, by its task and its number as `dbp mean` prints them.
@@ -33,6 +36,11 @@ class Simulated:
     steps: List[Step]
     overrun: Optional[Overrun]
     table: Dict[Tuple[str, str], str]
+
+    @property
+    def command(self):
+        """Returns the command that simulated it."""
+        return self.service.command
 
     def value(self, task, number, port):
         """Returns the value of an out of a task's instance; of number 0 it is the first value."""
@@ -72,14 +80,14 @@ def table_of(program, text):
 
 
 def overrun_of(line):
-    """Returns the overrun that a line of `dbp sim` tells."""
+    """Returns the overrun that a line of `dbp sim` or `dbp cpus` tells."""
     _, task, number, _, time = line.split()
     return Overrun(task, int(number), int(time))
 
 
-def record_text(program, text):
+def record_text(program, text, command=Command.SIM):
     """Returns the text of the record, or the overrun that the program prints instead."""
-    ran = run_program(program, ["sim", "--record"], text)
+    ran = run_program(program, command.record_words, text)
     if ran.status == Status.OVERRUN:
         with read_as_answer(program):
             return "", overrun_of(ran.stdout.decode())
@@ -109,25 +117,28 @@ def must_agree(computed, told):
         raise Disagreement(tick, f"computed is `{lines[0]}`, and the program says `{lines[1]}`")
 
 
-def agreed_service(program, text):
-    """Returns a document, how many slots each task has, its service, and the text of the record that must be its own.
+def agreed_service(program, text, command=None):
+    """Returns a document, how many slots each task has, its service, and the text of the record that must be its own. Unless
+    a command is given, each task is served on its own processor.
 
     The program tells the same overrun; then the record is that of the releases before it.
     """
     form, plan = canonical_text(program, text)
     with read_as_answer(program):
-        slots = tuple(int(line.split(",")[4]) for line in plan)
         document = read_document(form)
-    record, overrun = record_text(program, text)
-    service = serve(document)
+        command = command or command_of(document)
+        slots = tuple(int(line.split(",")[SLOTS[command]]) for line in plan)
+    record, overrun = record_text(program, text, command)
+    service = serve(document, command)
     must_agree(service.overrun, overrun)
     if overrun:
-        record, _ = record_text(program, cut_text(form, document, overrun.time))
+        record, _ = record_text(program, cut_text(form, document, overrun.time), command)
     return document, slots, service, record
 
 
-def simulated(program, text):
-    """Returns the simulation of a document, in which the program's record and the computed order agree."""
-    document, slots, service, record = agreed_service(program, text)
+def simulated(program, text, command=Command.SIM):
+    """Returns the simulation of a document by a command, in which the program's record and the computed order agree; without
+    one each task is served on its own processor."""
+    document, slots, service, record = agreed_service(program, text, command)
     steps = agreed_steps(document, service, record.splitlines())
     return Simulated(document, slots, service, steps, service.overrun, table_of(program, text))

@@ -6,12 +6,12 @@ from functools import partial
 from pathlib import Path
 
 from command_line import Parser, read_bytes, write_text
-from ending import Ended, Status, say, status_of
+from ending import Ended, Status, name_of, say, status_of
 from pictures.asking import Refused, checked_document, simulated
 from pictures.diagram import draw_diagram
 from pictures.dot import dot_text
 from pictures.record import Disagreement
-from pictures.service import rank_order
+from pictures.service import Command, rank_order
 from pictures.slot_rows import draw_slots
 from pictures.timeline import draw_timeline
 from program import add_program_option
@@ -90,8 +90,12 @@ def run_timeline(words):
     """Draws the timeline that the words ask for."""
     parser = Parser("timeline", description="Draws the simulation of a document as SVG.")
     add_file_options(parser)
+    commands = [it.value for it in Command]
+    about_command = "what simulates it: on one processor, or each task on its own (sim)"
+    parser.add_argument("--command", choices=commands, default=Command.SIM.value, help=about_command)
     parser.add_argument("--from", dest="start", type=tick, metavar="T", help="the first tick that is shown (0)")
-    parser.add_argument("--to", dest="stop", type=tick, metavar="T", help="the last tick that is shown")
+    about_stop = "the last tick that is shown (up to the overrun, or as far as 60 instances go)"
+    parser.add_argument("--to", dest="stop", type=tick, metavar="T", help=about_stop)
     parser.add_argument("--claims", metavar="TASK", help="draw the claims of this task and on its outs alone")
     parser.add_argument("--slots", metavar="TASK", help="draw this task, its readers, and its slots over time")
     options = parser.parse_args(words)
@@ -102,7 +106,7 @@ def run_timeline(words):
         parser.error("--slots shows a task and its readers, and --tasks others")
 
     def draw(text, name):
-        found = simulated(options.program, text)
+        found = simulated(options.program, text, Command(options.command))
         must_name_tasks(found.document, (options.claims, options.slots))
         if options.slots:
             picture, window = draw_slots(found, name, asked, options.slots)
@@ -110,7 +114,7 @@ def run_timeline(words):
             places = places_of(found.document, options.tasks)
             picture, window = draw_timeline(found, name, asked, options.claims, places)
         if window.is_cut:
-            say(f"timeline: {name}: drawn are ticks {window.start} to {window.stop}; --from and --to choose others")
+            say(f"{name_of('timeline')}: {name}: drawn are ticks {window.start} to {window.stop}; --from and --to choose others")
         return picture
 
     return run(options, draw)

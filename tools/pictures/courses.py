@@ -21,6 +21,7 @@ class Course:
     cut: Optional[int] = None
     spans: List[Tuple[int, int]] = field(default_factory=list)
     reads: List[Tuple[int, int]] = field(default_factory=list)
+    blocked: List[Tuple[int, int]] = field(default_factory=list)
 
     @property
     def last(self):
@@ -32,10 +33,21 @@ class Course:
         """Returns the last time at which something of it is drawn."""
         return max(self.last, self.due or 0)
 
+    def waits(self):
+        """Returns the times before it is first served, without those in which it is blocked."""
+        return self.unblocked(self.instance.release, self.cut if self.begin is None else self.begin)
+
     def gaps(self):
-        """Returns the times between its spans, and after the last one if it was cut: there it was preempted."""
+        """Returns the times between its spans, and after the last one if it was cut, without those in which it is blocked:
+        there it was preempted."""
         spans = self.spans if self.cut is None else [*self.spans, (self.cut, self.cut)]
-        return [(before[1], after[0]) for before, after in zip(spans, spans[1:])]
+        return [part for before, after in zip(spans, spans[1:]) for part in self.unblocked(before[1], after[0])]
+
+    def unblocked(self, start, stop):
+        """Returns the parts of a time in which it isn't blocked."""
+        inside = [it for it in self.blocked if start <= it[0] < stop]
+        starts, stops = [start, *(it[1] for it in inside)], [*(it[0] for it in inside), stop]
+        return [it for it in zip(starts, stops) if it[0] < it[1]]
 
 
 @dataclass(frozen=True)
@@ -80,10 +92,11 @@ def courses_of(simulated):
             course.begin = event.time
         elif isinstance(event, Reading) and event.time < limit:
             course.reads.append((event.time, event.read))
-    for span in service.spans:
-        if span.start < limit:
-            course = courses[span.instance.task, span.instance.number]
-            course.spans.append((span.start, min(span.stop, limit)))
+    for kind, spans in (("spans", service.spans), ("blocked", service.blocked)):
+        for span in spans:
+            if span.start < limit:
+                course = courses[span.instance.task, span.instance.number]
+                getattr(course, kind).append((span.start, min(span.stop, limit)))
     for course in courses.values():
         course.cut = limit if course.end is None else None
     return courses

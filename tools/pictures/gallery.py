@@ -1,4 +1,5 @@
-"""The pictures of README.md and docs/, each with the document that it is drawn from."""
+"""The pictures of README.md and docs/, each with the document that it is drawn from: tools/draw_pictures draws them anew, and
+the gate compares each with one that it draws itself."""
 
 from dataclasses import dataclass
 from enum import Enum
@@ -11,6 +12,7 @@ from ending import Ended, Status, status_of
 from pictures.asking import Refused, checked_document, simulated
 from pictures.diagram import draw_diagram
 from pictures.record import Disagreement
+from pictures.service import Command
 from pictures.slot_rows import draw_slots
 from pictures.timeline import draw_timeline
 from program import add_program_option
@@ -29,25 +31,32 @@ class Kind(Enum):
 
 @dataclass(frozen=True)
 class Picture:
-    """A picture: its document, what is drawn, the ticks that are shown, and the task whose slots are."""
+    """A picture: its document, or the file with what a command writes of one; what is drawn, the ticks that are shown, the task
+    whose slots are, and what simulates it."""
 
     document: str
     kind: Kind
     ticks: Tuple[Optional[int], Optional[int]] = (None, None)
     task: str = ""
+    command: Command = Command.SIM
+
+    @property
+    def stem(self):
+        """Returns the name of its document, without what follows the first point."""
+        return Path(self.document).name.partition(".")[0]
 
     @property
     def file(self):
         """Returns the name of its file."""
-        return f"{Path(self.document).stem}_{self.kind.value}.svg"
+        return f"{self.stem}_{self.kind.value}.svg"
 
     def draw(self, program):
         """Returns its bytes, drawn anew."""
         text = (TOP / self.document).read_bytes()
-        name = Path(self.document).name
+        name = f"{self.stem}.dbp"
         if self.kind is Kind.DIAGRAM:
             return draw_diagram(checked_document(program, text), name).encode()
-        found = simulated(program, text)
+        found = simulated(program, text, self.command)
         if self.kind is Kind.SLOTS:
             return draw_slots(found, name, self.ticks, self.task)[0].encode()
         return draw_timeline(found, name, self.ticks)[0].encode()
@@ -74,7 +83,10 @@ PICTURES = (
     Picture("examples/tutorial/trace.dbp", Kind.DIAGRAM),
     Picture("examples/tutorial/overrun.dbp", Kind.TIMELINE),
     Picture("docs/pictures/served.dbp", Kind.TIMELINE),
+    Picture("docs/pictures/blocked.dbp", Kind.TIMELINE, command=Command.CPUS),
+    Picture("examples/cpus/pipeline.dbp", Kind.TIMELINE, command=Command.CPUS),
     Picture("docs/pictures/kept.dbp", Kind.SLOTS, (0, 12), "sensor"),
+    Picture("examples/need/wheel.dbp.stdout", Kind.SLOTS, task="pulse"),
 )
 
 

@@ -12,6 +12,7 @@ class Mark(Enum):
     SERVED = "served"
     PREEMPTED = "preempted"
     WAITING = "waiting"
+    BLOCKED = "blocked"
     END = "end"
     LATE = "late"
     RELEASE = "release"
@@ -74,13 +75,14 @@ def sample_of(mark):
         return lambda canvas, x, y: canvas.text(x, y + 4, "[3]", "label"), 20
     if mark in (Mark.END, Mark.LATE):
         return lambda canvas, x, y: canvas.line(Layer.MARKS, x + 2, y - 9, x + 2, y + 9, mark.value), 4
-    return bar_sample(mark, 8 if mark in (Mark.PREEMPTED, Mark.WAITING) else 14), 26
+    return bar_sample(mark, 8 if mark in (Mark.PREEMPTED, Mark.WAITING, Mark.BLOCKED) else 14), 26
 
 
 WORDS = {
     Mark.SERVED: "served, with the number of the instance",
     Mark.PREEMPTED: "preempted",
     Mark.WAITING: "released, not served yet",
+    Mark.BLOCKED: "blocked, since a task that it reads hasn't ended",
     Mark.END: "end",
     Mark.LATE: "end after the deadline",
     Mark.RELEASE: "release",

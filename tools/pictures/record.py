@@ -6,7 +6,7 @@ The steps and their order are those of "The record of a simulation" in docs/PROT
 from enum import Enum
 from typing import NamedTuple, Optional
 
-from pictures.service import Begin, End, Reading, Release, rank_order
+from pictures.service import Begin, Command, End, Reading, Release, rank_order
 
 
 class StepKind(Enum):
@@ -85,16 +85,23 @@ def links_of(document):
     ]
 
 
-class Releaser:
-    """The releaser's part under the ranked count: per task the current and the kept slots, per link its claim."""
+def counted_links(document, command):
+    """Returns the links that are counted for slots: those to a lower rank; on several processors all of them."""
+    ranks = {task: rank for rank, task in enumerate(rank_order(document))}
+    links = [link for into in links_of(document) for link in into]
+    return [it for it in links if command is Command.CPUS or ranks[it.reader] > ranks[it.writer]]
 
-    def __init__(self, document):
+
+class Releaser:
+    """The releaser's part in a simulation: per task the current and the kept slots, per link its claim."""
+
+    def __init__(self, document, command):
         links = [link for into in links_of(document) for link in into]
-        ranks = {task: rank for rank, task in enumerate(rank_order(document))}
+        counted = counted_links(document, command)
         tasks = range(len(document.tasks))
         delays = [max((link.delay for link in links if link.writer == at), default=0) for at in tasks]
         self.into = links_of(document)
-        self.counted = [[it for it in links if it.writer == at and ranks[it.reader] > ranks[at]] for at in tasks]
+        self.counted = [[it for it in counted if it.writer == at] for at in tasks]
         self.known = [0 for _ in tasks]
         self.aimed = [0 for _ in tasks]
         self.current = [0 for _ in tasks]
@@ -109,14 +116,19 @@ class Releaser:
             order, instance = self.claims.get(link, (None, 0))
             if instance > self.known[link.reader]:
                 taken.add(order.slot)
+        while slot in taken:
+            slot += 1
+        return self.aim_at(task, slot)
+
+    def aim_at(self, task, slot):
+        """Aims a task at a slot, and returns the order."""
+        kept = self.kept[task]
         if kept:
             kept.insert(0, self.current[task])
             kept.pop()
-        while slot in taken:
-            slot += 1
         self.current[task] = slot
         self.aimed[task] += 1
-        return Order(self.current[task], self.aimed[task])
+        return Order(slot, self.aimed[task])
 
     def claim(self, link):
         """Claims a link for the reader's last aimed instance, and returns the order."""
@@ -138,10 +150,10 @@ class Releaser:
 class Recorder:
     """Makes the steps of a record, one event after another."""
 
-    def __init__(self, document):
+    def __init__(self, document, command):
         self.document = document
         self.names = [task.name for task in document.tasks]
-        self.releaser = Releaser(document)
+        self.releaser = Releaser(document, command)
         self.into = self.releaser.into
         self.count = 0
 
@@ -201,16 +213,37 @@ class Recorder:
         yield self.step(event.time, StepKind.END, it)
 
 
-def steps_of(document, events):
-    """Yields the steps of the record of a document whose events are computed."""
-    return Recorder(document).steps(events)
+def steps_of(document, service):
+    """Yields the steps of the record of a document whose service is computed."""
+    return Recorder(document, service.command).steps(service.events)
+
+
+class DrawnRecorder(Recorder):
+    """Makes the steps that pictures show alone, without their numbers and lines: sooner, where there are millions."""
+
+    def step(self, time, kind, instance, *operands, order=None, link=None):
+        """Returns a step."""
+        return Step(0, time, kind, instance.task, instance.number, "", order, link)
+
+    def begun(self, event):
+        """Yields nothing."""
+        return ()
+
+    def made(self, event):
+        """Yields nothing."""
+        return ()
+
+
+def drawn_steps(document, service):
+    """Yields the steps that pictures show of a record that is known to agree, without their numbers and lines."""
+    return (step for step in DrawnRecorder(document, service.command).steps(service.events) if step.kind in DRAWN)
 
 
 class Texts:
     """The text of a record, event by event. The texts of like events are alike, and are made once."""
 
-    def __init__(self, document):
-        self.recorder = Recorder(document)
+    def __init__(self, document, command):
+        self.recorder = Recorder(document, command)
         self.made = {}
 
     def of_all(self, events):
@@ -239,7 +272,7 @@ class Texts:
 
 def must_record(document, service, record):
     """Refuses a service whose record isn't the text that the program printed; the tick is named where the two differ."""
-    if Texts(document).of_all(service.events) != record:
+    if Texts(document, service.command).of_all(service.events) != record:
         agreed_steps(document, service, record.splitlines())
 
 
@@ -249,7 +282,7 @@ def agreed_steps(document, service, lines):
     A tick is named where the two differ.
     """
     found, count, tick = [], 0, 0
-    for step in steps_of(document, service.events):
+    for step in steps_of(document, service):
         if count == len(lines):
             raise Disagreement(step.time, f"step {step.number} is `{step.line}`, and the record has ended")
         if lines[count] != step.line:

@@ -4,8 +4,7 @@ from dataclasses import dataclass
 from enum import Enum
 from typing import Optional
 
-from pictures.record import StepKind, links_of
-from pictures.service import rank_order
+from pictures.record import StepKind, counted_links, links_of
 
 
 class Use(Enum):
@@ -38,12 +37,11 @@ class Stay:
 class SlotBook:
     """Writes down the stays of one task's slots, from the steps of a record."""
 
-    def __init__(self, document, task):
+    def __init__(self, document, task, command):
         links = [link for into in links_of(document) for link in into if link.writer == task]
-        ranks = {at: rank for rank, at in enumerate(rank_order(document))}
         self.names = [it.name for it in document.tasks]
         self.task = task
-        self.counted = {link for link in links if ranks[link.reader] > ranks[task]}
+        self.counted = {*counted_links(document, command)}
         self.most_kept = max((link.delay for link in links), default=0)
         first = Stay(Use.HELD, 0, 0, 0)
         self.stays = [first]
@@ -109,10 +107,24 @@ class SlotBook:
 
 def stays_of(simulated, task):
     """Returns the stays of the slots of a task, in the order of their steps."""
-    book = SlotBook(simulated.document, task)
+    return stays_of_all(simulated, [task])[0]
+
+
+def stays_of_all(simulated, tasks):
+    """Returns the stays of the slots of each of these tasks, in the order of their steps."""
+    books = {task: SlotBook(simulated.document, task, simulated.command) for task in tasks}
+    written = [{link.writer for link in into} for into in links_of(simulated.document)]
     limit = simulated.overrun.time if simulated.overrun else float("inf")
     for step in simulated.steps:
         is_before = step.time < limit or (step.time == limit and step.kind in (StepKind.DONE, StepKind.END))
-        if is_before:
-            book.take(step)
-    return book.stays
+        for task in writers_of(step, written) if is_before else ():
+            if task in books:
+                books[task].take(step)
+    return [book.stays for book in books.values()]
+
+
+def writers_of(step, written):
+    """Returns the tasks whose slots a step is about; `written` has for each task those that it reads."""
+    if step.kind in (StepKind.AIM, StepKind.DONE):
+        return (step.task,)
+    return (step.link.writer,) if step.kind is StepKind.CLAIM else written[step.task]

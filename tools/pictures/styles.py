@@ -35,6 +35,7 @@ STYLES = [
 ]
 
 LATE_STYLES = [".late{stroke:#d01010;stroke-width:4;fill:none}"]  # of pictures with a late end
+BLOCKED_STYLES = [".blocked{fill:url(#hatches);stroke:#b8500a;stroke-width:0.8}"]  # of pictures with a blocked instance
 
 BOX_STYLES = [
     ".box{fill:#ffffff;stroke:#2f6299;stroke-width:1.5}",
@@ -57,12 +58,15 @@ def head(name, colour):
     return element("marker", element("path", d="M 0 0 L 8 4 L 0 8 z", fill=colour), id=f"{name}-head", **HEAD)
 
 
+def pattern(name, side, data, colour):
+    """Returns a pattern of lines on white, which repeats a square."""
+    content = element("rect", width=side, height=side, fill="#ffffff") + element("path", d=data, stroke=colour)
+    return element("pattern", content, id=name, width=side, height=side, patternUnits="userSpaceOnUse")
+
+
 DEFINITIONS = "".join([
     head("direct", "#b8500a"),
     head("delayed", "#5c2d86"),
-    element(
-        "pattern",
-        element("rect", width=5, height=5, fill="#ffffff") + element("path", d="M 0 5 L 5 0", stroke="#2f6299"),
-        id="stripes", width=5, height=5, patternUnits="userSpaceOnUse",
-    ),
+    pattern("stripes", 5, "M 0 5 L 5 0", "#2f6299"),
 ])
+BLOCKED_DEFINITIONS = pattern("hatches", 6, "M 0 6 L 6 0 M 0 0 L 6 6", "#b8500a")  # of pictures with a blocked instance

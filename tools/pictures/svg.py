@@ -5,6 +5,7 @@ from xml.sax.saxutils import escape, quoteattr
 
 FONT = "Verdana, 'DejaVu Sans', Arial, sans-serif"
 LETTERS = {"ijlI.,:;'|!": 0.36, " ()[]ft-r/\"": 0.46, "ABCDEFGHJKLNOPQRSTUVXYZ": 0.75, "mwMW%@#+=<>~": 1.0}
+TEXT_STYLE = f"text{{font-family:{FONT};font-size:12px;fill:#1a1a1a}}"
 WIDTHS = {letter: width for letters, width in LETTERS.items() for letter in letters}  # of a font of size 1
 
 
@@ -77,7 +78,7 @@ class Canvas:
     def picture(self, width, height, title, styles, definitions=""):
         """Returns the whole text of the picture."""
         size = {"width": width, "height": height, "viewBox": f"0 0 {number(width)} {number(height)}"}
-        rules = "\n".join([f"text{{font-family:{FONT};font-size:12px;fill:#1a1a1a}}", *styles])
+        rules = "\n".join([TEXT_STYLE, *styles])
         parts = [
             element("title", escape(title)),
             element("style", f"\n{rules}\n"),

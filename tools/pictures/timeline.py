@@ -1,11 +1,11 @@
-"""The drawing of a timeline: a row for each task, in the order of ranks."""
+"""The drawing of a timeline: a row for each task, in the order of ranks, by their processors if they have several."""
 
 from pictures.courses import courses_of
 from pictures.legend import draw_legend, legend_height
 from pictures.marks import Mark, draw_flag, entries_of
 from pictures.reads import Reads
-from pictures.service import is_late, rank_order
-from pictures.styles import DEFINITIONS, LATE_STYLES, STYLES
+from pictures.service import Command, is_late, rank_order
+from pictures.styles import BLOCKED_DEFINITIONS, BLOCKED_STYLES, DEFINITIONS, LATE_STYLES, STYLES
 from pictures.svg import Canvas, Layer, text_width
 from pictures.window import Scale, choose_window, plot_width, tick_step
 from pictures.words import about_policy, about_task
@@ -13,6 +13,7 @@ from pictures.words import about_policy, about_task
 MARGIN = 16
 TOP = 92  # where the first row begins
 ROW = 68
+PROCESSOR = 22  # the height of the line that names a processor
 BAR_AT, BAR = 24, 20  # of a row
 
 
@@ -31,7 +32,8 @@ class Timeline:
         self.simulated = simulated
         self.claims_of = claims_of
         self.document = simulated.document
-        self.tasks = rank_order(self.document) if tasks is None else tasks
+        chosen = rank_order(self.document) if tasks is None else tasks
+        self.tasks = sorted(chosen, key=self.processor_of)
         courses = courses_of(simulated)
         self.all_courses = courses
         shown = [course for course in courses.values() if course.instance.task in self.tasks]
@@ -39,11 +41,26 @@ class Timeline:
         self.courses = [it for it in shown if self.window.shows(it.instance.release, it.last_mark)]
         self.canvas = Canvas()
         self.used = set()
-        self.rows = {task: TOP + ROW * number for number, task in enumerate(self.tasks)}
-        self.bottom = TOP + ROW * len(self.tasks)
+        self.processors = {self.processor_of(task): 0 for task in self.tasks}
+        self.rows, self.bottom = {}, TOP
+        self.place_rows()
         left = MARGIN + self.label_width() + 18
         width = plot_width(self.courses, self.window, self.read_labels(), per_tick)
         self.scale = Scale(self.window, left, width)
+
+    def processor_of(self, task):
+        """Returns the processor of a task, by its place."""
+        return self.simulated.command.processor_of(self.document.tasks[task])
+
+    def place_rows(self):
+        """Places the rows of the tasks, those of a processor below its name if the simulation has several."""
+        for task in self.tasks:
+            number = self.processor_of(task)
+            if self.simulated.command is Command.CPUS and not self.processors[number]:
+                self.bottom += PROCESSOR
+                self.processors[number] = self.bottom
+            self.rows[task] = self.bottom
+            self.bottom += ROW
 
     def row_of(self, task):
         """Returns the top of a task's row; one that isn't shown counts as above all others."""
@@ -90,6 +107,9 @@ class Timeline:
             self.canvas.line(Layer.BACK, scale.x(time), TOP - 6, scale.x(time), self.bottom, "grid")
             self.canvas.text(scale.x(time), TOP - 12, str(time), "tick")
         self.canvas.text(MARGIN, TOP - 12, "tick", "small")
+        for number, y in self.processors.items():
+            if y:
+                self.canvas.text(MARGIN, y + 4, f"processor {number}", "small")
 
     def draw_label(self, task):
         """Draws the name of a task, what it is, and its base line."""
@@ -109,10 +129,14 @@ class Timeline:
         """Draws how an instance waits, is served, is preempted, and ends."""
         y = self.rows[course.instance.task] + BAR_AT
         title = self.title_of(course)
-        waits_until = course.cut if course.begin is None else course.begin
-        self.stretch(course.instance.release, waits_until, y + BAR - 8, 8, Mark.WAITING, f"{title} waits")
-        for start, stop in course.gaps():
-            self.stretch(start, stop, y + BAR - 8, 8, Mark.PREEMPTED, f"{title} is preempted")
+        about = {
+            Mark.WAITING: (course.waits(), f"{title} waits"),
+            Mark.PREEMPTED: (course.gaps(), f"{title} is preempted"),
+            Mark.BLOCKED: (course.blocked, f"{title} is blocked"),
+        }
+        for mark, (stretches, words) in about.items():
+            for start, stop in stretches:
+                self.stretch(start, stop, y + BAR - 8, 8, mark, words)
         for start, stop in course.spans:
             about = f"{title} is served from {start} to {stop}"
             width = self.stretch(start, stop, y, BAR, Mark.SERVED, about)
@@ -192,7 +216,7 @@ class Timeline:
         """Returns the text of the picture, with its title and its legend."""
         window = self.window
         title = f"{name}: {what}"
-        about = f"{about_policy(self.document)}, one processor, ticks {window.start} to {window.stop}"
+        about = f"{about_policy(self.document)}, {self.about_processors()}, ticks {window.start} to {window.stop}"
         if window.is_cut:
             about += "; not all instances are shown"
         width = self.scale.left + self.scale.width + self.right_margin()
@@ -202,8 +226,15 @@ class Timeline:
         entries = entries_of(self.used)
         draw_legend(self.canvas, entries, MARGIN, self.bottom + 10, width - 2 * MARGIN)
         height = self.bottom + 10 + legend_height(entries, width - 2 * MARGIN) + MARGIN
-        styles = [*STYLES, *(LATE_STYLES if Mark.LATE in self.used else [])]
-        return self.canvas.picture(width, height, f"{title}, {about}", styles, DEFINITIONS)
+        is_blocked = Mark.BLOCKED in self.used
+        styles = [*STYLES, *(LATE_STYLES if Mark.LATE in self.used else []), *(BLOCKED_STYLES if is_blocked else [])]
+        definitions = DEFINITIONS + (BLOCKED_DEFINITIONS if is_blocked else "")
+        return self.canvas.picture(width, height, f"{title}, {about}", styles, definitions)
+
+    def about_processors(self):
+        """Returns how many processors the tasks have that are drawn."""
+        is_one = self.simulated.command is Command.SIM
+        return "one processor" if is_one else f"processors {', '.join(map(str, self.processors))}"
 
 
 def draw_timeline(simulated, name, window_asked, task_name=None, tasks=None):

@@ -1,7 +1,11 @@
-"""Bounds on response times: the program's, and this tool's own for assumed distances of events."""
+"""Bounds on response times: the program's, and this tool's own for assumed distances of events.
+
+tools/check reads the lines of `dbp rta` by this module too. With a program that has no such command both do without; their
+trials try that.
+"""
 
 from fractions import Fraction
-from itertools import accumulate
+from itertools import accumulate, takewhile
 from typing import NamedTuple, Optional, Tuple, Union
 
 from canonical import Every, Policy
@@ -11,6 +15,7 @@ from pictures.service import rank_order
 from program import read_as_answer, run_program
 
 BEYOND = "beyond"  # in place of a bound: none is within the distance of two releases
+ONE_PROCESSOR = "`dbp rta` knows one processor"
 BY_PROGRAM, BY_TOOL = "dbp rta", "tools/response"
 
 
@@ -110,16 +115,39 @@ def raised(response, cost, by_period, shares):
     return max(found)
 
 
-def own_bounds(document, demands):
-    """Returns this tool's bounds under fixed priorities: none of a task, if it or one above it has no demand."""
-    found, higher = [None] * len(demands), []
-    for at in rank_order(document):
-        if demands[at] is None:
-            break
+def is_on_several(document):
+    """Whether the tasks have more than one processor."""
+    return len({task.cpu for task in document.tasks}) > 1
+
+
+def may_wait(document, task):
+    """Whether a task may be blocked by one of another processor: it reads that without `pre`."""
+    return any(not read.delay and document.task(read.writer).cpu != task.cpu for read in task.reads)
+
+
+def bounds_in(order, demands):
+    """Returns the bounds of tasks by falling rank as if one processor had these alone, up to the first without a demand."""
+    found, higher = {}, []
+    for at in takewhile(lambda at: demands[at] is not None, order):
         response = least_response(demands[at].cost, higher, demands[at].distance)
         found[at] = BEYOND if response is None else response
         higher.append(demands[at])
-    return tuple(found)
+    return found
+
+
+def own_bounds(document, demands):
+    """Returns this tool's bounds under fixed priorities: none of a task, if it or one above it has no demand.
+
+    Of all that wait the first is never blocked. So while one of some rank waits, a processor serves one of this rank or above,
+    and a bound for one processor holds on several. A task that no other processor can block, nor those above it on its own,
+    is served as if its processor were alone.
+    """
+    tasks, order = document.tasks, rank_order(document)
+    found = {at: bound for at, bound in bounds_in(order, demands).items() if bound != BEYOND}
+    for cpu in {task.cpu for task in tasks}:
+        own = (at for at in order if tasks[at].cpu == cpu)
+        found.update(bounds_in(takewhile(lambda at: not may_wait(document, tasks[at]), own), demands))
+    return tuple(found.get(at) for at in range(len(tasks)))
 
 
 def told_bounds(document, stdout):
@@ -131,7 +159,10 @@ def told_bounds(document, stdout):
 
 
 def bounds_of(program, text, document, assumed):
-    """Returns the bounds of the tasks: the program's if it answers `rta`, else this tool's if distances are assumed."""
+    """Returns the bounds of the tasks: the program's if it answers `rta` and they have one processor, else this tool's if
+    distances are assumed, or if they have several."""
+    if is_on_several(document):
+        return several_bounds(document, assumed)
     ran = run_program(program, ["rta"], text)
     if ran.status == Status.DONE:
         with read_as_answer(program):
@@ -144,3 +175,10 @@ def bounds_of(program, text, document, assumed):
     if not assumed or document.policy is not Policy.FIXED_PRIORITIES:
         return Bounds(none, None, reason)
     return Bounds(own_bounds(document, demands_of(document, assumed)), BY_TOOL, reason)
+
+
+def several_bounds(document, assumed):
+    """Returns this tool's bounds of tasks on several processors, if it has one."""
+    is_fixed = document.policy is Policy.FIXED_PRIORITIES
+    found = own_bounds(document, demands_of(document, assumed)) if is_fixed else (None,) * len(document.tasks)
+    return Bounds(found, BY_TOOL if any(found) else None, ONE_PROCESSOR)

@@ -11,6 +11,7 @@ from ending import Ended, Status, say, status_of
 from pictures.asking import Refused, simulated
 from pictures.commands import shown_name
 from pictures.record import Disagreement
+from pictures.service import Command
 from pictures.timeline import draw_timeline
 from program import add_program_option
 from responses.bounds import Assumed, Bounds, Demand, bounds_of, demands_of
@@ -33,9 +34,11 @@ MOST_DIGITS = 10  # of a distance
 
 @dataclass(frozen=True)
 class Report:
-    """What is known of a document: for each task its figures and its demand, the bounds, and times of a chain."""
+    """What is known of a document, simulated by a command: for each task its figures and its demand, the bounds, and times of a
+    chain."""
 
     document: Document
+    command: Command
     figures: Tuple[Figures, ...]
     demands: Tuple[Optional[Demand], ...]
     bounds: Bounds
@@ -104,7 +107,7 @@ def judged(program, text, assumed=(), chain=None):
     bounds = bounds_of(program, text, document, assumed)
     spans = chain_spans(found, chain) if chain else ()
     figures = tuple(figures_of(found, place) for place in places)
-    report = Report(document, figures, tuple(demands_of(document, assumed)), bounds, tuple(assumed), spans)
+    report = Report(document, found.service.command, figures, tuple(demands_of(document, assumed)), bounds, tuple(assumed), spans)
     return report, [*verdicts_of(found, bounds, assumed)]
 
 
@@ -118,7 +121,7 @@ def window_around(course):
 
 def worst_picture(options, text, name):
     """Returns the timeline around the greatest response time of a task."""
-    found = simulated(options.program, text)
+    found = simulated(options.program, text, None)
     place = place_of(found.document, options.worst)
     courses = courses_of(found.document, found.service)
     course = Measured(found.document, found.service, courses).worst(place)

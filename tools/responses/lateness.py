@@ -1,4 +1,8 @@
-"""Deadlines that are missed, and how long each task may take."""
+"""Deadlines that are missed, and how long each task may take: for tools/response, and for the warning `Late` of tools/check.
+
+The plain walk through the ticks in .ci/made/responses.py is what the figures are compared with; bench/response.py does so for
+more documents.
+"""
 
 from typing import NamedTuple, Optional
 

@@ -1,4 +1,4 @@
-"""What the simulation of a document says of each task: response times, preemptions and jitter."""
+"""What the simulation of a document says of each task, each on its own processor: response times, preemptions and jitter."""
 
 from collections import Counter
 from dataclasses import dataclass
@@ -14,12 +14,14 @@ from responses.lateness import limit_of, seen_ends
 
 
 class Course(NamedTuple):
-    """The course of an instance that has ended: when it began and ended, and how often it was preempted."""
+    """The course of an instance that has ended: when it began and ended, how often it was preempted, and for how many ticks it
+    was blocked."""
 
     instance: Instance
     begin: int
     end: int
     preemptions: int
+    blocked: int
 
     @property
     def response(self):
@@ -45,6 +47,7 @@ class Figures:
     """The figures of a task; what no instance gives is None. `tick` is the release of the greatest response time."""
 
     task: str
+    cpu: int
     instances: int
     least: Optional[int]
     mean: Optional[Fraction]
@@ -53,6 +56,7 @@ class Figures:
     limit: Optional[int]
     slack: Optional[int]
     preemptions: Optional[int]
+    blocked: Optional[int]
     start_jitter: Optional[int]
     end_jitter: Optional[int]
 
@@ -61,10 +65,23 @@ def courses_of(document, service):
     """Returns the course of each instance that has ended, by task: with an overrun of those that ended before it."""
     begins = {event.instance: event.time for event in service.of(Begin)}
     spans = Counter(map(attrgetter("instance"), service.spans))
+    waits = only_blocked(service, begins)
+    blocked = Counter()
+    for span in service.blocked:
+        blocked[span.instance] += span.stop - span.start
     found = [[] for _ in document.tasks]
     for it, end in seen_ends(service).items():
-        found[it.task].append(Course(it, begins[it], end, spans[it] - 1))
+        found[it.task].append(Course(it, begins[it], end, spans[it] - 1 - waits[it], blocked[it]))
     return tuple(tuple(courses) for courses in found)
+
+
+def only_blocked(service, begins):
+    """Returns how often each instance went on as soon as it was no longer blocked, and so wasn't preempted meanwhile."""
+    if not service.blocked:
+        return Counter()
+    starts = {(span.instance, span.start) for span in service.spans}
+    later = (span for span in service.blocked if begins[span.instance] < span.stop)
+    return Counter(span.instance for span in later if (span.instance, span.stop) in starts)
 
 
 def measured(program, text):
@@ -87,6 +104,7 @@ def figures_of(measured, place):
     worst, limit = measured.worst(place), limit_of(measured.document, task)
     return Figures(
         task=task.name,
+        cpu=task.cpu,
         instances=len(courses),
         least=min(responses, default=None),
         mean=Fraction(sum(responses), len(responses)) if responses else None,
@@ -95,6 +113,7 @@ def figures_of(measured, place):
         limit=limit,
         slack=limit - worst.response if worst and limit is not None else None,
         preemptions=max((course.preemptions for course in courses), default=None),
+        blocked=max((course.blocked for course in courses), default=None),
         start_jitter=spread(starts),
         end_jitter=spread(responses),
     )

@@ -4,17 +4,31 @@ import json
 from dataclasses import astuple, fields
 from fractions import Fraction
 
-from responses.bounds import BEYOND, BY_PROGRAM, BY_TOOL
+from pictures.service import Command
+from responses.bounds import BEYOND, BY_PROGRAM, BY_TOOL, ONE_PROCESSOR
 from responses.measure import Figures
 from responses.numbers import decimal
 from waveforms.tables import table_text
 
 COLUMNS = tuple(it.name for it in fields(Figures)) + ("load", "bound", "under_bound")
+OF_PROCESSORS = ("cpu", "blocked")  # columns of a simulation on several processors alone
 NOTHING = "-"
+
+
+def columns_of(report):
+    """Returns the columns of a table."""
+    return [it for it in COLUMNS if report.command is Command.CPUS or it not in OF_PROCESSORS]
 
 
 def rows_of(report):
     """Yields the values of each task's row, in the order of the columns."""
+    columns = columns_of(report)
+    for values in all_rows(report):
+        yield [value for name, value in zip(COLUMNS, values) if name in columns]
+
+
+def all_rows(report):
+    """Yields the values of each task for all columns."""
     for figures, demand, bound in zip(report.figures, report.demands, report.bounds.of_tasks):
         is_number = bound not in (None, BEYOND)
         under = bound - figures.greatest if is_number and figures.greatest is not None else None
@@ -30,7 +44,7 @@ def cell_of(value, nothing):
 
 def csv_text(report):
     """Returns the rows below a header as comma-separated values; a cell without a value is empty."""
-    return table_text([COLUMNS, *([cell_of(value, "") for value in row] for row in rows_of(report))])
+    return table_text([columns_of(report), *([cell_of(value, "") for value in row] for row in rows_of(report))])
 
 
 def aligned(rows):
@@ -43,7 +57,7 @@ def aligned(rows):
 
 def plain_text(report):
     """Returns the table, and below it the load, who says the bounds, and the chain."""
-    header = [name.replace("_", " ") for name in COLUMNS]
+    header = [name.replace("_", " ") for name in columns_of(report)]
     rows = [header, *([cell_of(value, NOTHING) for value in row] for row in rows_of(report))]
     lines = [*aligned(rows), "", load_line(report), bounds_line(report), *chain_lines(report)]
     return "\n".join(lines) + "\n"
@@ -54,10 +68,20 @@ def total_load(report):
     return sum((demand.load for demand in report.demands if demand), Fraction(0))
 
 
+def loads_of(report):
+    """Returns the load of each processor that has a task."""
+    found = {cpu: Fraction(0) for cpu in sorted({it.cpu for it in report.figures})}
+    for it, demand in zip(report.figures, report.demands):
+        found[it.cpu] += demand.load if demand else 0
+    return found
+
+
 def load_line(report):
-    """Returns the line of the load, with the tasks that it leaves out."""
+    """Returns the line of the load, or of those of the processors, with the tasks that it leaves out."""
     left_out = [it.task for it, demand in zip(report.figures, report.demands) if demand is None]
-    return f"load: {decimal(total_load(report))}" + (f", without {', '.join(left_out)}" if left_out else "")
+    by_processor = ", ".join(f"{decimal(load)} on processor {cpu}" for cpu, load in loads_of(report).items())
+    load = by_processor if report.command is Command.CPUS else decimal(total_load(report))
+    return f"load: {load}" + (f", without {', '.join(left_out)}" if left_out else "")
 
 
 def bounds_line(report):
@@ -67,7 +91,8 @@ def bounds_line(report):
         return f"bounds: by `{BY_PROGRAM}`"
     if by == BY_TOOL:
         distances = ", ".join(f"each two `{it.event}` at least {it.distance} apart" for it in report.assumed)
-        return f"bounds: by {BY_TOOL} itself, not proved, with {distances}"
+        parts = [f"bounds: by {BY_TOOL} itself, not proved", *(["on several processors"] if reason == ONE_PROCESSOR else [])]
+        return ", ".join([*parts, *([f"with {distances}"] if distances else [])])
     return f"bounds: none ({reason})"
 
 
@@ -86,10 +111,12 @@ def json_text(report, verdicts):
     """Returns all that is known as JSON."""
     bounds = report.bounds
     found = {
-        "tasks": [dict(zip(COLUMNS, map(json_value, row))) for row in rows_of(report)],
+        "tasks": [dict(zip(columns_of(report), map(json_value, row))) for row in rows_of(report)],
         "load": json_value(total_load(report)),
         "bounds": {"by": bounds.by, "is_proved": bounds.by == BY_PROGRAM, "reason": bounds.reason},
         "chain": {name: span and span.as_json(report.document) for name, span in report.chain},
         "verdicts": verdicts,
     }
+    if report.command is Command.CPUS:
+        found["loads"] = {str(cpu): json_value(load) for cpu, load in loads_of(report).items()}
     return json.dumps(found, indent=2) + "\n"

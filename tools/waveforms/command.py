@@ -2,24 +2,22 @@
 
 import argparse
 import os
-import re
-from fractions import Fraction
 from functools import partial
 
 from canonical import read_document
 from command_line import Parser, is_replaced, read_bytes, write_text
 from ending import Ended, Status, reason_of, say, status_of
 from program import add_program_option, read_as_answer, run_program
+from waveforms.lengths import UNITS, femtoseconds_of
 from waveforms.signals import occurrences_of, waves_of
 from waveforms.tables import headed_lines, rows_of_task, table_text, wide_rows
 from waveforms.vcd import ONE_NANOSECOND, Tick, vcd_lines
 from waveforms.viewer import is_own, save_lines, save_name
 
-DESCRIPTION = """Writes the lines of mean, sim or run as signals: a VCD file for waveform viewers, or tables (CSV).
+DESCRIPTION = """Writes the lines of mean, sim, cpus or run as signals: a VCD file for waveform viewers, or tables (CSV).
 The signals are TASK.OUT, TASK_instance (the number of the task's last instance) and trace.NAME (an input or an event).
 If the program writes no lines, its line stands on standard error, and the status is the program's."""
 
-UNITS = {"fs": 1, "ps": 10**3, "ns": 10**6, "us": 10**9, "ms": 10**12, "s": 10**15}  # femtoseconds
 MOST_TIMES = 10**9  # so that the last time of a file has 64 bits
 
 
@@ -33,10 +31,7 @@ class NoLines(Exception):
 
 def tick_length(text):
     """Returns a length, as 5ms or 2.5 us, in the greatest unit of a VCD file of which it is a multiple."""
-    found = re.fullmatch(r"([0-9]{1,12}(?:\.[0-9]{1,15})?) ?(s|ms|us|ns|ps|fs)", text)
-    if not found:
-        raise argparse.ArgumentTypeError("it is a number and then s, ms, us, ns, ps or fs, as in 5ms")
-    length = Fraction(found[1]) * UNITS[found[2]]
+    length = femtoseconds_of(text)
     for unit, power in ((unit, power) for unit in reversed(UNITS) for power in (100, 10, 1)):
         times = length / (power * UNITS[unit])
         if times.denominator == 1 and 0 < times <= MOST_TIMES:
@@ -48,7 +43,7 @@ def options_of(words):
     """Returns the options that the words give."""
     parser = Parser(prog="waves", description=DESCRIPTION)
     parser.add_argument("file", metavar="FILE", help="a document; - is standard input")
-    parser.add_argument("--command", choices=("mean", "sim", "run"), default="mean", help="what runs it (mean)")
+    parser.add_argument("--command", choices=("mean", "sim", "cpus", "run"), default="mean", help="what runs it (mean)")
     parser.add_argument("--format", choices=("vcd", "csv"), default="vcd", help="what is written (vcd)")
     about_tick = "for vcd: the length of a tick, as 5ms or 250us (1ns)"
     parser.add_argument("--tick", type=tick_length, default=ONE_NANOSECOND, metavar="LENGTH", help=about_tick)

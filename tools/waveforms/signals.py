@@ -67,7 +67,7 @@ def by_tick(changes):
 
 
 def occurrences_of(lines):
-    """Returns the occurrences that the lines of `mean`, `sim` or `run` tell."""
+    """Returns the occurrences that the lines of `mean`, `sim`, `cpus` or `run` tell."""
     return [occurrence_of(line) for line in lines.decode("ascii").splitlines()]
 
 

@@ -32,10 +32,17 @@ void it_some_row(uint32_t instance, int64_t w)
     printf("%u,some,%u,%lld\n", (unsigned)now, (unsigned)(instance - BEFORE), (long long)w);
 }
 
-static uint64_t *word(uint32_t task, uint32_t slot)
+static dbp_plain_word *word(uint32_t task, uint32_t slot)
 {
     const dbp_task *own = &it_tasks[task];
-    return (uint64_t *)&it_words[own->first_slot + slot * (1 + (uint32_t)own->ports)];
+    return (dbp_plain_word *)&it_words[own->first_slot + slot * (1 + DBP_WORDS_OF_VALUE * own->ports)];
+}
+
+static void fill_value(dbp_plain_word *words, int64_t value)
+{
+    for (uint32_t half = 0; half < DBP_WORDS_OF_VALUE; half++) {
+        words[half] = (dbp_plain_word)((uint64_t)value >> (32 * half));
+    }
 }
 
 /* The kept slots hold the rows before the last one, which have the first values here. */
@@ -43,9 +50,9 @@ static void fill(uint32_t task)
 {
     const dbp_task *own = &it_tasks[task];
     for (uint32_t slot = 0; slot <= own->kept; slot++) {
-        word(task, slot)[0] = (uint64_t)BEFORE + 1 - slot;
+        word(task, slot)[0] = (dbp_plain_word)BEFORE + 1 - slot;
         for (uint32_t port = 0; port < own->ports; port++) {
-            word(task, slot)[1 + port] = (uint64_t)own->first[port];
+            fill_value(&word(task, slot)[1 + DBP_WORDS_OF_VALUE * port], own->first[port]);
         }
         if (slot > 0) {
             it_entries[task].kept[slot - 1] = (uint8_t)slot;
@@ -56,7 +63,7 @@ static void fill(uint32_t task)
 static void begin_late(void)
 {
     for (uint32_t task = 0; task < 3; task++) {
-        uint64_t *words = (uint64_t *)&it_words[1 + 3 * task];
+        dbp_plain_word *words = (dbp_plain_word *)&it_words[1 + (2 + DBP_WORDS_OF_VALUE) * task];
         words[0] = words[1] = BEFORE;
         it_entries[task].known = it_entries[task].aimed = BEFORE;
         it_parts[task].ended = BEFORE;

@@ -4,6 +4,8 @@
 #[cfg(test)]
 mod aims;
 #[cfg(test)]
+mod claims;
+#[cfg(test)]
 mod refusals;
 #[cfg(test)]
 mod rows;

@@ -27,6 +27,8 @@ pub(crate) enum Seen {
     Refusal { step: Step, why: Illegal },
     // The task's aim comes next, and this is the least slot for it.
     LeastAim { task: u32, slot: u32 },
+    // The link's last claim is for the row with this number.
+    ClaimedNumber { link: u32, number: u32 },
     // Each task has so many slots, and this rank.
     Wiring(&'static [(u32, u32)]),
 }
@@ -115,6 +117,15 @@ fn least_aim_of(core: &mut Core, task: u32) -> Result<u32, Fail> {
     }
 }
 
+// The number of the link's last claim.
+fn claimed_number_of(core: &Core, link: u32) -> Result<u32, Fail> {
+    if link < core.plan().diagram.links.len() {
+        Ok(core.claimed_number(link))
+    } else {
+        Err(Fail::from("no link"))
+    }
+}
+
 // Compares what is seen.
 fn compare(rt: &impl Abort, alloc: Global, core: &mut Core, seen: &Seen) -> Result<(), Fail> {
     match seen {
@@ -125,6 +136,9 @@ fn compare(rt: &impl Abort, alloc: Global, core: &mut Core, seen: &Seen) -> Resu
             assert_eq!(rt; ask(core, *step)?, Err(*why));
         }
         Seen::LeastAim { task, slot } => assert_eq!(rt; least_aim_of(core, *task)?, *slot),
+        Seen::ClaimedNumber { link, number } => {
+            assert_eq!(rt; claimed_number_of(core, *link)?, *number);
+        }
         Seen::Wiring(tasks) => {
             let found = slots_and_ranks(alloc, core.wiring())?;
             assert_eq!(rt; found.as_slice(), *tasks);

@@ -21,7 +21,7 @@ use Rattle.rank_order.proofs.OneService.{not_both}
 use Rattle.cpu_sim.specs.Processors.{is_blocked, read_number, read_blocks}
 
 -- an item that passes
-passing : {A : Type 0} (test : A → Bool) (xs : List A) → list_any test xs ≡ true → (k : ℕ) × (x : A) × (slice_get xs k ≡ Some x) × (test x ≡ true)
+pub passing : {A : Type 0} (test : A → Bool) (xs : List A) → list_any test xs ≡ true → (k : ℕ) × (x : A) × (slice_get xs k ≡ Some x) × (test x ≡ true)
 passing test [] is = absurd (cc)
 passing test (x ∷ xs) is = elim (cases_Bool (test x)) [
   | inl here ↦ (0, x, refl, here)

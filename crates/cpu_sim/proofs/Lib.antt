@@ -1,4 +1,15 @@
+pub mod Between
+pub mod BlockingReads
+pub mod Choices
+pub mod ChosenTasks
+pub mod Finals
 pub mod FreeFirst
+pub mod JumpTicks
 pub mod OneCpu
+pub mod OneCpuRecord
 pub mod OneServiceOn
+pub mod ProcessorJump
+pub mod RecordTicks
+pub mod ServedStages
 pub mod SomeServiceOn
+pub mod Stages

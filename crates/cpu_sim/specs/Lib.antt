@@ -1,3 +1,9 @@
 -- Definitions that public clauses cite.
+pub mod Outcomes
 pub mod Processors
+pub mod Record
 pub mod Services
+pub mod SimRuns
+-- What private functions, the inside of types and proofs cite.
+pub mod Choices
+pub mod Simulations

@@ -4,6 +4,8 @@
 #[cfg(test)]
 mod crews;
 #[cfg(test)]
+mod gates;
+#[cfg(test)]
 mod paces;
 #[cfg(test)]
 mod runs;

@@ -13,7 +13,7 @@ use std::thread::Threads;
 use test_inputs::{THREE_RATES, plan_in};
 
 // How often a party looks for the others before it gives up: some 10 seconds, or 20 where the processors are busy.
-const MOST_POLLS: u32 = 4_000_000;
+pub(crate) const MOST_POLLS: u32 = 4_000_000;
 
 // Before its first turn each of four parties waits until all have come.
 #[derive(Drop)]
@@ -85,7 +85,7 @@ fn four_parties_work_at_once(rt: HostRuntime) -> Result<(), Fail> {
     meet(&rt, rt.alloc(), &plan)
 }
 
-// One party waits before each of its turns, whose numbers are counted beside it.
+// One party is held up before each of its turns, whose numbers are counted beside it, by so many loads.
 #[derive(Drop)]
 struct Holding {
     task: u32,
@@ -114,8 +114,11 @@ impl Pace for &Holding {
         if turn != before.wrapping_add(1) {
             self.miscounted.store(1, Ordering::SeqCst);
         }
+        // This turn is counted, so none of the loads ends it.
         for _ in 0..self.polls {
-            thread::yield_now();
+            if self.turns.load(Ordering::SeqCst) == 0 {
+                return;
+            }
         }
     }
 }
@@ -127,7 +130,7 @@ fn hold_up<R: Abort + Threads + Wait + Sync>(
     plan: &Plan,
     task: u32,
 ) -> Result<(), Fail> {
-    let pace = Holding::new(task, 100);
+    let pace = Holding::new(task, 1_000);
     assert!(rt; makes_meaning_at(rt, alloc, &pace, plan)?);
     assert_eq!(rt; pace.miscounted.load(Ordering::SeqCst), 0);
     assert!(rt; pace.turns.load(Ordering::SeqCst) > 0);

@@ -1,7 +1,15 @@
 pub mod AnswerLaws
+pub mod BareTraces
 pub mod GeneratedPlans
 pub mod MeantTables
+pub mod OneProcessor
 pub mod PrintedTexts
+pub mod RankStops
+pub mod RankedTexts
+pub mod RefusalLines
 pub mod ResponseLaws
+pub mod ScenarioCodes
+pub mod ScenarioLaws
+pub mod Simulated
 pub mod StopLaws
 pub mod TaskLineLaws

@@ -4,11 +4,11 @@ use Rattle.dia_read.specs.Canonical.{SpellsBody}
 use Rattle.dia_read.specs.Documents.{Spells}
 use Rattle.dia_read.specs.declared.document.Body.{Body}
 use Rattle.dia_read.specs.declared.document.Doc.{Doc}
-use Rattle.dbp_answers.specs.Answer.{Answers, Makes, made, of_body, of_generated, of_plan, of_seed}
+use Rattle.dbp_answers.specs.Answer.{Answers, Makes, made, of_body, of_generated, of_plan, of_seed, of_shape}
 use Rattle.dbp_answers.specs.Commands.{at_nothing, at_text, looks}
 use Rattle.dbp_answers.specs.declared.command.Command.{Command}
 use Rattle.dbp_answers.specs.declared.status.Status.TheVariants.{Ok}
-use Rattle.dbp_answers.proofs.AnswerLaws.{looks-at-plan, not-text-and-plan, one-make}
+use Rattle.dbp_answers.proofs.AnswerLaws.{looks-at-plan, not-shape-and-text, not-text-and-plan, one-make}
 
 -- the document of whose body the text is
 pub record IsMadeOf (input text : List ℕ) (make : Body → List ℕ) : Type 0 where
@@ -18,6 +18,7 @@ pub record IsMadeOf (input text : List ℕ) (make : Body → List ℕ) : Type 0 
 
 made-of-body : (input text : List ℕ) (command : Command) (make : Body → List ℕ) → looks command ≡ at_text make → Makes input command text → IsMadeOf input text make
 made-of-body input text command make looked (of_body c f d here spelled) = record { doc = d; spelled = spelled; same = ap (λ (g : Body → List ℕ). g d.body) (one-make c make f looked here) }
+made-of-body input text command make looked (of_shape c a here is) = absurd (not-shape-and-text c make here looked)
 made-of-body input text command make looked (of_plan c o p a x here makes) = absurd (not-text-and-plan c make looked (looks-at-plan c o here))
 made-of-body input text command make looked (of_seed seed size) = absurd (let no : at_nothing ≡ at_text make = looked in cc)
 made-of-body input text command make looked (of_generated seed size p a accepted is) = absurd (let no : at_nothing ≡ at_text make = looked in cc)

@@ -9,17 +9,18 @@ use Rattle.rta_check.specs.declared.fail.RtaFail.TheVariants as rta
 use Rattle.rta_check.specs.Bounds.{AreBounds, rta_fault}
 use Rattle.rta_check.proofs.BoundLists.{bounds_kept, some_bounds}
 use Rattle.rta_check.proofs.RtaFaults.{no_fault_fixed, no_fault_periodic, no_memory_fault}
-use Rattle.sync_meaning.specs.SomeMeaning.{meaning_of, meaning_of-is}
-use Rattle.trace_io.specs.Lines.{lines_of}
 use Rattle.trace_io.specs.Texts.{Accepts}
-use Rattle.dbp_answers.specs.Answer.{Answers, IsInTime, IsRefused, bounds_of_tasks, made, not_fixed, not_periodic, of_plan, of_plan_refused, simulated_lines, table_lines}
+use Rattle.dbp_answers.specs.Answer.{Answers, IsRefused, bounds_of_tasks, made, not_fixed, not_periodic, of_plan, of_plan_refused}
 use Rattle.dbp_answers.specs.BoundLines.{bound_lines}
-use Rattle.dbp_answers.specs.Commands.{a_simulation, the_response_times, the_table}
+use Rattle.dbp_answers.specs.Commands.{the_response_times}
+use Rattle.dbp_answers.specs.Simulations.{IsInTime}
 use Rattle.dbp_answers.specs.declared.command.Command.TheVariants.{Mean, Rta, Sim}
 use Rattle.dbp_answers.specs.declared.command_code.CommandCode.TheVariants.{NotFixed, NotPeriodic}
+use Rattle.dbp_answers.specs.declared.processors.Processors.TheVariants.{One}
 use Rattle.dbp_answers.specs.declared.refusal.Refusal.{Refusal}
 use Rattle.dbp_answers.specs.declared.refusal.Refusal.TheVariants.{OfCommand}
 use Rattle.dbp_answers.specs.declared.status.Status.TheVariants.{Ok}
+use Rattle.dbp_answers.proofs.Simulated.{in-time-simulated}
 
 module _ (input : List ℕ) (p : Plan) (accepted : Accepts input p) where
   -- a plan without a fault has its lines
@@ -45,16 +46,9 @@ module _ (input : List ℕ) (p : Plan) (accepted : Accepts input p) where
   has-response-times = lines-or-refused (rta_fault p.diagram) refl
 
   -- if each task has one, no release overruns
-  bounded-in-time : (bounds : List Bound) → rta_fault p.diagram ≡ None → AreBounds p.diagram bounds → ((task : ℕ) → slice_get bounds task ≢ Some Beyond) → IsInTime p
+  bounded-in-time : (bounds : List Bound) → rta_fault p.diagram ≡ None → AreBounds p.diagram bounds → ((task : ℕ) → slice_get bounds task ≢ Some Beyond) → IsInTime p One
   bounded-in-time bounds none are bounded = (bounds_kept p.diagram bounds p (no_fault_fixed p.diagram none) (no_fault_periodic p.diagram none) are refl).no_overrun bounded
 
   pub bounded-simulated : (bounds : List Bound) → rta_fault p.diagram ≡ None → AreBounds p.diagram bounds → ((task : ℕ) → slice_get bounds task ≢ Some Beyond)
       → (text : List ℕ) × Answers input Mean Ok text × Answers input (Sim false) Ok text
-  bounded-simulated bounds none are bounded =
-      let table = meaning_of p in
-      let text = lines_of p.diagram p.batches table in
-      let in_time = bounded-in-time bounds none are bounded in (
-        text,
-        made text (of_plan Mean the_table p text accepted refl (table_lines table (meaning_of-is p))),
-        made text (of_plan (Sim false) (a_simulation false) p text accepted refl (simulated_lines table in_time (meaning_of-is p))),
-      )
+  bounded-simulated bounds none are bounded = in-time-simulated input p One (Sim false) accepted (bounded-in-time bounds none are bounded) refl

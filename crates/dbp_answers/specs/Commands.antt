@@ -8,22 +8,27 @@ use Rattle.dia_read.specs.Documents.{upgraded}
 use Rattle.dia_read.specs.declared.document.Body.{Body}
 use Rattle.dbp_answers.specs.SlotLines.{slot_lines}
 use Rattle.dbp_answers.specs.declared.command.Command.{Command}
-use Rattle.dbp_answers.specs.declared.command.Command.TheVariants.{Gen, Mean, Form, Plan as Slots, Replay, Rta, Run, Sim, Soak, Upgrade}
+use Rattle.dbp_answers.specs.declared.command.Command.TheVariants.{Cpus, Gen, Mean, Form, Need, Plan as Slots, Rank, Replay, Rta, Run, Sim, Soak, Upgrade}
+use Rattle.dbp_answers.specs.declared.processors.Processors.{Processors}
+use Rattle.dbp_answers.specs.declared.processors.Processors.TheVariants.{One, Declared}
 
--- what is printed of a plan: the lines of its table, what its simulation writes (with true the steps of the record, else
--- the lines of the table), a text that is made of the plan alone, the response times of its tasks, or what the steps of
--- the document's script hear
+-- what is printed of a plan: the lines of its table, what its simulation on these processors writes (with true the steps
+-- of the record, else the lines of the table), a text that is made of the plan alone, the response times of its tasks, the
+-- scenario of the task of a name, or what the steps of the document's script hear
 pub data Output : Type 0 where
   the_table : Output
-  a_simulation : Bool → Output
+  a_simulation : Processors → Bool → Output
   a_text_of_it : (Plan → List ℕ) → Output
   the_response_times : Output
+  a_scenario : List ℕ → Output
   a_replay : Count → Output
 
--- what a command looks at: nothing; the text of the input, of whose body it prints a text; or the input's plan
+-- what a command looks at: nothing; the text of the input, of whose body it prints a text; its shape, of which it makes an
+-- order of the tasks; or the input's plan
 pub data Looks : Type 0 where
   at_nothing : Looks
   at_text : (Body → List ℕ) → Looks
+  at_shape : Looks
   at_plan : Output → Looks
 
 -- by which slots and in which order the steps of a replay are taken
@@ -34,12 +39,15 @@ count_of false = All
 -- one row for each command
 abbrev pub looks : Command → Looks
 looks Mean = at_plan the_table
-looks (Sim record_it) = at_plan (a_simulation record_it)
+looks (Sim record_it) = at_plan (a_simulation One record_it)
+looks (Cpus record_it) = at_plan (a_simulation Declared record_it)
 looks (Run turns) = at_plan the_table
 looks Form = at_text (λ body. canonical_text body)
 looks Upgrade = at_text (λ body. canonical_text (upgraded body))
+looks Rank = at_shape
 looks Slots = at_plan (a_text_of_it (λ plan. slot_lines plan.diagram))
 looks Rta = at_plan the_response_times
+looks (Need task) = at_plan (a_scenario task)
 looks (Replay ranked) = at_plan (a_replay (count_of ranked))
 looks (Gen seed size) = at_nothing
 looks (Soak seed size) = at_nothing

@@ -4,7 +4,10 @@ pub mod BoundLines
 pub mod CommandCodes
 pub mod Commands
 pub mod OverrunLines
+pub mod Rankings
 pub mod Refusals
+pub mod ScenarioCodes
+pub mod Simulations
 pub mod SlotLines
 pub mod Stops
 pub mod Summaries

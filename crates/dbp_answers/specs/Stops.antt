@@ -1,5 +1,5 @@
 -- Why a command makes no text of an input.
-use Rattle.std.specs.Prelude.{ℕ, List}
+use Rattle.std.specs.Prelude.{ℕ, List, Option, Some, None}
 use Rattle.dbp_replay.specs.declared.fail.ReplayFail.{ReplayFail}
 use Rattle.dbp_replay.specs.declared.fail.ReplayFail.TheVariants as replay
 use Rattle.dbp_replay.specs.declared.fail.ScriptFail.{ScriptFail}
@@ -8,13 +8,17 @@ use Rattle.dia_check.specs.declared.fail.CheckFail.{CheckFail}
 use Rattle.dia_check.specs.declared.fail.CheckFail.TheVariants as check
 use Rattle.dia_read.specs.declared.fault.ReadFail.{ReadFail}
 use Rattle.dia_read.specs.declared.fault.ReadFail.TheVariants as read
+use Rattle.rank_find.specs.declared.fail.RankFail.{RankFail}
+use Rattle.rank_find.specs.declared.fail.RankFail.TheVariants as rank
 use Rattle.trace_io.specs.declared.code.Code.TheVariants.{Reading, Checking, Tracing}
 use Rattle.trace_io.specs.Traces.{TraceFail}
 use Rattle.trace_io.specs.Traces as trace
 use Rattle.trace_io.specs.Texts.{Refuses}
 use Rattle.dbp_answers.specs.Answer.{IsOverrunLine, IsRefused}
 use Rattle.dbp_answers.specs.declared.command.Command.{Command}
-use Rattle.dbp_answers.specs.declared.refusal.Refusal.TheVariants.{Document, Script, Illegal}
+use Rattle.dbp_answers.specs.declared.command_code.CommandCode.{CommandCode}
+use Rattle.dbp_answers.specs.declared.command_code.CommandCode.TheVariants.{Cycle}
+use Rattle.dbp_answers.specs.declared.refusal.Refusal.TheVariants.{Document, Script, Illegal, OfCommand}
 use Rattle.dbp_answers.specs.declared.status.Status.{Status}
 use Rattle.dbp_answers.specs.declared.status.Status.TheVariants as status
 use Rattle.dbp_answers.specs.declared.stop.Stop.{Stop}
@@ -39,6 +43,15 @@ stop_of_script script.NoMemory = NoMemory
 abbrev pub stop_of_replay : ReplayFail → Stop
 stop_of_replay (replay.Illegal step why) = Refused (Illegal step why)
 stop_of_replay replay.NoMemory = NoMemory
+
+abbrev pub stop_of_ranking : RankFail → Stop
+stop_of_ranking (rank.Cycle names) = Refused (OfCommand (Cycle names))
+stop_of_ranking rank.NoMemory = NoMemory
+
+-- without a code memory ran out
+abbrev pub stop_of_code : Option CommandCode → Stop
+stop_of_code (Some code) = Refused (OfCommand code)
+stop_of_code None = NoMemory
 
 -- the stop says the first fault of the text's document; out of memory says nothing
 abbrev pub IsFaultOf : List ℕ → Stop → Type 0

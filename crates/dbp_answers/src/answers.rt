@@ -3,38 +3,38 @@
 ghost use Rattle.std.specs.Prelude.{◌≡◌, ◌≤◌, ℕ, Bool, true, List as Items, length, Err, IfErr, IfOk, None};
 ghost use Rattle.dbp_plan.specs.declared.limits.TheConstants.{MAX_TEXT};
 ghost use Rattle.trace_io.specs.Texts.{Accepts};
-ghost use Rattle.virtual_sim.specs.Outcomes.{IsSimFail};
 ghost use Rattle.rta_check.specs.Bounds.{IsRtaFail};
 ghost use Rattle.dbp_replay.specs.declared.fail.ScriptCode.TheVariants.{NoScript};
 ghost use Rattle.dia_read.specs.Printable.{HasItemLines, IsPrintable};
 ghost use Rattle.dia_read.specs.declared.document.Doc.{Doc as Document};
 ghost use Rattle.dbp_answers.specs.Answer.{Answers, Makes, PlanText};
-ghost use Rattle.dbp_answers.specs.Commands.{a_replay, a_simulation, count_of, reads_input, serves_plain};
+ghost use Rattle.dbp_answers.specs.Commands.{a_replay, count_of, reads_input, serves_plain};
 ghost use Rattle.dbp_answers.specs.Stops.{IsStopOf, status_of_stop};
 ghost use Rattle.dbp_answers.specs.declared.command.Command.{Command as Named};
 ghost use Rattle.dbp_answers.specs.declared.refusal.Refusal.TheVariants.{Script};
 ghost use Rattle.dbp_answers.specs.declared.stop.Stop.TheVariants.{Refused};
-ghost use Rattle.dbp_answers.specs.declared.command.Command.TheVariants.{Mean, Form, Plan as Slots, Replay, Rta, Sim, Upgrade};
+ghost use Rattle.dbp_answers.specs.declared.command.Command.TheVariants.{Mean, Form, Plan as Slots, Replay, Rta, Upgrade};
 
 use crate::Status;
 use crate::bound_lines::bound_lines;
 use crate::command::Command;
 use crate::command_code::CommandCode;
-use crate::overrun_line::overrun_after;
 use crate::plan::{accepted, plan_of};
+use crate::processors::Processors;
+use crate::ranking::ranked_text_of;
 use crate::refusal::{Refusal, refusal_line};
+use crate::scenarios::scenario_of;
+use crate::simulations::simulation_of;
 use crate::slot_lines::slot_lines;
 use crate::stop::Stop;
 use dbp_core::Count;
 use dbp_plan::{NoMemory, Plan};
-use dbp_replay::{print_script, read_script, replay_owned};
+use dbp_replay::{read_script, replay_owned};
 use dia_read::{Doc, an_upgraded_body_can_be_printed, print_doc, read_doc, upgrade};
 use rta_check::{RtaFail, rta};
 use std::alloc::Global;
-use std::rc::Rc;
 use sync_meaning::mean;
 use trace_io::lines;
-use virtual_sim::{SimFail, simulate_shared, simulate_table_shared};
 
 /// The status and the text of a command that reads the input and runs no tasks. Out of memory is no answer.
 pub fn answer(alloc: Global, command: Command, input: &[u8]) -> Result<(Status, Vec<u8>), NoMemory>
@@ -73,12 +73,17 @@ fn text_of(alloc: Global, command: Command, input: &[u8]) -> Result<Vec<u8>, Sto
 {
     match command {
         Command::Mean => meaning_of(alloc, input),
-        Command::Sim { record_it } => simulation_of(alloc, record_it, input),
+        Command::Sim { record_it } => simulation_of(alloc, Processors::One, record_it, input),
+        Command::Cpus { record_it } => {
+            simulation_of(alloc, Processors::Declared, record_it, input)
+        }
         Command::Run { .. } | Command::Gen { .. } | Command::Soak { .. } => unreachable!(),
         Command::Form => form_of(alloc, input),
         Command::Upgrade => upgrade_of(alloc, input),
+        Command::Rank => ranked_text_of(alloc, input),
         Command::Plan => slots_of(alloc, input),
         Command::Rta => response_times_of(alloc, input),
+        Command::Need { task } => scenario_of(alloc, &task, input),
         Command::Replay { ranked } => replay_of(alloc, ranked, input),
     }
 }
@@ -92,69 +97,6 @@ fn meaning_of(alloc: Global, input: &[u8]) -> Result<Vec<u8>, Stop>
     let plan = plan_of(alloc, input)?;
     let table = mean(alloc, &plan)?;
     Ok(lines(alloc, &plan, &table)?)
-}
-
-// What the simulation of the input's plan writes.
-fn simulation_of(alloc: Global, record_it: bool, input: &[u8]) -> Result<Vec<u8>, Stop>
-    requires { length input.now ≤ MAX_TEXT }
-    ensures text { IfOk result (λ text. Makes input.now (Sim record_it) text.items) }
-    ensures stop { IfErr result (λ stop. IsStopOf input.now (Sim record_it) stop) }
-{
-    let plan = plan_of(alloc, input)?;
-    let shared = shared_plan(alloc, plan)?;
-    let text = simulation_text(alloc, record_it, &shared)?;
-    Ok(text)
-}
-
-// The plan, so that it can be shared.
-fn shared_plan(alloc: Global, plan: Plan) -> Result<Rc<Plan>, NoMemory>
-    ensures { IfOk result (λ shared. shared.value ≡ plan) }
-{
-    Ok(Rc::new(alloc, plan)?)
-}
-
-// What the simulation of the plan writes: the steps of its record, or the lines of its table.
-fn simulation_text(alloc: Global, record_it: bool, shared: &Rc<Plan>) -> Result<Vec<u8>, Stop>
-    ensures text { IfOk result
-        (λ text. (doc : Document) → PlanText doc shared.now.value (a_simulation record_it) text.items) }
-    ensures stop { IfErr result
-        (λ stop. (input : Items ℕ) → Accepts input shared.now.value
-        → IsStopOf input (Sim record_it) stop) }
-{
-    let plan: &Plan = shared;
-    if record_it {
-        match simulate_shared(alloc, shared) {
-            Ok(run) => Ok(print_script(alloc, &plan.diagram, &run.script)?),
-            Err(fail) => Err(stop_of(alloc, plan, fail)),
-        }
-    } else {
-        match simulate_table_shared(alloc, shared) {
-            Ok(table) => Ok(lines(alloc, plan, &table)?),
-            Err(fail) => Err(stop_of(alloc, plan, fail)),
-        }
-    }
-}
-
-// Why the simulation of the plan has no text.
-fn stop_of(alloc: Global, plan: &Plan, fail: SimFail) -> Stop
-    requires { IsSimFail plan.now fail }
-    ensures { (input : Items ℕ) (record_it : Bool) → Accepts input plan.now
-        → IsStopOf input (Sim record_it) result }
-{
-    match fail {
-        SimFail::Overrun {
-            task,
-            instance,
-            time,
-        } => {
-            let name = plan.diagram.tasks.items()[task as usize].name.bytes();
-            match overrun_after(alloc, b"overrun: ", name, instance, time) {
-                Ok(line) => Stop::Overrun(line),
-                Err(_) => Stop::NoMemory,
-            }
-        }
-        SimFail::NoMemory => Stop::NoMemory,
-    }
 }
 
 // The canonical text of the input's document.

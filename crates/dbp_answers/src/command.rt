@@ -1,5 +1,7 @@
 // The commands.
 
+use dbp_plan::Name;
+
 /// What the program is to do.
 #[derive(Clone, Copy, Debug, PartialEq, Eq)]
 pub enum Command {
@@ -7,6 +9,12 @@ pub enum Command {
     Mean,
     /// Simulates the plan in virtual time, and writes the lines of the table or the steps of the record.
     Sim {
+        /// The steps.
+        record_it: bool,
+    },
+    /// Simulates the plan in virtual time on the processors of its tasks, and writes the lines of the table or the steps of
+    /// the record.
+    Cpus {
         /// The steps.
         record_it: bool,
     },
@@ -19,10 +27,17 @@ pub enum Command {
     Form,
     /// Writes the canonical text in version 2 of the language.
     Upgrade,
+    /// Writes the canonical text with priorities from the links.
+    Rank,
     /// Writes the slots of each task.
     Plan,
     /// Writes the response time of each task.
     Rta,
+    /// Writes the document of a scenario in which all slots of a task are in use at once.
+    Need {
+        /// The name of the task.
+        task: Name,
+    },
     /// Takes the steps of the script, and writes what each hears: in any order of the tasks, or by their ranks.
     Replay {
         /// By their ranks.

@@ -1,13 +1,13 @@
 // The line that says why a text is refused, or why its script can't be replayed.
 
 ghost use Rattle.std.specs.Prelude.{◌≡◌, ◌++◌, codes, decimal, IfOk, OnOk};
+ghost use Rattle.std.specs.List.{flat_map};
 ghost use Rattle.trace_io.specs.declared.code.Code.TheVariants.{Reading};
-ghost use Rattle.dbp_answers.specs.CommandCodes.{words_after};
 ghost use Rattle.dbp_answers.specs.Refusals.{broken_text, code_text, numbered_name, refusal_line, refusal_text};
 
 use crate::command_code::CommandCode;
 use dbp_core::{Broken, Illegal};
-use dbp_plan::NoMemory;
+use dbp_plan::{Name, NoMemory};
 use dbp_replay::ScriptCode;
 use dia_read::ReadCode;
 use itoa::Buffer;
@@ -72,7 +72,7 @@ fn push_refusal(text: &mut Vec<u8>, refusal: &Refusal) -> Result<(), NoMemory>
         Refusal::OfCommand(code) => {
             text.extend_from_slice(b"refused: ")?;
             push_name(text, code.number(), code.name())?;
-            push_words_after(text, code)
+            push_names(text, code.tasks())
         }
     }
 }
@@ -128,13 +128,14 @@ fn push_name(text: &mut Vec<u8>, number: u32, name: &str) -> Result<(), NoMemory
     Ok(())
 }
 
-// Adds what stands after the code's name.
-fn push_words_after(text: &mut Vec<u8>, code: &CommandCode) -> Result<(), NoMemory>
-    ensures { OnOk result (text.new.items ≡ text.old.items ++ words_after code.now) }
+// Adds the names, each after a space.
+fn push_names(text: &mut Vec<u8>, names: &[Name]) -> Result<(), NoMemory>
+    ensures { OnOk result (text.new.items
+        ≡ text.old.items ++ flat_map (λ name. codes " " ++ name) names.now) }
 {
-    if let CommandCode::NotPeriodic { task } = code {
+    for name in names {
         text.push(b' ')?;
-        text.extend_from_slice(task.bytes())?;
+        text.extend_from_slice(name.bytes())?;
     }
     Ok(())
 }

@@ -2,11 +2,13 @@
 
 ghost use Rattle.std.specs.Prelude.{◌≡◌};
 
+use crate::command_code::CommandCode;
 use crate::refusal::Refusal;
 use dbp_plan::NoMemory;
 use dbp_replay::{ReplayFail, ScriptFail};
 use dia_check::CheckFail;
 use dia_read::ReadFail;
+use rank_find::RankFail;
 use trace_io::{Code, TraceFail};
 
 /// Why a command makes no text of an input.
@@ -74,6 +76,21 @@ impl From<TraceFail> for Stop {
                 code: Code::Tracing(code),
             }),
             TraceFail::NoMemory => Stop::NoMemory,
+        }
+    }
+}
+
+impl From<RankFail> for Stop {
+    ghost use Rattle.dbp_answers.specs.Stops.{stop_of_ranking};
+
+    ghost from_gives = { λ fail stop. stop ≡ stop_of_ranking fail };
+
+    fn from(fail: RankFail) -> Self {
+        match fail {
+            RankFail::Cycle { names } => {
+                Stop::Refused(Refusal::OfCommand(CommandCode::Cycle { tasks: names }))
+            }
+            RankFail::NoMemory => Stop::NoMemory,
         }
     }
 }

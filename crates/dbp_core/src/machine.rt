@@ -38,7 +38,7 @@ impl Core {
     ghost use Rattle.sync_meaning.specs.Meaning.{IsMeaning};
     ghost use Rattle.release_list.specs.declared.release.Release.TheVariants.{Aim as AimOf};
     ghost use Rattle.dbp_core.specs.Cores.{count_in, plan_in, state_in, wiring_in};
-    ghost use Rattle.dbp_rules.specs.Lookups.{task as state_of, task_entry};
+    ghost use Rattle.dbp_rules.specs.Lookups.{link_entry, task as state_of, task_entry};
     ghost use Rattle.dbp_rules.specs.Promises.{IsLeastAim};
     ghost use Rattle.dbp_rules.specs.Rules.{IsNamed, IsStep, refusal};
     ghost use Rattle.dbp_rules.specs.SoundParts.{last_shut};
@@ -114,6 +114,16 @@ impl Core {
         ensures { IsLeastAim (wiring_in self.now) (state_in self.now) task result }
     {
         self.state.releaser.least_aim(&self.wiring, task)
+    }
+
+    /// The number of the row that the link's last claim is for; 0 before the first claim, and while it is for the first
+    /// values. It takes no memory.
+    #[inline(always)]
+    pub fn claimed_number(&self, link: u32) -> u32
+        requires { link < length (plan_in self.now).diagram.links }
+        ensures { result ≡ (link_entry (state_in self.now) link).number }
+    {
+        self.state.releaser.claim_over(link).number
     }
 
     /// The plan.

@@ -83,7 +83,7 @@ linked d i delay n (Some w) there below e =
     let parts = link-parts w i delay (link_at d.links n) passes in
     (subst (λ (k : ℕ). k < length d.links) both.0 both.1, subst (λ (k : ℕ). k < length d.tasks) (sym parts.1) below, subst (λ (k : ℕ). k < length d.tasks) (sym parts.0) (there w refl))
 
-named-below : (d : Diagram) (name : List ℕ) (i : ℕ) → task_named d name ≡ Some i → i < length d.tasks
+pub named-below : (d : Diagram) (name : List ℕ) (i : ℕ) → task_named d name ≡ Some i → i < length d.tasks
 named-below d name i e = within-below (length d.tasks) (position_or_len (λ t. bytes_eq t.name name) d.tasks) i e
 
 there : (d : Diagram) (kind : StepKind) (i n : ℕ) (o : Operand) → i < length d.tasks → Fits (form_of kind).1 o → number_of d i o ≡ Some n → IsThere d (step_with kind i n)

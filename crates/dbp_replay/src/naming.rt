@@ -78,8 +78,8 @@ fn number_of(diagram: &Diagram, i: u32, operand: Operand) -> Option<u32>
     }
 }
 
-/// The first task with the name.
-fn task_named(diagram: &Diagram, name: &Name) -> Option<u32>
+/// The number of the first task with the name, from 0.
+pub fn task_named(diagram: &Diagram, name: &Name) -> Option<u32>
     ensures { result ≡ task_named diagram.now name.now }
 {
     let tasks = diagram.tasks.items();

@@ -6,12 +6,12 @@ use Rattle.std.specs.declared.alloc.Global.{Global}
 use Rattle.std.specs.declared.string.String.{String}
 use Rattle.std.proofs.lemmas.Bool.{and_parts}
 use Rattle.std.proofs.lemmas.List.{length-map}
-use Rattle.std.proofs.lemmas.Option.{slice_get-map, slice_get-get_or, slice_get_within}
-use Rattle.dbp_top.specs.Commands.{HasAllCommands, CommandRow, Names, by_row, command_list, command_table, first_numbers, row_of, with_numbers}
+use Rattle.std.proofs.lemmas.Option.{same_Some, slice_get-map, slice_get-get_or, slice_get_within}
+use Rattle.dbp_top.specs.Commands.{HasAllCommands, CommandRow, Names, by_row, command_list, command_table, first_operands, made, row_of}
 use Rattle.dbp_top.specs.Patterns.{AllFit, listed_forms}
 use Rattle.dbp_answers.specs.declared.command.Command.{Command}
-use Rattle.dbp_answers.specs.declared.command.Command.TheVariants.{Mean}
-use Rattle.dbp_top.specs.declared.numbers.Numbers.{Numbers}
+use Rattle.dbp_top.specs.declared.operands.Maker.TheVariants as maker
+use Rattle.dbp_top.specs.declared.operands.Operands.{Operands}
 use Rattle.dbp_top.specs.declared.table.Row.{Row}
 use Rattle.dbp_top.proofs.WordForms.{all-fit-once, are_apart, not-both}
 
@@ -25,7 +25,7 @@ all-at p [] k m all at = absurd cc
 all-at p (l ∷ ls) zero m all at = let same : l ≡ m = cc in subst (λ (n : CommandRow). p n ≡ true) same (and_parts (p l) (list_all p ls) all).0
 all-at p (l ∷ ls) (suc k) m all at = all-at p ls k m (and_parts (p l) (list_all p ls) all).1 at
 
-pub one-row : (ls : List CommandRow) (k j : ℕ) (l m : CommandRow) (ws : List (List ℕ)) (b x y : Numbers) → are_distinct ls ≡ true → slice_get ls k ≡ Some l → slice_get ls j ≡ Some m
+pub one-row : (ls : List CommandRow) (k j : ℕ) (l m : CommandRow) (ws : List (List ℕ)) (b x y : Operands) → are_distinct ls ≡ true → slice_get ls k ≡ Some l → slice_get ls j ≡ Some m
     → AllFit l.0 ws b x → AllFit m.0 ws b y → l ≡ m
 one-row [] k j l m ws b x y distinct at here fit other = absurd cc
 one-row (n ∷ ls) zero zero l m ws b x y distinct at here fit other = cc
@@ -41,11 +41,11 @@ one-row (n ∷ ls) (suc k) (suc j) l m ws b x y distinct at here fit other =
     one-row ls k j l m ws b x y (and_parts (list_all (λ m. are_apart n.0 m.0) ls) (are_distinct ls) distinct).1 at here fit other
 
 pub one-command : (words : List (String Global)) (c d : Command) → Names words c → Names words d → c ≡ d
-one-command words c d (by_row k l x at fit) (by_row j m y here other) =
+one-command words c d (by_row k l _ at (x, fit, makes)) (by_row j m _ here (y, other, also)) =
     let ws : List (List ℕ) = map (λ (w : String Global). string_bytes w) words in
-    let same : l ≡ m = one-row command_table k j l m ws first_numbers x y refl at here fit other in
-    let given : x ≡ y = all-fit-once m.0 ws first_numbers x y (subst (λ (z : CommandRow). AllFit z.0 ws first_numbers x) same fit) other in
-    λ i. with_numbers (same i).1 (given i)
+    let same : l ≡ m = one-row command_table k j l m ws first_operands x y refl at here fit other in
+    let given : x ≡ y = all-fit-once m.0 ws first_operands x y (subst (λ (z : CommandRow). AllFit z.0 ws first_operands x) same fit) other in
+    same_Some c d (sym makes ∙ (λ i. made (same i).1 (given i)) ∙ also)
 
 -- ---- the rows
 
@@ -76,4 +76,4 @@ all-listed rows all =
 
 -- what stands for a row if there is none
 abbrev pub no_row : Row
-no_row = record { patterns = record { ref_ptr = (0, 0); now = [] }; command = Mean }
+no_row = record { patterns = record { ref_ptr = (0, 0); now = [] }; maker = maker.Mean }

@@ -1,62 +1,85 @@
 -- The commands, and the words that name them.
-use Rattle.std.specs.Prelude.{◌≡◌, ℕ, Bool, true, false, Some, None, List, [], ◌∷◌, map, codes, slice_get, string_bytes}
+use Rattle.std.specs.Prelude.{◌≡◌, ℕ, Bool, true, false, Option, Some, None, List, [], ◌∷◌, map, codes, slice_get, string_bytes}
 use Rattle.std.specs.List.{flat_map}
+use Rattle.std.specs.Option.{option_map}
 use Rattle.std.specs.declared.alloc.Global.{Global}
 use Rattle.std.specs.declared.string.String.{String}
 use Rattle.dbp_answers.specs.declared.command.Command.{Command}
-use Rattle.dbp_answers.specs.declared.command.Command.TheVariants.{Gen, Mean, Form, Plan, Replay, Rta, Run, Sim, Soak, Upgrade}
-use Rattle.dbp_top.specs.declared.numbers.Numbers.{Numbers}
+use Rattle.dbp_answers.specs.declared.command.Command.TheVariants.{Cpus, Gen, Mean, Form, Need, Plan, Rank, Replay, Rta, Run, Sim, Soak, Upgrade}
+use Rattle.dbp_top.specs.declared.operands.Maker.{Maker}
+use Rattle.dbp_top.specs.declared.operands.Maker.TheVariants as maker
+use Rattle.dbp_top.specs.declared.operands.Operands.{Operands}
 use Rattle.dbp_top.specs.declared.table.Row.{Row}
-use Rattle.dbp_top.specs.Patterns.{AllFit, WordForm, form_of, listed_forms, number, size, word}
+use Rattle.dbp_top.specs.Patterns.{AllFit, WordForm, form_of, listed_forms, name, number, size, word}
 
--- the forms of a command's words, and the command; the numbers of the words take the place of those that it has
+-- the forms of a command's words, and what makes the command of the operands among them
 abbrev pub CommandRow : Type 0
-CommandRow = List WordForm × Command
+CommandRow = List WordForm × Maker
 
 -- all commands, in the order in which they are listed
 abbrev pub command_table : List CommandRow
 command_table =
-    (word (codes "mean") ∷ [], Mean)
-    ∷ (word (codes "sim") ∷ [], Sim false)
-    ∷ (word (codes "sim") ∷ word (codes "--record") ∷ [], Sim true)
-    ∷ (word (codes "run") ∷ [], Run None)
-    ∷ (word (codes "run") ∷ word (codes "--turns") ∷ number [] ∷ [], Run (Some 0))
-    ∷ (word (codes "run") ∷ number (codes "--turns=") ∷ [], Run (Some 0))
-    ∷ (word (codes "form") ∷ [], Form)
-    ∷ (word (codes "upgrade") ∷ [], Upgrade)
-    ∷ (word (codes "plan") ∷ [], Plan)
-    ∷ (word (codes "rta") ∷ [], Rta)
-    ∷ (word (codes "replay") ∷ [], Replay false)
-    ∷ (word (codes "replay") ∷ word (codes "--ranked") ∷ [], Replay true)
-    ∷ (word (codes "gen") ∷ number [] ∷ [], Gen 0 8)
-    ∷ (word (codes "gen") ∷ number [] ∷ size ∷ [], Gen 0 8)
-    ∷ (word (codes "soak") ∷ number [] ∷ [], Soak 0 8)
-    ∷ (word (codes "soak") ∷ number [] ∷ size ∷ [], Soak 0 8)
+    (word (codes "mean") ∷ [], maker.Mean)
+    ∷ (word (codes "sim") ∷ [], maker.Sim)
+    ∷ (word (codes "sim") ∷ word (codes "--record") ∷ [], maker.SimRecord)
+    ∷ (word (codes "cpus") ∷ [], maker.Cpus)
+    ∷ (word (codes "cpus") ∷ word (codes "--record") ∷ [], maker.CpusRecord)
+    ∷ (word (codes "run") ∷ [], maker.Run)
+    ∷ (word (codes "run") ∷ word (codes "--turns") ∷ number [] ∷ [], maker.RunTurns)
+    ∷ (word (codes "run") ∷ number (codes "--turns=") ∷ [], maker.RunTurns)
+    ∷ (word (codes "form") ∷ [], maker.Form)
+    ∷ (word (codes "upgrade") ∷ [], maker.Upgrade)
+    ∷ (word (codes "rank") ∷ [], maker.Rank)
+    ∷ (word (codes "plan") ∷ [], maker.Plan)
+    ∷ (word (codes "rta") ∷ [], maker.Rta)
+    ∷ (word (codes "need") ∷ name ∷ [], maker.Need)
+    ∷ (word (codes "replay") ∷ [], maker.Replay)
+    ∷ (word (codes "replay") ∷ word (codes "--ranked") ∷ [], maker.ReplayRanked)
+    ∷ (word (codes "gen") ∷ number [] ∷ [], maker.Gen)
+    ∷ (word (codes "gen") ∷ number [] ∷ size ∷ [], maker.Gen)
+    ∷ (word (codes "soak") ∷ number [] ∷ [], maker.Soak)
+    ∷ (word (codes "soak") ∷ number [] ∷ size ∷ [], maker.Soak)
     ∷ []
 
--- the command with these numbers in the place of its own
-abbrev pub with_numbers : Command → Numbers → Command
-with_numbers (Run (Some turns)) given = Run (Some given.number)
-with_numbers (Gen seed size_of) given = Gen given.number given.size
-with_numbers (Soak seed size_of) given = Soak given.number given.size
-with_numbers command given = command
+-- the command that is made of the operands: none if it wants a name that isn't given
+abbrev pub made : Maker → Operands → Option Command
+made maker.Mean given = Some Mean
+made maker.Sim given = Some (Sim false)
+made maker.SimRecord given = Some (Sim true)
+made maker.Cpus given = Some (Cpus false)
+made maker.CpusRecord given = Some (Cpus true)
+made maker.Run given = Some (Run None)
+made maker.RunTurns given = Some (Run (Some given.number))
+made maker.Form given = Some Form
+made maker.Upgrade given = Some Upgrade
+made maker.Rank given = Some Rank
+made maker.Plan given = Some Plan
+made maker.Rta given = Some Rta
+made maker.Need given = option_map (λ task. Need task) given.name
+made maker.Replay given = Some (Replay false)
+made maker.ReplayRanked given = Some (Replay true)
+made maker.Gen given = Some (Gen given.number given.size)
+made maker.Soak given = Some (Soak given.number given.size)
 
 -- what is given before the first word: a size that isn't said is 8
-abbrev pub first_numbers : Numbers
-first_numbers = record { number = 0; size = 8 }
+abbrev pub first_operands : Operands
+first_operands = record { number = 0; size = 8; name = None }
 
 -- the row of this table that a row of the code is
 abbrev pub row_of : Row → CommandRow
-row_of row = (map form_of row.patterns.now, row.command)
+row_of row = (map form_of row.patterns.now, row.maker)
 
 -- the rows of the code are this table
 abbrev pub HasAllCommands : List Row → Type 0
 HasAllCommands rows = map row_of rows ≡ command_table
 
--- the words name the command: each is of its form in a row of the table, and the command has their numbers
+-- the words name the command by the row: each is of its form, and it is made of their operands
+abbrev pub NamesBy : CommandRow → List (String Global) → Command → Type 0
+NamesBy row words command = (given : Operands) × AllFit row.0 (map (λ w. string_bytes w) words) first_operands given × (made row.1 given ≡ Some command)
+
+-- they name it by a row of the table
 pub data Names (words : List (String Global)) : Command → Type 0 where
-  by_row : (k : ℕ) (row : CommandRow) (given : Numbers) → slice_get command_table k ≡ Some row
-      → AllFit row.0 (map (λ w. string_bytes w) words) first_numbers given → Names words (with_numbers row.1 given)
+  by_row : (k : ℕ) (row : CommandRow) (command : Command) → slice_get command_table k ≡ Some row → NamesBy row words command → Names words command
 
 -- ---- who serves a command
 

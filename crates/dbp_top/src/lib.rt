@@ -10,7 +10,7 @@
 
 mod laws;
 mod notes;
-mod numbers;
+mod operands;
 mod outside;
 mod pattern;
 mod run;

@@ -1,11 +1,12 @@
-// What may stand where a command has a word, and the numbers in words.
+// What may stand where a command has a word, and the operands in words.
 
 ghost use Rattle.std.specs.Prelude.{◌≡◌, ◌↔◌, ℕ, Some};
 ghost use Rattle.std.specs.Str.Parse.{digits_value};
 ghost use Rattle.dbp_top.specs.Patterns.{Fits, IsNumber, IsSize, form_of};
-ghost use Rattle.dbp_top.specs.declared.numbers.Numbers.{Numbers as Given};
+ghost use Rattle.dbp_top.specs.declared.operands.Operands.{Operands as Given};
 
-use crate::numbers::Numbers;
+use crate::operands::Operands;
+use dbp_plan::Name;
 
 /// What may stand where a command has a word.
 pub(crate) enum Pattern {
@@ -15,22 +16,31 @@ pub(crate) enum Pattern {
     Number(&'static str),
     /// A size.
     Size,
+    /// The name of a task.
+    Name,
 }
 
-/// The numbers that are known after the word, if it fits the pattern.
-pub(crate) fn after_word(pattern: &Pattern, word: &str, numbers: Numbers) -> Option<Numbers>
+/// The operands that are known after the word, if it fits the pattern.
+pub(crate) fn after_word(pattern: &Pattern, word: &str, operands: Operands) -> Option<Operands>
     ensures { (after : Given) → result ≡ Some after
-        ↔ Fits (form_of pattern.now) word.now numbers after }
+        ↔ Fits (form_of pattern.now) word.now operands after }
 {
     match pattern {
-        Pattern::Word(text) => { if word == *text { Some(numbers) } else { None } }
+        Pattern::Word(text) => { if word == *text { Some(operands) } else { None } }
         Pattern::Number(prefix) => {
             let number = number_in(word.strip_prefix(*prefix)?)?;
-            Some(Numbers { number, ..numbers })
+            Some(Operands { number, ..operands })
         }
         Pattern::Size => {
             let size = size_in(word)?;
-            Some(Numbers { size, ..numbers })
+            Some(Operands { size, ..operands })
+        }
+        Pattern::Name => {
+            let name = Name::of(word.as_bytes())?;
+            Some(Operands {
+                name: Some(name),
+                ..operands
+            })
         }
     }
 }

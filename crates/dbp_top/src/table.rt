@@ -1,41 +1,48 @@
 // The table of commands: the words that name each.
 
 ghost use Rattle.std.specs.Prelude.{◌≡◌, ◌++◌, ◌↔◌, List as Items, ℕ, Some, map, string_bytes, IfOk, OnOk};
-ghost use Rattle.dbp_top.specs.Commands.{HasAllCommands, Names, command_list, first_numbers};
+ghost use Rattle.dbp_top.specs.Commands.{HasAllCommands, Names, NamesBy, command_list, first_operands, row_of};
 ghost use Rattle.dbp_top.specs.Patterns.{AllFit, form_of, listed_forms, form_text};
 ghost use Rattle.dbp_answers.specs.declared.command.Command.{Command as Named};
-ghost use Rattle.dbp_top.specs.declared.numbers.Numbers.{Numbers as Given};
+ghost use Rattle.dbp_top.specs.declared.operands.Operands.{Operands as Given};
 
-use crate::numbers::{Numbers, with_numbers};
+use crate::operands::{Maker, Operands, made};
 use crate::pattern::{Pattern, after_word};
 use dbp_answers::Command;
 use dbp_plan::NoMemory;
 use std::alloc::Global;
 
-// A command, and what its words are.
+// What the words of a command are, and what makes it of the operands among them.
 struct Row {
     patterns: &'static [Pattern],
-    command: Command,
+    maker: Maker,
 }
 
-// All commands. What a user reads of them is made of this table too. The numbers of a command's words stand in the
-// place of those that it has here.
-static ROWS: [Row; 16] = [
+// All commands. What a user reads of them is made of this table too.
+static ROWS: [Row; 20] = [
     Row {
         patterns: &[Pattern::Word("mean")],
-        command: Command::Mean,
+        maker: Maker::Mean,
     },
     Row {
         patterns: &[Pattern::Word("sim")],
-        command: Command::Sim { record_it: false },
+        maker: Maker::Sim,
     },
     Row {
         patterns: &[Pattern::Word("sim"), Pattern::Word("--record")],
-        command: Command::Sim { record_it: true },
+        maker: Maker::SimRecord,
+    },
+    Row {
+        patterns: &[Pattern::Word("cpus")],
+        maker: Maker::Cpus,
+    },
+    Row {
+        patterns: &[Pattern::Word("cpus"), Pattern::Word("--record")],
+        maker: Maker::CpusRecord,
     },
     Row {
         patterns: &[Pattern::Word("run")],
-        command: Command::Run { turns: None },
+        maker: Maker::Run,
     },
     Row {
         patterns: &[
@@ -43,51 +50,59 @@ static ROWS: [Row; 16] = [
             Pattern::Word("--turns"),
             Pattern::Number(""),
         ],
-        command: Command::Run { turns: Some(0) },
+        maker: Maker::RunTurns,
     },
     Row {
         patterns: &[Pattern::Word("run"), Pattern::Number("--turns=")],
-        command: Command::Run { turns: Some(0) },
+        maker: Maker::RunTurns,
     },
     Row {
         patterns: &[Pattern::Word("form")],
-        command: Command::Form,
+        maker: Maker::Form,
     },
     Row {
         patterns: &[Pattern::Word("upgrade")],
-        command: Command::Upgrade,
+        maker: Maker::Upgrade,
+    },
+    Row {
+        patterns: &[Pattern::Word("rank")],
+        maker: Maker::Rank,
     },
     Row {
         patterns: &[Pattern::Word("plan")],
-        command: Command::Plan,
+        maker: Maker::Plan,
     },
     Row {
         patterns: &[Pattern::Word("rta")],
-        command: Command::Rta,
+        maker: Maker::Rta,
+    },
+    Row {
+        patterns: &[Pattern::Word("need"), Pattern::Name],
+        maker: Maker::Need,
     },
     Row {
         patterns: &[Pattern::Word("replay")],
-        command: Command::Replay { ranked: false },
+        maker: Maker::Replay,
     },
     Row {
         patterns: &[Pattern::Word("replay"), Pattern::Word("--ranked")],
-        command: Command::Replay { ranked: true },
+        maker: Maker::ReplayRanked,
     },
     Row {
         patterns: &[Pattern::Word("gen"), Pattern::Number("")],
-        command: Command::Gen { seed: 0, size: 8 },
+        maker: Maker::Gen,
     },
     Row {
         patterns: &[Pattern::Word("gen"), Pattern::Number(""), Pattern::Size],
-        command: Command::Gen { seed: 0, size: 8 },
+        maker: Maker::Gen,
     },
     Row {
         patterns: &[Pattern::Word("soak"), Pattern::Number("")],
-        command: Command::Soak { seed: 0, size: 8 },
+        maker: Maker::Soak,
     },
     Row {
         patterns: &[Pattern::Word("soak"), Pattern::Number(""), Pattern::Size],
-        command: Command::Soak { seed: 0, size: 8 },
+        maker: Maker::Soak,
     },
 ];
 
@@ -103,31 +118,46 @@ pub fn command_of(words: &[String]) -> Option<Command>
     ensures { (command : Named) → result ≡ Some command ↔ Names words.now command }
 {
     for row in rows() {
-        if let Some(numbers) = numbers_in(row.patterns, words) {
-            return Some(with_numbers(row.command, numbers));
+        if let Some(command) = command_by(row, words) {
+            return Some(command);
         }
     }
     None
 }
 
-// The numbers in the words, if each fits its pattern.
-fn numbers_in(patterns: &[Pattern], words: &[String]) -> Option<Numbers>
+// The command that the words name by this row.
+fn command_by(row: &Row, words: &[String]) -> Option<Command>
+    ensures { (command : Named) → result ≡ Some command ↔ NamesBy (row_of row.now) words.now command }
+{
+    match operands_in(row.patterns, words) {
+        Some(given) => made(row.maker, given),
+        None => None,
+    }
+}
+
+// The operands in the words, if each word fits its pattern.
+fn operands_in(patterns: &[Pattern], words: &[String]) -> Option<Operands>
     ensures { (given : Given) → result ≡ Some given
         ↔ AllFit (map form_of patterns.now)
-        (map (λ w. string_bytes w) words.now) first_numbers given }
+        (map (λ w. string_bytes w) words.now) first_operands given }
 {
     if patterns.len() != words.len() {
         return None;
     }
     // a size that isn't said
-    let mut numbers = Numbers { number: 0, size: 8 };
+    let mut operands = Operands {
+        number: 0,
+        size: 8,
+        name: None,
+    };
     for (place, pattern) in patterns.iter().enumerate() {
-        numbers = after_word(pattern, words[place].as_str(), numbers)?;
+        operands = after_word(pattern, words[place].as_str(), operands)?;
     }
-    Some(numbers)
+    Some(operands)
 }
 
-/// The words of each command, a line for each row of the table of commands. Numbers stand there as N, sizes as SIZE.
+/// The words of each command, a line for each row of the table of commands. Numbers stand there as N, sizes as SIZE, names
+/// as TASK.
 pub fn command_lines(alloc: Global) -> Result<String, NoMemory>
     ensures { IfOk result (λ text. string_bytes text ≡ command_list) }
 {
@@ -164,5 +194,6 @@ fn push_pattern(text: &mut String, pattern: &Pattern) -> Result<(), NoMemory>
             Ok(text.push_str("N")?)
         }
         Pattern::Size => Ok(text.push_str("SIZE")?),
+        Pattern::Name => Ok(text.push_str("TASK")?),
     }
 }

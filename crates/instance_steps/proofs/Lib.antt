@@ -14,3 +14,4 @@ pub mod AimedTasks
 pub mod ClaimedLinks
 pub mod OpenedGates
 pub mod Released
+pub mod ReleasedPlaces

@@ -14,3 +14,4 @@ pub mod Concerns
 pub mod Ends
 pub mod EachPlace
 pub mod DrawnRounds
+pub mod Rounds

@@ -1,5 +1,5 @@
--- What a crew makes of a party: a job of one round, and so many turns.
-use Rattle.std.specs.Prelude.{◌≡◌, ◌⊎◌, ℕ, ◌+◌, ◌<◌, List, length, slice_index_or}
+-- What a crew makes of a party: a job of one round, and so many turns. And the rounds of a crew of threads.
+use Rattle.std.specs.Prelude.{◌≡◌, ◌⊎◌, ℕ, ◌+◌, ◌<◌, List, length, All, slice_index_or}
 use Rattle.dbp_plan.specs.Calls.{one_more}
 use Rattle.word_rule.specs.declared.seats.SlotWords.{SlotWords}
 use Rattle.party_exec.specs.Parties.{HasFinished, IsTurn}
@@ -56,6 +56,18 @@ pub record IsJob (w : SlotWords) (p q : Party) : Type 0 where
 -- a job of each party
 abbrev pub AreJobs : SlotWords → List Party → List Party → Type 0
 AreJobs w ps qs = (k : ℕ) (d : Party) → k < length ps → IsJob w (slice_index_or ps k d) (slice_index_or qs k d)
+
+-- ---- rounds
+
+-- a round: a job of each party
+pub record IsRound (w : SlotWords) (ps qs : List Party) : Type 0 where
+  pub size : length qs ≡ length ps
+  pub jobs : AreJobs w ps qs
+
+-- the parties have made rounds; before each not all of them had finished
+pub data HaveRounds (w : SlotWords) (ps : List Party) : List Party → Type 0 where
+  no_round : HaveRounds w ps ps
+  one_round : (qs rs : List Party) → HaveRounds w ps qs → (All (HasFinished w) qs → ⊥) → IsRound w qs rs → HaveRounds w ps rs
 
 -- ---- so many turns
 

@@ -1,8 +1,9 @@
 -- What a turn of a party makes of it, and what it returns.
-use Rattle.std.specs.Prelude.{◌≡◌, ◌≢◌, ℕ, ◌<◌, nat_lt, Bool, true, false, length, slice_index_or, None}
+use Rattle.std.specs.Prelude.{◌≡◌, ◌≢◌, ℕ, ◌<◌, nat_lt, Bool, true, false, length, slice_index_or, Some, None}
 use Rattle.dbp_plan.specs.Lookups.{declared_task, no_read}
 use Rattle.dbp_rules.specs.PartyRules.{Loaded, is_opened_by, is_stamp_of, loaded_number, read_order_in, task_after, task_refusal, turn_at}
 use Rattle.dbp_rules.specs.Lookups.{entry_in, link, wired_task}
+use Rattle.dbp_rules.specs.SharedWords.{made_by}
 use Rattle.dbp_rules.specs.declared.parts.ReleaserPart.{ReleaserPart}
 use Rattle.dbp_rules.specs.declared.parts.TaskPart.{TaskPart}
 use Rattle.dbp_rules.specs.declared.step.Step.{Step}
@@ -35,10 +36,11 @@ task_answer w t e l = Stepped
 abbrev pub delay_of_read : SlotWords → ℕ → ℕ → ℕ
 delay_of_read w i r = (link w.wiring (slice_index_or (declared_task w.plan i).reads r no_read).link).delay
 
--- one step, which its part allows; a look over a delayed link doesn't wait
+-- one step of its own, which its part allows; a look over a delayed link doesn't wait
 pub record TaskTurn (w : SlotWords) (old new : TaskParty) (turn : Turn) : Type 0 where
   pub made : Step
   pub loaded : Loaded
+  pub own : made_by made ≡ Some old.seat.task
   pub seat : TaskSteps old.seat new.seat
   pub turns : new.turns ≡ old.turns
   pub allowed : task_refusal (wired_task w.wiring old.seat.task) old.seat.part made ≡ None

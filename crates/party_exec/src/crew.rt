@@ -1,6 +1,6 @@
 // What runs the parties.
 
-ghost use Rattle.std.specs.Prelude.{◌≡◌, ◌∷◌, [], ◌++◌, IfOk, None, Some};
+ghost use Rattle.std.specs.Prelude.{◌≡◌, ◌∷◌, [], ◌++◌, IfOk, None, OnErr, Some};
 ghost use Rattle.std.specs.Thread.{IsSync};
 ghost use Rattle.party_exec.specs.Entries.{entry_of};
 ghost use Rattle.party_exec.specs.Parties.{AreFresh, HaveFinished};
@@ -30,10 +30,11 @@ pub trait Crew {
     /// The number from which its last run drew; 0 if it has made none.
     ghost last_seed: { Self → ℕ };
 
-    /// Takes all memory that a run of the plan needs.
+    /// Takes all memory that a run of the plan needs. If it runs out, the plan that was ready before stays so.
     fn prepare(&mut self, plan: &Plan) -> Result<(), NoMemory>
         ensures runs { runs self.new ≡ runs self.old }
         ensures ready { IfOk result (λ _. ready self.new ≡ Some plan.now) }
+        ensures kept { OnErr result (ready self.new ≡ ready self.old) }
         ensures seed { seed self.new ≡ seed self.old }
         ensures last_seed { last_seed self.new ≡ last_seed self.old };
 

@@ -5,10 +5,10 @@
 //! place (`Computed`), so when all have finished the rows are the meaning's table. A crew makes the turns of all
 //! parties until they have finished. A `ThreadCrew` gives each a thread for a round of at most 4,096 turns, which ends
 //! after 64 idle ones in a row; a thread whose party waits sleeps until the bell of the party is rung (`waiting`). A
-//! `TurnCrew` makes all turns on one thread, in rounds that are drawn from its seed. `Jobs` says what one thread makes
-//! of its party, `Draws` what is drawn. No clause says that parties finish, in which order turns are made, what a pace
-//! does, when a thread sleeps or is woken, or that the threads of a round begin together; nor does a public clause of
-//! `ThreadCrew` say that a run goes in rounds.
+//! `TurnCrew` makes all turns on one thread, in rounds that are drawn from its seed. `Jobs` says what a round of jobs makes
+//! of the parties, `Draws` what is drawn. No clause says that parties finish, in which order turns are made, that a pace is
+//! called or what it does, that each job has a thread, when a thread sleeps or is woken, or that the threads of a round
+//! begin together.
 #![tactic(auto)]
 
 mod all_parties;

@@ -1,6 +1,6 @@
 // The runs of a crew, and the entry that stands ready for the next one.
 
-ghost use Rattle.std.specs.Prelude.{◌≡◌, [], ◌∷◌, ◌++◌, IfOk, None, Some, length, vec_capacity, vec_len};
+ghost use Rattle.std.specs.Prelude.{◌≡◌, [], ◌∷◌, ◌++◌, IfOk, None, OnErr, Some, length, vec_capacity, vec_len};
 ghost use Rattle.dbp_plan.specs.Occurrences.{times_of};
 ghost use Rattle.word_rule.specs.Seats.{TaskSits};
 ghost use Rattle.party_exec.specs.Entries.{HasRoom, entry_of, plan_ready, task_ends};
@@ -34,10 +34,12 @@ impl Runs {
         }
     }
 
-    // Makes the entry of the next run, which will be one of the plan, and room for it.
+    // Makes the entry of the next run, which will be one of the plan, and room for it. If memory runs out, the plan that was
+    // ready before stays so.
     pub(crate) fn prepare(&mut self, plan: &Plan) -> Result<(), NoMemory>
         ensures entries { self.new.entries.items ≡ self.old.entries.items }
         ensures ready { IfOk result (λ _. plan_ready self.new.next ≡ Some plan.now) }
+        ensures kept { OnErr result (plan_ready self.new.next ≡ plan_ready self.old.next) }
     {
         let entry = open_entry(*self.entries.allocator(), plan)?;
         self.entries.reserve(1)?;

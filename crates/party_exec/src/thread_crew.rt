@@ -1,9 +1,10 @@
 // A crew with a thread for each party.
 
-ghost use Rattle.std.specs.Prelude.{◌≡◌, [], ◌∷◌, ◌++◌, All, IfOk, None, Some};
-ghost use Rattle.party_exec.specs.Crews.{thread_ready, thread_runs};
+ghost use Rattle.std.specs.Prelude.{◌≡◌, [], ◌∷◌, ◌++◌, All, IfOk, None, OnErr, Some};
+ghost use Rattle.std.specs.Thread.{IsSync};
+ghost use Rattle.party_exec.specs.Crews.{no_seed, thread_ready, thread_runs};
 ghost use Rattle.party_exec.specs.Entries.{entry_of};
-ghost use Rattle.party_exec.specs.Jobs.{AreJobs, IsJob};
+ghost use Rattle.party_exec.specs.Jobs.{HaveRounds, IsJob, IsRound};
 ghost use Rattle.party_exec.specs.Parties.{AreFresh, Belongs, HaveFinished};
 ghost use Rattle.party_exec.specs.SameSeats.{AreSameParties};
 
@@ -22,7 +23,8 @@ use std::thread;
 use std::thread::Threads;
 use word_rule::SlotWords;
 
-/// A crew with a thread for each party. It works in rounds, in each of which every party is a job; no clause says so.
+/// A crew with a thread for each party. It works in rounds, in each of which every party is a job. That each job has a thread of
+/// its own, no clause says.
 #[derive(Drop)]
 pub struct ThreadCrew<P: Pace> {
     pace: P,
@@ -48,15 +50,17 @@ impl<P: Pace> ThreadCrew<P> {
         self.runs.entries.as_slice()
     }
 
-    /// Takes all memory that a run of the plan needs.
+    /// Takes all memory that a run of the plan needs. If it runs out, the plan that was ready before stays so.
     pub fn prepare_paced(&mut self, plan: &Plan) -> Result<(), NoMemory>
         ensures runs { thread_runs self.new ≡ thread_runs self.old }
         ensures ready { IfOk result (λ _. thread_ready self.new ≡ Some plan.now) }
+        ensures kept { OnErr result (thread_ready self.new ≡ thread_ready self.old) }
     {
         self.runs.prepare(plan)
     }
 
-    /// Runs the parties as `Crew::run` does, at every pace: the pace is called before each turn.
+    /// Runs the parties as `Crew::run` does, at every pace: in rounds, in each of which every party makes its turns in a job. The
+    /// pace is called before each turn; since a pace means nothing to a contract, that is tested.
     pub fn run_paced<R: Threads + Wait + Sync>(
         &mut self,
         rt: &R,
@@ -65,6 +69,7 @@ impl<P: Pace> ThreadCrew<P> {
     )
         requires ready { thread_ready self.old ≡ Some words.now.plan }
         requires fresh { AreFresh words.now parties.old }
+        ensures rounds { HaveRounds words.now parties.old parties.new }
         ensures same { AreSameParties parties.old parties.new }
         ensures finished { HaveFinished words.now parties.new }
         ensures runs { thread_runs self.new ≡ thread_runs self.old ++ entry_of words.now.plan ∷ [] }
@@ -90,7 +95,18 @@ impl Crew for ThreadCrew<FreePace> {
         self.prepare_paced(plan)
     }
 
-    fn run<R: Threads + Wait + Sync>(&mut self, rt: &R, words: &SlotWords, parties: &mut [Party]) {
+    fn run<R: Threads + Wait + Sync>(&mut self, rt: &R, words: &SlotWords, parties: &mut [Party])
+        requires sync { IsSync R.row }
+        requires ready { thread_ready self.old ≡ Some words.now.plan }
+        requires fresh { AreFresh words.now parties.old }
+        ensures rounds { HaveRounds words.now parties.old parties.new }
+        ensures same { AreSameParties parties.old parties.new }
+        ensures finished { HaveFinished words.now parties.new }
+        ensures runs { thread_runs self.new ≡ thread_runs self.old ++ entry_of words.now.plan ∷ [] }
+        ensures ready { thread_ready self.new ≡ None }
+        ensures seed { no_seed self.new ≡ no_seed self.old }
+        ensures last_seed { no_seed self.new ≡ no_seed self.old }
+    {
         self.run_paced(rt, words, parties)
     }
 }
@@ -103,6 +119,7 @@ fn run_rounds<R: Threads + Wait + Sync, P: Pace>(
     parties: &mut [Party],
 )
     requires { AreFresh words.now parties.old }
+    ensures rounds { HaveRounds words.now parties.old parties.new }
     ensures same { AreSameParties parties.old parties.new }
     ensures finished { HaveFinished words.now parties.new }
 {
@@ -123,7 +140,7 @@ fn round<R: Threads + Wait + Sync, P: Pace>(
     parties: &mut [Party],
 )
     requires { All (Belongs words.now) parties.old }
-    ensures { AreJobs words.now parties.old parties.new }
+    ensures { IsRound words.now parties.old parties.new }
 {
     if parties.is_empty() {
         return;

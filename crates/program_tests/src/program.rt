@@ -140,7 +140,7 @@ fn there_are_no_more_reads_and_writes(rt: HostRuntime) -> Result<(), Fail> {
 }
 
 // Words that are empty or end with a blank, and those of a command line without any.
-static NO_COMMANDS: [&[&str]; 7] = [
+static NO_COMMANDS: [&[&str]; 11] = [
     &[],
     &[""],
     &["form", ""],
@@ -148,6 +148,10 @@ static NO_COMMANDS: [&[&str]; 7] = [
     &["mean "],
     &["run", "--turns", ""],
     &["run", "--turns", "9 "],
+    &["need"],
+    &["need", ""],
+    &["need", "9x"],
+    &["need", "a", "b"],
 ];
 
 #[test]
@@ -164,7 +168,7 @@ fn words_that_are_no_command_read_and_write_nothing(rt: HostRuntime) -> Result<(
 fn commands_are_listed(rt: HostRuntime) -> Result<(), Fail> {
     assert_eq!(rt;
         command_lines(rt.alloc())?.as_str(),
-        "  mean\n  sim\n  sim --record\n  run\n  run --turns N\n  run --turns=N\n  form\n  upgrade\n  plan\n  rta\n  replay\n  replay --ranked\n  gen N\n  gen N SIZE\n  soak N\n  soak N SIZE\n"
+        "  mean\n  sim\n  sim --record\n  cpus\n  cpus --record\n  run\n  run --turns N\n  run --turns=N\n  form\n  upgrade\n  rank\n  plan\n  rta\n  need TASK\n  replay\n  replay --ranked\n  gen N\n  gen N SIZE\n  soak N\n  soak N SIZE\n"
     );
     Ok(())
 }
@@ -189,6 +193,193 @@ fn a_document_is_upgraded(rt: HostRuntime) -> Result<(), Fail> {
         let ended = call(&rt, rt.alloc(), &["upgrade"], document, (64, 0), (512, 0))?;
         assert_eq!(rt; ended.0, Status::Ok);
         assert_eq!(rt; ended.1.as_slice(), TWO_RATES_UPGRADED.as_bytes());
+    }
+    Ok(())
+}
+
+const ON_EVENTS: &str = "dbp 1
+policy fp
+until 5
+event e
+event f
+task w on e prio 2 cost 3
+out y = 0 then 1
+task r on f prio 1 cost 1
+read x = w.y
+out z = 0 then x
+done
+";
+
+// The scenario of the document's first task.
+const SCENARIO: &str = "dbp 1
+policy fp
+until 4
+event e
+event f
+task w on e prio 2 cost 3
+  out y = 0 then 1
+task r on f prio 1 cost 1
+  read x = w.y at 0
+  out z = 0 then x
+trace
+time,e,f
+0,1,1
+3,1,
+done
+";
+
+// The name of a task, the document, and what `need` answers.
+static NEEDS: [(&str, &str, Status, &str); 4] = [
+    ("w", ON_EVENTS, Status::Ok, SCENARIO),
+    ("w", SCENARIO, Status::Ok, SCENARIO),
+    ("x", ON_EVENTS, Status::Refused, "refused: 35 NoTask\n"),
+    (
+        "a",
+        TWO_RATES,
+        Status::Refused,
+        "refused: 33 NotOnEvents a\n",
+    ),
+];
+
+#[test]
+fn a_scenario_is_written(rt: HostRuntime) -> Result<(), Fail> {
+    for (task, document, status, text) in &NEEDS {
+        let ended = call(
+            &rt,
+            rt.alloc(),
+            &["need", task],
+            document,
+            (64, 0),
+            (512, 0),
+        )?;
+        assert_eq!(rt; ended.0, *status);
+        assert_eq!(rt; ended.1.as_slice(), text.as_bytes());
+    }
+    Ok(())
+}
+
+// A document under the policy `edf`, whose tasks lack priorities, and whose last task writes to the first.
+const UNRANKED: &str = "dbp 2
+policy edf
+until 4
+event e
+task slow every 4 deadline 3 cost 1
+read x = fast.y
+read w = alarm.y
+out y = 0 then x + w
+task alarm on e cost 1
+read x = pre slow.y
+out y = 0 then x
+task fast every 2 deadline 2 cost 1
+out y = 0 then 1
+trace
+time,e
+1,1
+script
+done
+";
+
+// What `rank` writes of it: `alarm` waits for nothing, but goes behind `fast` by its clock.
+const RANKED: &str = "dbp 2
+policy fp
+until 4
+event e
+task slow every 4 from 0 prio 0 deadline 3 cost 1 cpu 0
+  read x = fast.y at 0
+  read w = alarm.y at 0
+  out y = 0 then x + w
+task alarm on e prio 1 cost 1 cpu 0
+  read x = pre slow.y at 0
+  out y = 0 then x
+task fast every 2 from 0 prio 2 deadline 2 cost 1 cpu 0
+  out y = 0 then 1
+trace
+time,e
+1,1
+script
+done
+";
+
+// Two direct cycles from `a`, and a trace section without a header.
+const TWO_CYCLES: &str = "dbp 1
+policy fp
+until 1
+task a every 1 cost 1
+read x = b.y
+read z = c.y
+out y = 0 then x + z
+task b every 1 cost 1
+read x = a.y
+out y = 0 then x
+task c every 1 cost 1
+read x = a.y
+out y = 0 then x
+trace
+done
+";
+
+// A fault of shape after a cycle of direct links.
+const CYCLE_AND_NAME: &str = "dbp 1
+policy fp
+until 1
+task a every 1 cost 1
+read x = b.y
+out y = 0 then x
+task b every 1 cost 1
+read x = a.y
+out y = 0 then c
+done
+";
+
+// No priorities, and a bad trace.
+const UNTRACED: &str = "dbp 1
+policy fp
+until 1
+task a every 1 cost 1
+out y = 0 then 1
+trace
+time,a
+done
+";
+
+// No priorities, and too many occurrences.
+const ENDLESS: &str = "dbp 1
+policy fp
+until 100001
+task a every 1 cost 1
+out y = 0 then 1
+done
+";
+
+// The document, and what `rank` answers.
+static RANKS: [(&str, Status, &str); 7] = [
+    (UNRANKED, Status::Ok, RANKED),
+    (RANKED, Status::Ok, RANKED),
+    (TWO_CYCLES, Status::Refused, "refused: 37 Cycle a b\n"),
+    (
+        CYCLE_AND_NAME,
+        Status::Refused,
+        "refused: line 9: 11 Unknown\n",
+    ),
+    (UNTRACED, Status::Refused, "refused: line 7: 20 BadHeader\n"),
+    (
+        ENDLESS,
+        Status::Refused,
+        "refused: line 3: 25 TooManyOccurrences\n",
+    ),
+    (
+        "dbp 1\n",
+        Status::Refused,
+        "refused: line 2: 7 MissingDone\n",
+    ),
+];
+
+#[test]
+fn tasks_are_ranked_by_their_links(rt: HostRuntime) -> Result<(), Fail> {
+    for (document, status, text) in &RANKS {
+        let ended = call(&rt, rt.alloc(), &["rank"], document, (64, 0), (512, 0))?;
+        assert_eq!(rt; ended.0, *status);
+        assert_eq!(rt; ended.1.as_slice(), text.as_bytes());
     }
     Ok(())
 }

@@ -1,16 +1,25 @@
 -- Between two events the service stays as it is.
-use Rattle.std.proofs.Common.{◌≡◌, ◌≢◌, ℕ, zero, suc, ◌+◌, ◌<◌, ◌≤◌, Option, Some, None, refl, sym, inl, inr, arith}
+use Rattle.std.proofs.Common.{◌≡◌, ℕ, zero, suc, ◌+◌, ◌-◌, ◌<◌, ◌≤◌, Option, Some, None, refl, sym, ap, inl, inr, arith}
 use Rattle.dbp_plan.specs.declared.plan.Plan.{Plan}
 use Rattle.rank_order.specs.Instances.{Instance, IsInstance, release_of}
-use Rattle.rank_order.specs.Service.{GoesBefore, IsFirst, IsService, Waits, served_ticks, left_of}
-use Rattle.rank_order.proofs.Choices.{cases_instance, tick_of, tick_other, tick_own}
+use Rattle.rank_order.specs.Service.{GoesBefore, IsFirst, IsService, Ran, Waits, served_ticks, left_of}
+use Rattle.rank_order.proofs.Choices.{cases_instance, tick_cases, tick_of, tick_other, tick_own}
 use Rattle.rank_order.proofs.OneService.{one_choice}
-use Rattle.rank_order.proofs.ServedTicks.{served_next}
+use Rattle.rank_order.proofs.ServedTicks.{served_next, served_slowly}
 
--- in the k ticks from t on the instance alone is served
-pub record Ran (serve : ℕ → Option Instance) (x : Instance) (t k : ℕ) : Type 0 where
-  pub own : served_ticks serve x (t + k) ≡ served_ticks serve x t + k
-  pub others : (y : Instance) → y ≢ x → served_ticks serve y (t + k) ≡ served_ticks serve y t
+-- the instance that alone is served is served in each tick
+pub ran_serves : (serve : ℕ → Option Instance) (x : Instance) (t k : ℕ) → Ran serve x t k → (n : ℕ) → n < k → serve (t + n) ≡ Some x
+ran_serves serve x t k ran n less =
+    let next : t + suc n ≡ suc (t + n) = omega arith in
+    let until : t + suc n + (k - suc n) ≡ t + k = omega (arith, less) in
+    let before = served_slowly serve x t n in
+    let after = served_slowly serve x (t + suc n) (k - suc n) in
+    let same = ap (served_ticks serve x) until in
+    let here = ap (served_ticks serve x) next in
+    elim (tick_cases (serve (t + n)) x) [
+      | inl own ↦ own.0
+      | inr other ↦ absurd (omega (arith, less, ran.own, before, after, same, here, served_next serve x (t + n), other.1))
+    ]
 
 -- in the d ticks from t on, except the first, none is released
 abbrev pub IsQuiet : Plan → ℕ → ℕ → Type 0

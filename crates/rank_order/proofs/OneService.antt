@@ -3,10 +3,10 @@ use Rattle.std.proofs.Common.{◌≡◌, ℕ, zero, suc, Option, sym, ap, ◌∙
 use Rattle.dbp_plan.specs.declared.plan.Plan.{Plan}
 use Rattle.rank_order.specs.Instances.{Instance, release_of}
 use Rattle.rank_order.specs.Order.{key_of}
-use Rattle.rank_order.specs.Service.{GoesBefore, IsFirst, IsService, Waits, served_ticks, left_of}
+use Rattle.rank_order.specs.Service.{GoesBefore, IsFirst, IsService, ServesWaiting, Waits, left_of, served_ticks}
 use Rattle.rank_order.proofs.Choices.{first_like, one_first, tick_of}
 use Rattle.rank_order.proofs.Keys.{before-both}
-use Rattle.rank_order.proofs.ServedTicks.{ServesWaiting, served_next, served_none}
+use Rattle.rank_order.proofs.ServedTicks.{served_next, served_none}
 
 pub not_both : (p : Plan) (x y : Instance) → GoesBefore p x y → GoesBefore p y x → ⊥
 not_both p x y first second = before-both (key_of p.diagram x.task (release_of p x)) (key_of p.diagram y.task (release_of p y)) first second

@@ -3,7 +3,7 @@ use Rattle.std.proofs.Common.{◌≡◌, ◌≢◌, ℕ, zero, suc, ◌+◌, ◌
 use Rattle.dbp_plan.specs.declared.plan.Plan.{Plan}
 use Rattle.dbp_plan.specs.Lookups.{declared_task}
 use Rattle.rank_order.specs.Instances.{Instance, release_of}
-use Rattle.rank_order.specs.Service.{Waits, served_ticks, left_of}
+use Rattle.rank_order.specs.Service.{ServesWaiting, served_ticks, left_of}
 use Rattle.rank_order.specs.Ends.{IsEnd}
 use Rattle.rank_order.proofs.Choices.{tick_of, tick_cases}
 
@@ -21,16 +21,23 @@ served_grows serve x t (suc k) =
     let next : t + suc k ≡ suc (t + k) = omega arith in
     rw next (omega (arith, served_grows serve x t k, served_next serve x (t + k)))
 
+-- by one a tick at most
+pub served_slowly : (serve : ℕ → Option Instance) (x : Instance) (t k : ℕ) → served_ticks serve x (t + k) ≤ served_ticks serve x t + k
+served_slowly serve x t zero = let same : t + 0 ≡ t = omega arith in rw same (omega arith)
+served_slowly serve x t (suc k) =
+    let next : t + suc k ≡ suc (t + k) = omega arith in
+    let before = served_slowly serve x t k in
+    rw next (elim (tick_cases (serve (t + k)) x) [
+      | inl own ↦ omega (arith, before, served_next serve x (t + k), own.1)
+      | inr other ↦ omega (arith, before, served_next serve x (t + k), other.1)
+    ])
+
 -- less is left later
 pub left_falls : (p : Plan) (serve : ℕ → Option Instance) (x : Instance) (t u : ℕ) → t ≤ u → left_of p serve x u ≤ left_of p serve x t
 left_falls p serve x t u later =
     let same : t + (u - t) ≡ u = omega (arith, later) in
     let moved = ap (λ (n : ℕ). served_ticks serve x n) same in
     omega (arith, served_grows serve x t (u - t), moved)
-
--- each tick is given to one that waits, if to any
-abbrev pub ServesWaiting : Plan → (ℕ → Option Instance) → Type 0
-ServesWaiting p serve = (t : ℕ) (x : Instance) → serve t ≡ Some x → Waits p (left_of p serve) t x
 
 module _ (p : Plan) (serve : ℕ → Option Instance) (waiting : ServesWaiting p serve) where
   -- none is served for longer than its cost

@@ -6,11 +6,11 @@ use Rattle.std.proofs.lemmas.List.Sums.{sum_by-le-sum_by}
 use Rattle.dbp_plan.specs.declared.plan.Plan.{Plan}
 use Rattle.dbp_plan.specs.Lookups.{declared_task}
 use Rattle.rank_order.specs.Instances.{Instance, IsInstance, release_of}
-use Rattle.rank_order.specs.Service.{IsService, Waits, left_of, served_ticks}
+use Rattle.rank_order.specs.Service.{IsService, ServesWaiting, Waits, left_of, served_ticks}
 use Rattle.rank_order.proofs.Choices.{tick_of, tick_own}
 use Rattle.rank_order.proofs.InstanceEnds.{instance_listed, instances, listed_instance}
 use Rattle.rank_order.proofs.OneService.{serves_waiting}
-use Rattle.rank_order.proofs.ServedTicks.{ServesWaiting, served_next, served_within, unserved}
+use Rattle.rank_order.proofs.ServedTicks.{served_next, served_within, unserved}
 use Rattle.rank_order.proofs.Sums.{sum_less, sum_more}
 
 -- whether the task j is ranked above the task i

@@ -1,5 +1,5 @@
 -- Which instance is served in each tick.
-use Rattle.std.specs.Prelude.{◌≡◌, ℕ, zero, suc, ◌+◌, ◌-◌, ◌<◌, ◌≤◌, ◌⊎◌, ◌==◌, ◌&&◌, if◌then◌else◌, Bool, false, IsTrue, Option, Some, None}
+use Rattle.std.specs.Prelude.{◌≡◌, ◌≢◌, ℕ, zero, suc, ◌+◌, ◌-◌, ◌<◌, ◌≤◌, ◌⊎◌, ◌==◌, ◌&&◌, if◌then◌else◌, Bool, false, IsTrue, Option, Some, None}
 use Rattle.dbp_plan.specs.declared.plan.Plan.{Plan}
 use Rattle.dbp_plan.specs.Lookups.{declared_task}
 use Rattle.rank_order.specs.Instances.{Instance, IsInstance, release_of}
@@ -33,6 +33,15 @@ served_ticks serve x (suc t) = served_ticks serve x t + (if is_served x (serve t
 -- what is left of the instance at t: its task's cost except the ticks before t in which it is served
 abbrev pub left_of : Plan → (ℕ → Option Instance) → Instance → ℕ → ℕ
 left_of p serve x t = (declared_task p x.task).cost - served_ticks serve x t
+
+-- each tick is given to one that waits, if to any
+abbrev pub ServesWaiting : Plan → (ℕ → Option Instance) → Type 0
+ServesWaiting p serve = (t : ℕ) (x : Instance) → serve t ≡ Some x → Waits p (left_of p serve) t x
+
+-- in the k ticks from t on the instance alone is served
+pub record Ran (serve : ℕ → Option Instance) (x : Instance) (t k : ℕ) : Type 0 where
+  pub own : served_ticks serve x (t + k) ≡ served_ticks serve x t + k
+  pub others : (y : Instance) → y ≢ x → served_ticks serve y (t + k) ≡ served_ticks serve y t
 
 -- one processor: each tick serves the first of those that wait, and none if none waits
 pub record IsService (p : Plan) (serve : ℕ → Option Instance) : Type 0 where

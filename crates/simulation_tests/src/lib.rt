@@ -2,6 +2,8 @@
 #![tactic(auto)]
 
 #[cfg(test)]
+mod next_event;
+#[cfg(test)]
 mod ready;
 #[cfg(test)]
 mod simulation;

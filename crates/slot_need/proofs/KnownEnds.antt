@@ -24,7 +24,8 @@ use Rattle.dbp_rules.specs.Rules.{next}
 use Rattle.dbp_rules.specs.Start.{start_entry, start_of}
 use Rattle.instance_steps.specs.Events.{Event, aim_of, step_of, aim_events, batch_events, begin_events, claim_events, end_events, look_events, put_events, read_events, reads_at, seen_events}
 use Rattle.instance_steps.specs.Plays.{IsStepOf, Plays}
-use Rattle.virtual_sim.specs.Record.{begin_events_at, end_events_at, end_events_of, events_at, events_before, events_so_far, release_events_at, service_events_of}
+use Rattle.virtual_time.specs.Pieces.{begin_events_at, end_events_of, release_events_at, service_events_of}
+use Rattle.virtual_sim.specs.Record.{end_events_at, events_at, events_before, events_so_far}
 use Rattle.slot_need.proofs.KeptItems.{stood}
 
 -- ---- steps
@@ -119,13 +120,13 @@ module _ (i : ℕ) where
     spares-end-at zero = tt
     spares-end-at (suc t) = spares-end-of (serve t) (suc t)
 
-    spares-begin-at : (j served : ℕ) → Spares i (begin_events_at p serve j served)
+    spares-begin-at : (j served : ℕ) → Spares i (begin_events_at p j served)
     spares-begin-at j served = elim (cases_Bool (served == 0)) [ inl is ↦ rw is (spares-begin p j) | inr isnt ↦ rw isnt tt ]
 
     spares-service : (o : Option Instance) (t : ℕ) → Spares i (service_events_of p serve o t)
     spares-service None t = tt
     spares-service (Some x) t =
-        spares-append (begin_events_at p serve x.task (served_ticks serve x t)) (read_events p x.task (served_ticks serve x t))
+        spares-append (begin_events_at p x.task (served_ticks serve x t)) (read_events p x.task (served_ticks serve x t))
         (spares-begin-at x.task (served_ticks serve x t)) (spares-read p x.task (served_ticks serve x t))
 
     -- the task occurs once
@@ -151,7 +152,7 @@ module _ (i : ℕ) where
           (spares-flat_map (claim_events p) b.tasks (λ n j named. spares-map (λ k. step_of (Claim k)) (links_into p.diagram.links j) (λ l same. cc)))
           (spares-map (λ j. step_of (OpenGate j)) b.tasks (λ j same. cc)))
 
-      spares-release : (bs : List Batch) → ((k : ℕ) (b : Batch) → slice_get bs k ≡ Some b → (l : ℕ) × (slice_get p.batches l ≡ Some b)) → (t : ℕ) → Spares i (release_events_at p serve bs t)
+      spares-release : (bs : List Batch) → ((k : ℕ) (b : Batch) → slice_get bs k ≡ Some b → (l : ℕ) × (slice_get p.batches l ≡ Some b)) → (t : ℕ) → Spares i (release_events_at p bs t)
       spares-release bs from t = spares-flat_map (batch_events p) (filter (λ b. b.time == t) bs) (λ k b at.
           let (n, there, passes) = stood (λ (b : Batch). b.time == t) bs k b at in
           let (l, own) = from n b there in
@@ -162,13 +163,13 @@ module _ (i : ℕ) where
       spares-before zero = tt
       spares-before (suc t) =
           spares-append (events_before p serve t) (events_at p serve t) (spares-before t)
-          (spares-append (end_events_at p serve t) (release_events_at p serve p.batches t ++ service_events_of p serve (serve t) t) (spares-end-at t)
-          (spares-append (release_events_at p serve p.batches t) (service_events_of p serve (serve t) t) (spares-release p.batches (λ k b at. (k, at)) t) (spares-service (serve t) t)))
+          (spares-append (end_events_at p serve t) (release_events_at p p.batches t ++ service_events_of p serve (serve t) t) (spares-end-at t)
+          (spares-append (release_events_at p p.batches t) (service_events_of p serve (serve t) t) (spares-release p.batches (λ k b at. (k, at)) t) (spares-service (serve t) t)))
 
       spares-so-far : (b t : ℕ) → Spares i (events_so_far p serve b t)
       spares-so-far b t =
-          spares-append (events_before p serve t) (end_events_at p serve t ++ release_events_at p serve (take b p.batches) t) (spares-before t)
-          (spares-append (end_events_at p serve t) (release_events_at p serve (take b p.batches) t) (spares-end-at t)
+          spares-append (events_before p serve t) (end_events_at p serve t ++ release_events_at p (take b p.batches) t) (spares-before t)
+          (spares-append (end_events_at p serve t) (release_events_at p (take b p.batches) t) (spares-end-at t)
           (spares-release (take b p.batches) (λ k c at. (k, (take_inside p.batches b k c at).1)) t))
 
       known_at_start : (ts : List TaskWiring) (k : ℕ) → (slice_index_or (map start_entry ts) k no_task_entry).known ≡ 0

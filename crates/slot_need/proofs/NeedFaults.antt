@@ -1,10 +1,10 @@
 -- Tasks of a diagram without a fault: each is on an event of its own.
-use Rattle.std.proofs.Common.{◌≡◌, ◌≢◌, ℕ, zero, suc, ◌<◌, ◌≤◌, Bool, true, false, List, length, take, slice_get, get_or, Option, Some, None, refl, sym, ap, ◌∙◌, inl, inr, arith}
+use Rattle.std.proofs.Common.{◌≡◌, ◌≢◌, ℕ, zero, suc, ◌<◌, ◌≤◌, Bool, true, false, List, length, take, slice_get, get_or, Option, Some, None, refl, sym, ap, ◌∙◌, subst, inl, inr, arith}
 use Rattle.std.specs.Prelude.{is_some, nat_lt, ◌==◌}
 use Rattle.std.specs.List.{find, position, position_or_len, range_with_len}
 use Rattle.std.proofs.lemmas.Bool.{both_ways, cases_Bool, cases_lt, eq-eqb, eqb-true, lt-ltb, or_parts}
 use Rattle.std.proofs.lemmas.List.Sums.{position_or_len_is}
-use Rattle.std.proofs.lemmas.Option.{get_or_from_slice_get, slice_get-get_or, slice_get_within}
+use Rattle.std.proofs.lemmas.Option.{get_or_from_slice_get, none-some, same_Some, slice_get-get_or, slice_get_within}
 use Rattle.dbp_plan.specs.declared.diagram.Clock.{Clock}
 use Rattle.dbp_plan.specs.declared.diagram.Clock.TheVariants.{Every, On}
 use Rattle.dbp_plan.specs.declared.diagram.Diagram.{Diagram}
@@ -16,9 +16,11 @@ use Rattle.dbp_plan.specs.ListItems.{take_place}
 use Rattle.dbp_plan.specs.Lookups.{no_declared_task, task_at}
 use Rattle.dia_check.proofs.LinkLists.{any-at}
 use Rattle.dia_check.proofs.PortLaws.{position-there}
+use Rattle.slot_need.specs.declared.fail.NeedFail.{NeedFail}
+use Rattle.slot_need.specs.declared.fail.NeedFail.TheVariants.{NoMemory, NotFixed, NotOnEvents, SharedEvent, TooLong}
 use Rattle.slot_need.specs.Faults.{fault_under, is_off_events, is_periodic, is_same_event, is_sharing, length_fault, need_fault}
 use Rattle.slot_need.specs.Scenarios.{is_on, scenario_end}
-use Rattle.slot_need.proofs.Ranges.{found-first}
+use Rattle.slot_need.proofs.Ranges.{found-first, found-within}
 
 -- ---- what no fault says
 
@@ -39,6 +41,40 @@ no-fault Edf off shared end none = absurd (cc)
 no-fault Fp (Some task) shared end none = absurd (cc)
 no-fault Fp None (Some task) end none = absurd (cc)
 no-fault Fp None None end none = record { fixed = refl; on_events = refl; apart = refl; short = short-enough end none }
+
+-- ---- what a fault says
+
+-- a task that a fault names was found, and no fault is that memory ran out
+abbrev FaultNames : Option ℕ → Option ℕ → NeedFail → Type 0
+FaultNames off shared (NotOnEvents task) = off ≡ Some task
+FaultNames off shared (SharedEvent task) = shared ≡ Some task
+FaultNames off shared NoMemory = ⊥
+FaultNames off shared _ = Unit {0}
+
+too-long : (end : ℕ) → nat_lt MAX_TIME end ≡ true → length_fault end ≡ Some (TooLong end)
+too-long end past = rw past refl
+
+not-too-long : (end : ℕ) → nat_lt MAX_TIME end ≡ false → length_fault end ≡ None
+not-too-long end within = rw within refl
+
+fault-names : (policy : Policy) (off shared : Option ℕ) (end : ℕ) (fault : NeedFail) → fault_under policy off shared end ≡ Some fault → FaultNames off shared fault
+fault-names Edf off shared end fault is = subst (FaultNames off shared) (same_Some NotFixed fault is) tt
+fault-names Fp (Some task) shared end fault is = subst (FaultNames (Some task) shared) (same_Some (NotOnEvents task) fault is) refl
+fault-names Fp None (Some task) end fault is = subst (FaultNames None (Some task)) (same_Some (SharedEvent task) fault is) refl
+fault-names Fp None None end fault is = elim (cases_Bool (nat_lt MAX_TIME end)) [
+  | inl past ↦ subst (FaultNames None None) (same_Some (TooLong end) fault (sym (too-long end past) ∙ is)) tt
+  | inr within ↦ absurd (none-some fault (sym (not-too-long end within) ∙ is))
+]
+
+module _ (d : Diagram) (w : ℕ) where
+  names-of-fault : (fault : NeedFail) → need_fault d w ≡ Some fault → FaultNames (position is_off_events d.tasks) (find (is_sharing d) (range_with_len 0 (length d.tasks))) fault
+  names-of-fault fault is = fault-names d.policy (position is_off_events d.tasks) (find (is_sharing d) (range_with_len 0 (length d.tasks))) (scenario_end d w) fault is
+
+  pub no-memory-fault : need_fault d w ≡ Some NoMemory → ⊥
+  no-memory-fault = names-of-fault NoMemory
+
+  pub sharing-within : (task : ℕ) → need_fault d w ≡ Some (SharedEvent task) → task < length d.tasks
+  sharing-within task is = found-within (is_sharing d) (length d.tasks) task (names-of-fault (SharedEvent task) is)
 
 -- ---- searches that find nothing
 

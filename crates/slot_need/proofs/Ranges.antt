@@ -1,9 +1,11 @@
 -- Numbers in a row: what is found among them, and what is kept of them.
-use Rattle.std.proofs.Common.{◌≡◌, ℕ, zero, suc, ◌+◌, ◌<◌, Bool, true, false, [], ◌∷◌, ◌++◌, Some, None, refl, sym, ap, ◌∙◌, arith}
+use Rattle.std.proofs.Common.{◌≡◌, ℕ, zero, suc, ◌+◌, ◌<◌, Bool, true, false, [], ◌∷◌, ◌++◌, Some, None, refl, sym, ap, ◌∙◌, inl, inr, arith}
 use Rattle.std.specs.Prelude.{filter, map}
 use Rattle.std.specs.List.{find, range_with_len}
+use Rattle.std.proofs.lemmas.Bool.{cases_Bool}
 use Rattle.std.proofs.lemmas.List.{append-nil, map-append}
 use Rattle.std.proofs.lemmas.List.Elements.{filter-append}
+use Rattle.std.proofs.lemmas.Option.{none-some, same_Some}
 
 range_push : (a n : ℕ) → range_with_len a (suc n) ≡ range_with_len a n ++ (a + n) ∷ []
 range_push a zero = let same : a ≡ a + zero = omega arith in ap (λ k. k ∷ []) same
@@ -45,6 +47,17 @@ found-first p n i below passes others =
     let same : 0 + i ≡ i = omega arith in
     found_from p 0 n i below (ap p same ∙ passes) (λ j less. let here : 0 + j ≡ j = omega arith in ap p here ∙ others j less)
     ∙ ap Some same
+
+within_from : (p : ℕ → Bool) (a n i : ℕ) → find p (range_with_len a n) ≡ Some i → i < a + n
+within_from p a zero i found = absurd (none-some i found)
+within_from p a (suc n) i found = elim (cases_Bool (p a)) [
+  | inl passes ↦ let same : a ≡ i = same_Some a i (sym (rw passes refl) ∙ found) in omega (arith, same)
+  | inr fails ↦ let rest = within_from p (a + 1) n i (sym (rw fails refl) ∙ found) in omega (arith, rest)
+]
+
+-- what is found is one of the numbers
+pub found-within : (p : ℕ → Bool) (n i : ℕ) → find p (range_with_len 0 n) ≡ Some i → i < n
+found-within p n i found = let below = within_from p 0 n i found in omega (arith, below)
 
 none_from : (p : ℕ → Bool) (a n : ℕ) → ((j : ℕ) → j < n → p (a + j) ≡ false) → find p (range_with_len a n) ≡ None
 none_from p a zero none = refl

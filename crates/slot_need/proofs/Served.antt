@@ -15,10 +15,10 @@ use Rattle.dia_check.proofs.LinkLists.{any-at}
 use Rattle.rank_order.specs.Ends.{IsEnd, NoOverrun}
 use Rattle.rank_order.specs.Instances.{Instance, IsInstance, before_it, release_of}
 use Rattle.rank_order.specs.Order.{is_before, key_by}
-use Rattle.rank_order.specs.Service.{GoesBefore, IsService, Waits, left_of, served_ticks}
+use Rattle.rank_order.specs.Service.{GoesBefore, IsService, Ran, Waits, left_of, served_ticks}
 use Rattle.rank_order.proofs.Choices.{same_instance, tick_of, tick_own}
 use Rattle.rank_order.proofs.InstanceEnds.{some_cost}
-use Rattle.rank_order.proofs.Jump.{IsQuiet, Ran, runs}
+use Rattle.rank_order.proofs.Jump.{IsQuiet, runs}
 use Rattle.rank_order.proofs.OneService.{serves_waiting}
 use Rattle.rank_order.proofs.ServedTicks.{left_falls, served_grows, served_next, served_none, unserved}
 use Rattle.slot_need.specs.Bodies.{IsScenario}

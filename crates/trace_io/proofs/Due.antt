@@ -1,6 +1,6 @@
 -- Steps of the two loops over the clocks.
 use Rattle.std.proofs.Common.{◌≡◌, ◌≢◌, ℕ, ◌+◌, ◌<◌, true, false, All, List, [], ◌∷◌, ◌++◌, length, get_or, set, arith, refl, ap, ◌∙◌, sym, inl, inr, Option, None, Some}
-use Rattle.std.specs.Prelude.{◌==◌, ◌||◌, unwrap_or}
+use Rattle.std.specs.Prelude.{◌==◌, ◌||◌, min, slice_index, unwrap_or}
 use Rattle.std.specs.List.{list_any}
 use Rattle.std.specs.List.Sorted.{IsStrictlyIncreasing}
 use Rattle.std.proofs.Math.Bool.{or-false, or-true}
@@ -12,7 +12,7 @@ use Rattle.std.proofs.lemmas.List.Sums.{sum_by-set}
 use Rattle.dbp_plan.specs.declared.diagram.Clock.{Clock}
 use Rattle.dbp_plan.proofs.BatchTasks.{named_below}
 use Rattle.dbp_plan.specs.Clocks.{time_at}
-use Rattle.trace_io.specs.Merging.{AreNext, TakesDue, is_at, next_of}
+use Rattle.trace_io.specs.Merging.{AreNext, IsLeast, TakesDue, is_at, next_of}
 use Rattle.std.proofs.lemmas.Grind.{common_steps}
 
 -- a list of numbers stays in order if a greater one is added
@@ -102,3 +102,30 @@ at-next until time (Some t) below is = eq-eqb t time is
 pub not-at-next : (until time : ℕ) (o : Option ℕ) → unwrap_or o until ≢ time → is_at time o ≡ false
 not-at-next until time None other = refl
 not-at-next until time (Some t) other = ne_eqb t time other
+
+-- ---- the least of some times
+
+pub least-none : (until : ℕ) (times : List ℕ) → IsLeast until times 0 until
+least-none until times = record { within = omega arith; stands = λ early. absurd (omega (arith, early)); below = λ i less. absurd (omega (arith, less)) }
+
+-- one time more
+pub least-more : (until : ℕ) (times : List ℕ) (n least : ℕ) → IsLeast until times n least → IsLeast until times (n + 1) (min least (slice_index times n))
+least-more until times n least is = record {
+  within = omega (arith, is.within);
+  stands = λ early. elim (cases_lt (slice_index times n) least) [
+    | inl new ↦ (n, omega arith, omega (arith, new))
+    | inr old ↦ let there = is.stands (omega (arith, early, old)) in (there.0, omega (arith, there.1), omega (arith, there.2, old))
+  ];
+  below = λ i less. elim (cases_lt i n) [
+    | inl before ↦ omega (arith, is.below i before)
+    | inr here ↦ let same : i ≡ n = omega (arith, less, here) in rw same (omega arith)
+  ];
+}
+
+-- another time behind them
+pub least-set : (until : ℕ) (times : List ℕ) (n t least : ℕ) → IsLeast until times n least → IsLeast until (set times n t) n least
+least-set until times n t least is = record {
+  within = is.within;
+  stands = λ early. let there = is.stands early in (there.0, there.1, get_or-set_other times n there.0 t 0 (λ e. absurd (omega (arith, e, there.1))) ∙ there.2);
+  below = λ i less. rw (get_or-set_other times n i t 0 (λ e. absurd (omega (arith, e, less)))) (is.below i less);
+}

@@ -19,7 +19,7 @@ use Rattle.dbp_plan.specs.declared.diagram.Task.{Task}
 use Rattle.dbp_plan.specs.declared.schedule.Batch.{Batch}
 use Rattle.dbp_plan.specs.declared.schedule.Sample.{Sample}
 use Rattle.dbp_plan.specs.Clocks.{base_times, is_on, periodic_times}
-use Rattle.dbp_plan.specs.ListItems.{at_place, read_place}
+use Rattle.dbp_plan.specs.ListItems.{at_place, read_place, take_place}
 use Rattle.dbp_plan.specs.Occurrences.{times_of}
 use Rattle.dbp_plan.proofs.ClockTimes.{periodic_place, periodic_rises}
 use Rattle.dbp_plan.proofs.InputValues.{input_until}
@@ -27,7 +27,7 @@ use Rattle.dbp_plan.proofs.ListMaps.{filter-all}
 use Rattle.dbp_plan.proofs.ListParts.{take_push}
 use Rattle.trace_io.specs.Batches.{AreBatches, times_in, total_of}
 use Rattle.trace_io.specs.Counts.{HasNumbersInRange, IsClockOf, IsTimetable, count_of}
-use Rattle.trace_io.specs.Guards.{HasItsSamples, HasMoreEvents, RiseInTime}
+use Rattle.trace_io.specs.Guards.{AreAlike, HasItsSamples, HasMoreEvents, RiseInTime}
 use Rattle.trace_io.specs.Merging.{AreMerged, ticks_of}
 use Rattle.trace_io.specs.Spans.{is_on_by}
 use Rattle.trace_io.proofs.Counting.{base-count, base-place, time-is}
@@ -103,6 +103,26 @@ merge-more d samples events now more clocks clock i t at is one two are times sa
     ∙ ap (λ (ts : List (List ℕ)). ts ++ base_times d.until more clock ∷ []) (bases-more d.until now more clocks are two ∙ same)
     ∙ ap (λ (ts : List ℕ). map (times_in d samples events) (take i d.tasks) ++ ts ∷ []) (times ∙ ap (filter (is_on d.inputs samples t.when)) (base-more d.until events now t.clock is one))
     ∙ sym (ap (map (times_in d samples events)) (take_push d.tasks i t at) ∙ map-append (times_in d samples events) (take i d.tasks) (t ∷ []))
+
+-- tasks with one clock and one `when` have one list of times
+pub alike-times : (d : Diagram) (samples : List Sample) (events : List (List ℕ)) (i j : ℕ) (a b : Task) → AreAlike d.tasks j i → slice_get d.tasks j ≡ Some a → slice_get d.tasks i ≡ Some b → times_in d samples events a ≡ times_in d samples events b
+alike-times d samples events i j a b alike at_a at_b =
+    let both = alike a b at_a at_b in
+    λ k. filter (is_on d.inputs samples (both.1 k)) (base_times d.until events (both.0 k))
+
+-- one task more has the clock of one before it that has its clock and its `when`
+pub merge-again : (d : Diagram) (samples : List Sample) (events now : List (List ℕ)) (clocks : List Clock) (clock : Clock) (i j : ℕ) → AreAlike d.tasks j i → j < i → i < length d.tasks → slice_get clocks j ≡ Some clock
+    → map (base_times d.until now) clocks ≡ map (times_in d samples events) (take i d.tasks) → map (base_times d.until now) (clocks ++ clock ∷ []) ≡ map (times_in d samples events) (take (i + 1) d.tasks)
+merge-again d samples events now clocks clock i j alike before inside at same =
+    let (a, at_a) = at_place d.tasks j (omega (arith, before, inside)) in
+    let (b, at_b) = at_place d.tasks i inside in
+    let first : base_times d.until now clock ≡ times_in d samples events a = same_Some (base_times d.until now clock) (times_in d samples events a)
+    (ap (option_map (base_times d.until now)) (sym at) ∙ sym (slice_get-map (base_times d.until now) clocks j) ∙ ap (λ (ts : List (List ℕ)). slice_get ts j) same
+    ∙ slice_get-map (times_in d samples events) (take i d.tasks) j ∙ ap (option_map (times_in d samples events)) (take_place d.tasks i j before ∙ at_a)) in
+    let again : times_in d samples events a ≡ times_in d samples events b = alike-times d samples events i j a b alike at_a at_b in
+    map-append (base_times d.until now) clocks (clock ∷ [])
+    ∙ (λ k. same k ++ (first ∙ again) k ∷ [])
+    ∙ sym (ap (map (times_in d samples events)) (take_push d.tasks i b at_b) ∙ map-append (times_in d samples events) (take i d.tasks) (b ∷ []))
 
 -- ---- a timetable with one event more
 

@@ -21,7 +21,7 @@ use Rattle.dbp_plan.specs.ListItems.{front_place, last_place}
 use Rattle.dbp_plan.proofs.BatchTasks.{some_item}
 use Rattle.dbp_plan.proofs.TaskTimes.{times-named, times-other}
 use Rattle.trace_io.specs.Counts.{HasNumbersInRange, IsClockOf, IsTimetable, count_of}
-use Rattle.trace_io.specs.Merging.{AreMerged, AreNext, IsLeastBelow, IsLeastNext, TakesDue, is_at, next_of}
+use Rattle.trace_io.specs.Merging.{AreMerged, AreNext, IsLeast, IsLeastNext, TakesDue, is_at, next_of}
 use Rattle.trace_io.proofs.Due.{rising-push}
 
 -- a clock's next time is later
@@ -59,20 +59,24 @@ next_below until events clock k None here table is = tt
 next_below until events clock k (Some t) here table is = clock-ends until events clock k t table is here
 
 -- the least of the times of the clocks' next occurrences
-pub least-next : (until : ℕ) (events : List (List ℕ)) (clocks : List Clock) (taken next : List ℕ) (r : Option ℕ)
-    → IsTimetable until events → All (IsClockOf (length events)) clocks → AreNext until events clocks taken next → IsLeastBelow until next r
-    → IsLeastNext until events clocks taken (length clocks) r
-least-next until events clocks taken next None table is are none = λ i d less.
-    no_next until (next_of until events clocks taken i d)
-    (next_below until events (slice_index_or clocks i d) (slice_index taken i) (next_of until events clocks taken i d) refl table (is i d (omega arith)))
-    (subst (λ n. until ≤ n) (are.1 i d less) (none i (omega (arith, are.0, less))))
-least-next until events clocks taken next (Some time) table is are least =
-    let i = least.1.0 in
-    let less : i < length clocks = omega (arith, least.1.1, are.0) in (
-      least.0,
-      (i, less, λ d. some_next until (next_of until events clocks taken i d) time least.0 (sym (are.1 i d less) ∙ least.1.2)),
-      λ j d within. later_next until (next_of until events clocks taken j d) time (subst (λ n. time ≤ n) (are.1 j d within) (least.2 j (omega (arith, are.0, within)))),
+pub least-next : (until : ℕ) (events : List (List ℕ)) (clocks : List Clock) (taken next : List ℕ) (time : ℕ)
+    → AreNext until events clocks taken next → IsLeast until next (length clocks) time → time < until
+    → IsLeastNext until events clocks taken (length clocks) (Some time)
+least-next until events clocks taken next time are least early =
+    let (i, less, is) = least.stands early in (
+      early,
+      (i, less, λ d. some_next until (next_of until events clocks taken i d) time early (sym (are.1 i d less) ∙ is)),
+      λ j d within. later_next until (next_of until events clocks taken j d) time (subst (λ n. time ≤ n) (are.1 j d within) (least.below j within)),
     )
+
+-- no clock has a next occurrence
+pub none-next : (until : ℕ) (events : List (List ℕ)) (clocks : List Clock) (taken next : List ℕ) (time : ℕ)
+    → IsTimetable until events → All (IsClockOf (length events)) clocks → AreNext until events clocks taken next → IsLeast until next (length clocks) time → until ≤ time
+    → IsLeastNext until events clocks taken (length clocks) None
+none-next until events clocks taken next time table is are least late = λ i d less.
+    no_next until (next_of until events clocks taken i d)
+    (next_below until events (slice_index_or clocks i d) (slice_index taken i) (next_of until events clocks taken i d) refl table (is i d less))
+    (subst (λ n. until ≤ n) (are.1 i d less) (omega (arith, least.below i less, late)))
 
 -- once it has ended it has no further time
 pub clock-stops : (until : ℕ) (events : List (List ℕ)) (clock : Clock) (k m : ℕ) → IsClockOf (length events) clock

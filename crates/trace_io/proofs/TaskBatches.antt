@@ -1,6 +1,6 @@
 -- The tasks of a diagram have batches, if they don't occur too often.
-use Rattle.std.proofs.Common.{◌≡◌, ℕ, zero, suc, ◌+◌, ◌<◌, ◌≤◌, All, List, [], ◌∷◌, ◌++◌, length, map, replicate, get_or, set, Option, Some, None, refl, sym, ap, ◌∙◌, subst, inl, inr, ◌⊎◌, arith}
-use Rattle.std.specs.Prelude.{slice_index, unwrap_or}
+use Rattle.std.proofs.Common.{◌≡◌, ℕ, zero, suc, ◌+◌, ◌<◌, ◌≤◌, All, List, [], ◌∷◌, ◌++◌, length, map, replicate, get_or, set, Option, refl, sym, ap, ◌∙◌, subst, inl, inr, ◌⊎◌, arith}
+use Rattle.std.specs.Prelude.{min, slice_index, unwrap_or}
 use Rattle.std.specs.List.{range_with_len}
 use Rattle.std.specs.List.Sorted.{IsStrictlyIncreasing}
 use Rattle.std.specs.Option.{option_map}
@@ -22,52 +22,22 @@ use Rattle.dbp_plan.specs.ListItems.{same_list}
 use Rattle.dbp_plan.proofs.OwnSamples.{range-place}
 use Rattle.trace_io.specs.Batches.{AreBatches, times_in, total_of}
 use Rattle.trace_io.specs.Counts.{IsClockOf, IsTimetable}
-use Rattle.trace_io.specs.Merging.{AreMerged, AreNext, IsLeastBelow, IsLeastNext, TakesDue, is_at, next_of, ticks_of}
-use Rattle.trace_io.proofs.Due.{pass-one, take-one}
+use Rattle.trace_io.specs.Merging.{AreMerged, AreNext, IsLeast, TakesDue, is_at, next_of, ticks_of}
+use Rattle.trace_io.proofs.Due.{least-more, least-none, pass-one, take-one}
 use Rattle.trace_io.proofs.MergeClocks.{base-ends, base-rising, merged-tasks, same-total}
-use Rattle.trace_io.proofs.Merges.{Merged, after, after-push, least-next, merge-end, merge-step, merged-none}
+use Rattle.trace_io.proofs.Merges.{Merged, after, after-push, least-next, merge-end, merge-step, merged-none, none-next}
 
 -- ---- the least of some times
 
--- it is at most each of the times, and one of them if it is below the end
-record IsLeast (until : ℕ) (times : List ℕ) (least : ℕ) : Type 0 where
-  below : (i : ℕ) → i < length times → least ≤ slice_index times i
-  stands : least < until → (i : ℕ) × (i < length times) × (slice_index times i ≡ least)
+abbrev Least : ℕ → List ℕ → ℕ → Type 0
+Least until times n = (least : ℕ) × IsLeast until times n least
 
--- what is at most the first time, and at most each further one
-below-all : (least t : ℕ) (times : List ℕ) → least ≤ t → ((i : ℕ) → i < length times → least ≤ slice_index times i)
-    → (i : ℕ) → i < length (t ∷ times) → least ≤ slice_index (t ∷ times) i
-below-all least t times first rest zero inside = first
-below-all least t times first rest (suc i) inside = rest i (omega arith)
-
-least-of : (until : ℕ) (times : List ℕ) → (least : ℕ) × IsLeast until times least
-least-of until [] = (until, record { below = λ i inside. absurd (omega (arith, inside)); stands = λ early. absurd (omega (arith, early)) })
-least-of until (t ∷ times) =
-    let (least, is) = least-of until times in
-    elim (cases_lt t least) [
-      | inl new ↦ (
-        t,
-        record {
-          below = below-all t t times (omega arith) (λ i inside. omega (arith, new, is.below i inside));
-          stands = λ early. (0, omega arith, refl);
-        },
-      )
-      | inr old ↦ (
-        least,
-        record {
-          below = below-all least t times old is.below;
-          stands = λ early. let place = is.stands early in (suc place.0, omega (arith, place.1), place.2);
-        },
-      )
-    ]
-
-least-below : (until : ℕ) (times : List ℕ) → (r : Option ℕ) × IsLeastBelow until times r
-least-below until times =
-    let (least, is) = least-of until times in
-    elim (cases_lt least until) [
-      | inl early ↦ (Some least, (early, is.stands early, is.below))
-      | inr late ↦ (None, λ i inside. omega (arith, late, is.below i inside))
-    ]
+least-of : (until : ℕ) (times : List ℕ) (n : ℕ) → Least until times n
+least-of until times zero = (until, least-none until times)
+least-of until times (suc n) =
+    let (least, is) = least-of until times n in
+    let one_more : n + 1 ≡ suc n = omega arith in
+    subst (Least until times) one_more (min least (slice_index times n), least-more until times n least is)
 
 -- ---- the merge of clocks, batch by batch
 
@@ -133,15 +103,15 @@ module _ (until : ℕ) (events : List (List ℕ)) (clocks : List Clock) (table :
   module _ (few : ticks_of until events clocks ≤ MAX_OCCURRENCES) where
     turn : (taken : List ℕ) (made : List Batch) → Merged until events clocks taken made → Batches ⊎ OneMore made
     turn taken made merged =
-        let (r, least) = least-below until (next_times taken) in
-        go r (least-next until events clocks taken (next_times taken) r table are (are-next taken) least)
-      where
-        go : (r : Option ℕ) → IsLeastNext until events clocks taken (length clocks) r → Batches ⊎ OneMore made
-        go None none = inl (made, merge-end until events clocks taken made are few merged none)
-        go (Some time) least =
-            let (more, tasks, due) = due-of taken time (length clocks) (omega arith) merged.places in
-            let step = merge-step until events clocks taken more made time tasks table are merged least due in
-            inr (more, record { time = time; tasks = tasks }, step.0, step.1, step.2)
+        let (time, least) = least-of until (next_times taken) (length clocks) in
+        elim (cases_lt time until) [
+          | inl early ↦
+              let next = least-next until events clocks taken (next_times taken) time (are-next taken) least early in
+              let (more, tasks, due) = due-of taken time (length clocks) (omega arith) merged.places in
+              let step = merge-step until events clocks taken more made time tasks table are merged next due in
+              inr (more, record { time = time; tasks = tasks }, step.0, step.1, step.2)
+          | inr late ↦ inl (made, merge-end until events clocks taken made are few merged (none-next until events clocks taken (next_times taken) time table are (are-next taken) least late))
+        ]
 
     -- in so many turns at most
     all-turns : (turns : ℕ) (taken : List ℕ) (made : List Batch) → Merged until events clocks taken made → until ≤ after made + turns → Batches

@@ -1,5 +1,5 @@
 -- What is handed to the merge for tasks with a `when`.
-use Rattle.std.specs.Prelude.{◌≡◌, ℕ, ◌<◌, ◌≤◌, ◌==◌, if◌then◌else◌, All, List, [], ◌∷◌, length, slice_index_or}
+use Rattle.std.specs.Prelude.{◌≡◌, ℕ, ◌<◌, ◌≤◌, ◌==◌, if◌then◌else◌, All, List, [], ◌∷◌, length, slice_get, slice_index_or, Some}
 use Rattle.std.specs.Option.{ForSome}
 use Rattle.std.specs.List.Sorted.{IsNonDecreasingBy}
 use Rattle.dbp_plan.specs.declared.diagram.Task.{Task}
@@ -17,6 +17,10 @@ own_lists inputs samples lists = if inputs == 1 then samples ∷ [] else lists
 -- each list of samples stands by time
 abbrev pub RiseInTime : List (List Sample) → Type 0
 RiseInTime own = All (IsNonDecreasingBy (λ s. s.time)) own
+
+-- the tasks at these places have one clock and one `when`
+abbrev pub AreAlike : List Task → ℕ → ℕ → Type 0
+AreAlike tasks i j = (a b : Task) → slice_get tasks i ≡ Some a → slice_get tasks j ≡ Some b → (a.clock ≡ b.clock) × (a.when ≡ b.when)
 
 -- the times of the events, and of some more events after them
 pub record HasMoreEvents (events more : List (List ℕ)) : Type 0 where

@@ -43,12 +43,11 @@ abbrev pub AreNext : ℕ → List (List ℕ) → List Clock → List ℕ → Lis
 AreNext until events clocks taken next = (length next ≡ length clocks)
     × ((i : ℕ) (d : Clock) → i < length clocks → slice_index next i ≡ unwrap_or (next_of until events clocks taken i d) until)
 
--- none of the times is below the end, or the least of them is this one
-abbrev pub IsLeastBelow : ℕ → List ℕ → Option ℕ → Type 0
-IsLeastBelow until times r = MatchOption r
-    ((i : ℕ) → i < length times → until ≤ slice_index times i)
-    (λ time. (time < until) × ((i : ℕ) × (i < length times) × (slice_index times i ≡ time))
-    × ((i : ℕ) → i < length times → time ≤ slice_index times i))
+-- the least of the first n of the times, or the end if none of these is before it
+pub record IsLeast (until : ℕ) (times : List ℕ) (n least : ℕ) : Type 0 where
+  pub within : least ≤ until
+  pub stands : least < until → (i : ℕ) × (i < n) × (slice_index times i ≡ least)
+  pub below : (i : ℕ) → i < n → least ≤ slice_index times i
 
 -- whether a next occurrence is at this time
 abbrev pub is_at : ℕ → Option ℕ → Bool

@@ -2,7 +2,7 @@
 
 ghost use Rattle.std.specs.Prelude.{◌≡◌, ◌<◌, ◌≤◌, All, IfOk, OnOk, length};
 ghost use Rattle.trace_io.specs.Counts.{IsClockOf, IsTimetable};
-ghost use Rattle.trace_io.specs.Merging.{AreMerged, AreNext, IsLeastBelow, TakesDue, ticks_of};
+ghost use Rattle.trace_io.specs.Merging.{AreMerged, AreNext, IsLeast, TakesDue, ticks_of};
 
 use crate::clocks::nth_time;
 use dbp_plan::{Batch, Clock, List, MAX_OCCURRENCES, MAX_TASKS, NoMemory, TaskNumbers};
@@ -24,10 +24,12 @@ pub(crate) fn merged(
 {
     let mut taken = vec![in alloc; 0u64; clocks.len()]?;
     let mut next = next_times(alloc, until, events, clocks, &taken)?;
+    let mut time = least_of(until, &next);
     let mut made = List::new(alloc);
-    while let Some(time) = least_below(until, &next) {
-        let tasks = take_due(alloc, until, events, clocks, &mut taken, &mut next, time)?;
+    while time < until {
+        let (tasks, later) = take_due(alloc, until, events, clocks, &mut taken, &mut next, time)?;
         made.push(Batch { time, tasks })?;
+        time = later;
     }
     Ok(made)
 }
@@ -53,18 +55,19 @@ fn next_times(
     Ok(next)
 }
 
-// The least of the times that are below `until`.
-fn least_below(until: u64, times: &[u64]) -> Option<u64>
-    ensures { IsLeastBelow until times.now result }
+// The least of the times, or `until` if none is below it.
+fn least_of(until: u64, times: &[u64]) -> u64
+    ensures { IsLeast until times.now (length times.now) result }
 {
     let mut least = until;
     for i in 0..times.len() {
         least = least.min(times[i]);
     }
-    if least < until { Some(least) } else { None }
+    least
 }
 
-// The tasks whose next occurrence is at this time, in order. Each of these occurrences is then taken.
+// The tasks whose next occurrence is at this time, in order; and, with each of these occurrences taken, the least time at
+// which one is next, or `until`. Both are found on one walk over the tasks: where they are many it takes most of the time.
 fn take_due(
     alloc: Global,
     until: u64,
@@ -73,7 +76,7 @@ fn take_due(
     taken: &mut [u64],
     next: &mut [u64],
     time: u64,
-) -> Result<TaskNumbers, NoMemory>
+) -> Result<(TaskNumbers, u64), NoMemory>
     requires clocks { All (IsClockOf (length events.now)) clocks.now }
     requires tasks { length clocks.now ≤ MAX_TASKS }
     requires table { IsTimetable until events.now }
@@ -81,17 +84,20 @@ fn take_due(
     requires few { All (λ n. n ≤ MAX_OCCURRENCES) taken.old }
     requires next { AreNext until events.now clocks.now taken.old next.old }
     requires time { time < until }
-    ensures due { IfOk result (λ tasks.
-        TakesDue until events.now clocks.now taken.old taken.new time (length clocks.now) tasks) }
+    ensures due { IfOk result (λ r.
+        TakesDue until events.now clocks.now taken.old taken.new time (length clocks.now) r.0) }
     ensures next { OnOk result (AreNext until events.now clocks.now taken.new next.new) }
+    ensures least { IfOk result (λ r. IsLeast until next.new (length clocks.now) r.1) }
 {
     let mut tasks = TaskNumbers::new(alloc);
+    let mut least = until;
     for i in 0..clocks.len() {
         if next[i] == time {
             tasks.push(i as u32)?;
             taken[i] += 1;
             next[i] = nth_time(until, events, clocks[i], taken[i]).unwrap_or(until);
         }
+        least = least.min(next[i]);
     }
-    Ok(tasks)
+    Ok((tasks, least))
 }

@@ -10,7 +10,7 @@ ghost use Rattle.trace_io.specs.Counts.{HasNumbersInRange, IsClockOf, IsTimetabl
 ghost use Rattle.trace_io.specs.Spans.{IsSpanEnd, is_on_by};
 
 use crate::clocks::{count_before, nth_time, occurrences};
-use dbp_plan::{Clock, Diagram, List, NoMemory, Sample};
+use dbp_plan::{Clock, Diagram, List, MAX_TASKS, NoMemory, Sample, Task};
 use std::alloc::Global;
 
 // How many base times of the clock are before the sample with this number, counted from 0; all, if there is no such
@@ -122,12 +122,12 @@ fn push_times(
     Ok(())
 }
 
-ghost use Rattle.std.specs.Prelude.{ℕ, All, List as Items, slice_get, Some};
+ghost use Rattle.std.specs.Prelude.{ℕ, All, List as Items, MatchOption, slice_get, Some};
 ghost use Rattle.dbp_plan.specs.Ranked.{IsRanked};
 ghost use Rattle.dbp_plan.specs.declared.schedule.Sample.{Sample as AnySample};
 ghost use Rattle.dbp_plan.specs.declared.diagram.Task.{Task as AnyTask};
 ghost use Rattle.trace_io.specs.Batches.{times_in, total_of};
-ghost use Rattle.trace_io.specs.Guards.{HasItsSamples, HasMoreEvents, RiseInTime};
+ghost use Rattle.trace_io.specs.Guards.{AreAlike, HasItsSamples, HasMoreEvents, RiseInTime};
 
 // The samples of the input; none if there is no list of them.
 fn samples_at(own: &[List<Sample>], input: u32) -> &[Sample]
@@ -160,7 +160,23 @@ fn task_count(diagram: &Diagram, events: &[List<u64>], own: &[List<Sample>], i: 
     }
 }
 
-/// How often all tasks together occur. No tick is walked.
+// The first task before this one that has its clock and its `when`, and so its times.
+fn alike_before(tasks: &[Task], i: u32) -> Option<u32>
+    requires { i < length tasks.now }
+    ensures { MatchOption result ((j : ℕ) → j < i → AreAlike tasks.now j i → ⊥)
+        (λ j. (j < i) × AreAlike tasks.now j i) }
+{
+    let task = &tasks[i as usize];
+    for j in 0..i {
+        let other = &tasks[j as usize];
+        if other.clock == task.clock && other.when == task.when {
+            return Some(j);
+        }
+    }
+    None
+}
+
+/// How often all tasks together occur. No tick is walked, and tasks of one clock and one `when` are counted once.
 pub(crate) fn total(diagram: &Diagram, events: &[List<u64>], own: &[List<Sample>]) -> u64
     requires ranked { IsRanked diagram.now }
     requires table { IsTimetable diagram.now.until events.now }
@@ -169,8 +185,14 @@ pub(crate) fn total(diagram: &Diagram, events: &[List<u64>], own: &[List<Sample>
         → result ≡ total_of diagram.now samples events.now }
 {
     let mut sum = 0;
+    let mut counts = [0u64; MAX_TASKS as usize];
     for i in 0..diagram.tasks.len() {
-        sum += task_count(diagram, events, own, i);
+        let count = match alike_before(diagram.tasks.items(), i) {
+            Some(j) => counts[j as usize],
+            None => task_count(diagram, events, own, i),
+        };
+        counts[i as usize] = count;
+        sum += count;
     }
     sum
 }
@@ -213,8 +235,9 @@ fn merge_clock(
     }
 }
 
-/// The clocks that the merge takes for the tasks. A task with a `when` has an event of its own, whose times are added
-/// behind those of the diagram's events; any other task keeps its clock.
+/// The clocks that the merge takes for the tasks. Tasks with a `when` have an event of their own, which those with one
+/// clock and one `when` share, so that their times are kept once; its times are added behind those of the diagram's
+/// events. Any other task keeps its clock.
 pub(crate) fn merge_clocks(
     alloc: Global,
     diagram: &Diagram,
@@ -234,7 +257,11 @@ pub(crate) fn merge_clocks(
 {
     let mut clocks = Vec::new(alloc);
     for i in 0..diagram.tasks.len() {
-        clocks.push(merge_clock(alloc, diagram, events, own, i)?)?;
+        let clock = match alike_before(diagram.tasks.items(), i) {
+            Some(j) => clocks[j as usize],
+            None => merge_clock(alloc, diagram, events, own, i)?,
+        };
+        clocks.push(clock)?;
     }
     Ok(clocks)
 }

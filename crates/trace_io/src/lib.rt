@@ -13,7 +13,8 @@
 //!
 //! Occurrences are counted by division, and no loop walks ticks. Between two samples of its input a task with a `when`
 //! has all base times of its clock, or none; its times are made after all are counted, and handed to the merge as those
-//! of one more event (`guards`). A task without a `when` costs the merge what it did.
+//! of one more event, which tasks of one clock and one `when` share (`guards`). A task without a `when` costs the merge
+//! what it did. For each batch the merge walks the tasks once (`batches`).
 #![tactic(auto)]
 
 mod batches;

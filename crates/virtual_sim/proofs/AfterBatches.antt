@@ -19,12 +19,14 @@ use Rattle.dbp_rules.specs.declared.step.Step.{Step}
 use Rattle.dbp_rules.specs.declared.wiring.Wiring.{Wiring}
 use Rattle.instance_steps.specs.Events.{Event}
 use Rattle.instance_steps.specs.Plays.{Plays}
-use Rattle.instance_steps.proofs.PlaysLaws.{plays_apart}
-use Rattle.virtual_sim.specs.Record.{IsRecord, StandsAfterBatch, end_events_at, events_at, events_before, events_so_far, release_events_at, service_events_of}
+use Rattle.instance_steps.proofs.PlaysLaws.{one_play, plays_apart}
+use Rattle.instance_steps.proofs.ReleasedPlaces.{actions, actions-append, batches_actions, place_of_play}
+use Rattle.virtual_time.specs.Pieces.{release_events_at, service_events_of}
+use Rattle.virtual_time.proofs.PieceActions.{end_none, service_none}
+use Rattle.virtual_time.proofs.PieceEvents.{releases-append}
+use Rattle.virtual_sim.specs.Record.{IsRecord, StandsAfterBatch, end_events_at, events_at, events_before, events_so_far}
 use Rattle.virtual_sim.proofs.EndEvents.{events_on}
-use Rattle.virtual_sim.proofs.OneRecord.{one_play}
-use Rattle.virtual_sim.proofs.Recorded.{next_events, releases-append}
-use Rattle.virtual_sim.proofs.ReleasedPlaces.{actions, actions-append, batches_actions, ends_none, place_of_play, service_none}
+use Rattle.virtual_sim.proofs.SoFar.{next_events}
 
 -- ---- batches by time
 
@@ -82,6 +84,11 @@ module _ (links : List Link) where
 -- ---- the actions among the events
 
 module _ (p : Plan) (serve : ℕ → Option Instance) where
+  -- an end has no action
+  ends_none : (t : ℕ) → actions (end_events_at p serve t) ≡ 0
+  ends_none zero = refl
+  ends_none (suc t) = end_none p serve (serve t) (suc t)
+
   no_ticks : actions (events_before p serve 0) ≡ 0
   unfolding events_before
   no_ticks = refl
@@ -91,22 +98,22 @@ module _ (p : Plan) (serve : ℕ → Option Instance) where
   before_actions zero = no_ticks ∙ sym (ap (size p.diagram.links) (filter-none (λ b. nat_lt b.time 0) p.batches (λ k d less. le-ltb (get_or p.batches k d).time 0 (omega arith))))
   before_actions (suc t) =
       let ends : List Event = end_events_at p serve t in
-      let releases : List Event = release_events_at p serve p.batches t in
+      let releases : List Event = release_events_at p p.batches t in
       let steps : List Event = service_events_of p serve (serve t) t in
       let all = ap actions (next_events p serve t) in
       let released : actions releases ≡ size p.diagram.links (due p.batches t) = batches_actions p (due p.batches t) in
       omega
-      (arith, all, actions-append (events_before p serve t) (ends ++ (releases ++ steps)), actions-append ends (releases ++ steps), actions-append releases steps, before_actions t, ends_none p serve t, released, service_none p serve (serve t) t, tick_more p.diagram.links p.batches t)
+      (arith, all, actions-append (events_before p serve t) (ends ++ (releases ++ steps)), actions-append ends (releases ++ steps), actions-append releases steps, before_actions t, ends_none t, released, service_none p serve (serve t) t, tick_more p.diagram.links p.batches t)
 
   -- and among those up to a batch are the actions of the batches up to it
   so_far_actions : (number : ℕ) (b : Batch) → slice_get p.batches number ≡ Some b
       → actions (events_so_far p serve (suc number) b.time) ≡ size p.diagram.links (take (suc number) p.batches)
   so_far_actions number b there =
       let ends : List Event = end_events_at p serve b.time in
-      let releases : List Event = release_events_at p serve (take (suc number) p.batches) b.time in
+      let releases : List Event = release_events_at p (take (suc number) p.batches) b.time in
       let released : actions releases ≡ size p.diagram.links (due (take (suc number) p.batches) b.time) = batches_actions p (due (take (suc number) p.batches) b.time) in
       omega
-      (arith, actions-append (events_before p serve b.time) (ends ++ releases), actions-append ends releases, before_actions b.time, ends_none p serve b.time, released, up_to p.diagram.links p.batches number b (rise p.batches p.rules.rising) there)
+      (arith, actions-append (events_before p serve b.time) (ends ++ releases), actions-append ends releases, before_actions b.time, ends_none b.time, released, up_to p.diagram.links p.batches number b (rise p.batches p.rules.rising) there)
 
   -- the events up to a later tick are those up to the release of so many batches, then others
   parted_after : (number t k : ℕ) → (more : List Event) × (events_before p serve (t + suc k) ≡ events_so_far p serve number t ++ more)
@@ -114,11 +121,11 @@ module _ (p : Plan) (serve : ℕ → Option Instance) where
       let (more, is) = events_on p serve t k in
       let before : List Event = events_before p serve t in
       let ends : List Event = end_events_at p serve t in
-      let first : List Event = release_events_at p serve (take number p.batches) t in
-      let second : List Event = release_events_at p serve (drop number p.batches) t in
+      let first : List Event = release_events_at p (take number p.batches) t in
+      let second : List Event = release_events_at p (drop number p.batches) t in
       let steps : List Event = service_events_of p serve (serve t) t in
-      let parts : release_events_at p serve p.batches t ≡ first ++ second =
-      ap (λ (l : List Batch). release_events_at p serve l t) (sym (take-append-drop number p.batches)) ∙ releases-append p serve (take number p.batches) (drop number p.batches) t in
+      let parts : release_events_at p p.batches t ≡ first ++ second =
+      ap (λ (l : List Batch). release_events_at p l t) (sym (take-append-drop number p.batches)) ∙ releases-append p (take number p.batches) (drop number p.batches) t in
       let own : events_at p serve t ++ more ≡ (ends ++ first) ++ ((second ++ steps) ++ more) =
       ap (λ (l : List Event). (ends ++ (l ++ steps)) ++ more) parts
       ∙ ap (λ (l : List Event). (ends ++ l) ++ more) (append_assoc first second steps)

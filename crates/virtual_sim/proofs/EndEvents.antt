@@ -21,9 +21,11 @@ use Rattle.dbp_rules.specs.declared.wiring.Wiring.{Wiring}
 use Rattle.instance_steps.specs.Events.{Event, end_events}
 use Rattle.instance_steps.specs.Plays.{Plays}
 use Rattle.instance_steps.proofs.PlaysLaws.{plays_apart, plays_leads}
-use Rattle.virtual_sim.specs.Record.{HasEndAt, IsRecord, end_events_at, end_events_of, events_at, events_before, release_events_at, service_events_of}
+use Rattle.virtual_time.specs.Pieces.{end_events_of, release_events_at, service_events_of}
+use Rattle.virtual_time.proofs.PieceEvents.{an_end, no_end}
+use Rattle.virtual_sim.specs.Record.{HasEndAt, IsRecord, end_events_at, events_at, events_before}
 use Rattle.virtual_sim.proofs.OneRecord.{none_served}
-use Rattle.virtual_sim.proofs.Recorded.{an_end, next_events, no_end}
+use Rattle.virtual_sim.proofs.SoFar.{next_events}
 
 module _ (p : Plan) (serve : ℕ → Option Instance) (is_service : IsService p serve) where
   -- a tick has no end, or that of the instance that ends then
@@ -103,7 +105,7 @@ end_is_there p script r x e end =
     let until : e + suc (r.last - e) ≡ r.last + 1 = omega (arith, there, end.after) in
     let (more, parted) = events_on p (service p) e (r.last - e) in
     let own : List Event = end_events p x.task in
-    let other : List Event = release_events_at p (service p) p.batches e ++ service_events_of p (service p) (service p e) e in
+    let other : List Event = release_events_at p p.batches e ++ service_events_of p (service p) (service p e) e in
     let is : events_before p (service p) (r.last + 1) ≡ events_before p (service p) e ++ (own ++ (other ++ more)) =
     ap (events_before p (service p)) (sym until) ∙ parted
     ∙ ap (λ (l : List Event). events_before p (service p) e ++ l)

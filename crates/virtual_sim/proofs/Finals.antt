@@ -33,15 +33,16 @@ use Rattle.instance_steps.specs.declared.recorder.Keeping.{Keeping}
 use Rattle.instance_steps.specs.declared.recorder.Keeping.TheVariants.{Steps, Nothing}
 use Rattle.instance_steps.proofs.RowsKept.{ended_rows_all}
 use Rattle.virtual_sim.specs.Outcomes.{AreEnds}
-use Rattle.virtual_sim.specs.Record.{IsRecord, events_before, events_so_far, service_events_of}
-use Rattle.virtual_sim.specs.Recordings.{place_of}
-use Rattle.virtual_sim.specs.Runs.{IsRun}
-use Rattle.virtual_sim.specs.Simulations.{IsSimulation}
-use Rattle.virtual_sim.specs.State.{IsSimulatedTo, release_count}
+use Rattle.virtual_time.specs.Pieces.{service_events_of}
+use Rattle.virtual_sim.specs.Record.{IsRecord, events_before, events_so_far}
+use Rattle.virtual_time.specs.Recordings.{place_of}
+use Rattle.virtual_time.specs.Runs.{IsRun}
+use Rattle.virtual_sim.specs.Simulations.{IsSimulation, one_processor}
+use Rattle.virtual_time.specs.State.{IsSimulatedTo, release_count}
 use Rattle.virtual_sim.specs.declared.simulation.Simulation.{Simulation}
-use Rattle.virtual_sim.proofs.Recorded.{with_service}
-use Rattle.virtual_sim.proofs.Releases.{none_late}
-use Rattle.virtual_sim.proofs.Steps.{busy_count_none, ended_left, is_end}
+use Rattle.virtual_sim.proofs.SoFar.{with_service}
+use Rattle.virtual_time.proofs.Releases.{none_late}
+use Rattle.virtual_time.proofs.Steps.{busy_count_none, ended_left, is_end}
 
 -- ---- the start
 
@@ -74,7 +75,7 @@ none_kept : (keeping : Keeping) → IfSome (first_record keeping) (λ l. l ≡ [
 none_kept Steps = refl
 none_kept Nothing = search rules
 
-pub starts : (p : Plan) (s : Simulation) (keeping : Keeping) → IsRun p s.run → s.run.time ≡ 0 → s.run.released ≡ 0 → s.run.rest.items ≡ replicate (length p.diagram.tasks) 0 → s.run.ends ≡ replicate (length p.diagram.tasks) []
+pub starts : (p : Plan) (s : Simulation) (keeping : Keeping) → IsRun p (one_processor p s.run.time) s.run → s.run.time ≡ 0 → s.run.released ≡ 0 → s.run.rest.items ≡ replicate (length p.diagram.tasks) 0 → s.run.ends ≡ replicate (length p.diagram.tasks) []
     → plan_in s.recorder ≡ p → count_in s.recorder ≡ Ranked → state_in s.recorder ≡ start_of p (wiring_of p Ranked) → record_in s.recorder ≡ first_record keeping → HasEndedRows p (state_in s.recorder) (table_in s.recorder) → IsSimulation p s
 starts p s keeping run time released rest ends plan count state kept rows =
     let w : Wiring = wiring_of p Ranked in
@@ -116,13 +117,13 @@ module _ (p : Plan) (s : Simulation) (h : IsSimulation p s) (last : s.run.releas
   are_ends = record {
     tasks = h.run.at.lists;
     numbers = all_counted;
-    each = λ i k il kl. is_end p (service p) (service_is p) (record { task = i; number = k + 1 }) (get_or (get_or s.run.ends i []) k 0) (h.run.at.ended i k il kl);
+    each = λ i k il kl. is_end p (service p) (serves_waiting p (service p) (service_is p)) (record { task = i; number = k + 1 }) (get_or (get_or s.run.ends i []) k 0) (h.run.at.ended i k il kl);
   }
 
   nothing_left : (x : Instance) → IsInstance p x → left_of p (service p) x s.run.time ≡ 0
   nothing_left x here =
       let n = all_counted x.task here.task in
-      ended_left p (service p) (service_is p) s.run.released s.run.time s.run.rest.items s.run.ends h.run.at x.task x.number here.task here.from_one (let w = here.within in omega (arith, n, w))
+      ended_left p (λ k. 0) (λ c. service p) s.run.released (λ c. s.run.time) s.run.rest.items s.run.ends h.run.at x.task x.number here.task here.from_one (let w = here.within in omega (arith, n, w))
 
   nobody : (o : Option Instance) → service p s.run.time ≡ o → o ≡ None
   nobody None is = refl
@@ -132,13 +133,13 @@ module _ (p : Plan) (s : Simulation) (h : IsSimulation p s) (last : s.run.releas
       absurd (omega (arith, n, w.unfinished))
 
   pub in_time : NoOverrun p (left_of p (service p))
-  in_time = none_late p (service p) s.run.time s.run.rest.items s.run.ends (subst (λ (b : ℕ). IsSimulatedTo p (service p) b s.run.time s.run.rest.items s.run.ends) last h.run.at)
+  in_time = none_late p (λ k. 0) (λ c. service p) (λ c. s.run.time) s.run.rest.items s.run.ends (subst (λ (b : ℕ). IsSimulatedTo p (λ k. 0) (λ c. service p) b (λ c. s.run.time) s.run.rest.items s.run.ends) last h.run.at)
 
   is_record : IsRecord p h.recorded.steps
   is_record = record {
     in_time = in_time;
     last = s.run.time;
-    released = λ k d kl. h.run.at.early k d (omega (arith, kl, last)) kl;
+    released = λ k d kl. h.run.at.early 0 k d (omega (arith, kl, last)) kl;
     ended = nothing_left;
     state = state_in s.recorder;
     plays =

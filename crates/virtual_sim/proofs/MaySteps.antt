@@ -8,7 +8,6 @@ use Rattle.rank_order.specs.Queue.{IsServedFirst}
 use Rattle.rank_order.specs.Service.{GoesBefore}
 use Rattle.rank_order.specs.ServiceOf.{service}
 use Rattle.rank_order.proofs.HigherRanks.{released_earlier}
-use Rattle.rank_order.proofs.SomeService.{service_is}
 use Rattle.dbp_rules.specs.Lookups.{task, task_entry}
 use Rattle.dbp_rules.specs.Rules.{own_time}
 use Rattle.dbp_rules.specs.Wired.{wiring_of}
@@ -17,13 +16,14 @@ use Rattle.dbp_rules.specs.declared.step.Count.TheVariants.{Ranked}
 use Rattle.dbp_rules.specs.declared.wiring.TaskWiring.{TaskWiring}
 use Rattle.dbp_rules.proofs.WiringParts.{wired_is, wired_tasks}
 use Rattle.instance_steps.specs.TaskPieces.{MayStep}
-use Rattle.virtual_sim.specs.Runs.{IsRun}
-use Rattle.virtual_sim.specs.State.{NoBatchBefore, instance, release_count}
-use Rattle.virtual_sim.specs.declared.run.Run.{Run}
-use Rattle.virtual_sim.proofs.Running.{first_small, first_some, is_choice}
-use Rattle.virtual_sim.proofs.Steps.{busy_count_one, busy_count_none, waits_from}
+use Rattle.virtual_time.specs.Runs.{IsRun}
+use Rattle.virtual_time.specs.State.{NoBatchBefore, instance, release_count}
+use Rattle.virtual_time.specs.declared.run.Run.{Run}
+use Rattle.virtual_time.proofs.Steps.{busy_count_one, busy_count_none, waits_from}
+use Rattle.virtual_sim.specs.Simulations.{one_processor}
+use Rattle.virtual_sim.proofs.FirstServed.{first_small, first_some, is_choice}
 
-module _ (p : Plan) (r : Run) (run : IsRun p r) (s : State) (ended : (j : ℕ) → j < length p.diagram.tasks → (task s j).part.ended ≡ length (get_or r.ends j []))
+module _ (p : Plan) (r : Run) (run : IsRun p (one_processor p r.time) r) (s : State) (ended : (j : ℕ) → j < length p.diagram.tasks → (task s j).part.ended ≡ length (get_or r.ends j []))
     (aimed : (j : ℕ) → j < length p.diagram.tasks → (task_entry s j).aimed ≡ release_count p.batches r.released j) where
   -- the time that the steps look at is the release of the last released instance, if something is left of it
   own_release : (j : ℕ) → j < length p.diagram.tasks → 0 < get_or r.rest.items j 0 → own_time (wiring_of p Ranked) s j ≡ release_of p (instance j (release_count p.batches r.released j))
@@ -47,7 +47,7 @@ module _ (p : Plan) (r : Run) (run : IsRun p r) (s : State) (ended : (j : ℕ) �
       (cases_eq (get_or r.rest.items q 0) 0) in
       let x : Instance = instance i (release_count p.batches r.released i) in
       let y : Instance = instance q (release_count p.batches r.released q) in
-      let waits = waits_from p (service p) (service_is p) r.released r.time r.rest.items r.ends run.at q qn some in
+      let waits = waits_from p (λ k. 0) (λ c. service p) r.released (λ c. r.time) r.rest.items r.ends run.at q qn some in
       let earlier : release_of p x < release_of p y = ⊎_elim
       (λ (same : y ≡ x). let e = ap (λ (z : Instance). get_or p.diagram.ranks z.task 0) same in absurd (omega (arith, e, ranks)))
       (λ (before : GoesBefore p x y). released_earlier p i q il qn ranks (release_of p x) (release_of p y) before)

@@ -1,5 +1,5 @@
 -- A plan has one recorded list at most.
-use Rattle.std.proofs.Common.{◌≡◌, ℕ, zero, suc, ◌+◌, ◌-◌, ◌<◌, ◌≤◌, All, List, [], ◌∷◌, ◌++◌, Option, Some, None, refl, sym, ap, ◌∙◌, subst, ⊎_elim, arith}
+use Rattle.std.proofs.Common.{◌≡◌, ℕ, zero, suc, ◌+◌, ◌-◌, ◌<◌, ◌≤◌, All, List, [], ◌++◌, Option, Some, None, refl, sym, ap, ◌∙◌, subst, ⊎_elim, arith}
 use Rattle.std.proofs.lemmas.Bool.{cases_lt}
 use Rattle.std.proofs.lemmas.List.{append-nil}
 use Rattle.dbp_plan.specs.declared.plan.Plan.{Plan}
@@ -8,38 +8,18 @@ use Rattle.rank_order.specs.Service.{IsService, left_of}
 use Rattle.rank_order.specs.ServiceOf.{service}
 use Rattle.rank_order.proofs.OneService.{serves_waiting}
 use Rattle.rank_order.proofs.SomeService.{service_is}
-use Rattle.dbp_rules.specs.Rules.{next}
 use Rattle.dbp_rules.specs.Start.{start_of}
 use Rattle.dbp_rules.specs.Wired.{wiring_of}
-use Rattle.dbp_rules.specs.declared.state.State.{State}
 use Rattle.rank_order.proofs.ServedTicks.{left_falls}
 use Rattle.dbp_rules.specs.declared.step.Count.TheVariants.{Ranked}
 use Rattle.dbp_rules.specs.declared.step.Step.{Step}
-use Rattle.dbp_rules.specs.declared.step.Step.TheVariants.{Aim}
-use Rattle.dbp_rules.specs.declared.wiring.Wiring.{Wiring}
-use Rattle.instance_steps.specs.Events.{Event, aim_of, step_of}
-use Rattle.instance_steps.specs.Plays.{IsStepOf, Plays}
-use Rattle.virtual_sim.specs.Record.{IsRecord, end_events_of, events_at, events_before, release_events_at, service_events_of}
-use Rattle.virtual_sim.proofs.Recorded.{next_events, no_releases}
-
--- an event is one step
-one_step : (w : Wiring) (s : State) (v : Event) (e f : Step) → IsStepOf w s v e → IsStepOf w s v f → e ≡ f
-one_step w s (step_of x) e f is also = is ∙ sym also
-one_step w s (aim_of i) e f is also =
-    let same : is.0 ≡ also.0 = omega (arith, is.2.least also.0 also.2.allowed, also.2.least is.0 is.2.allowed) in
-    is.1 ∙ ap (λ (slot : ℕ). Aim i slot) same ∙ sym also.1
-
--- and events are one list of steps
-pub one_play : (p : Plan) (w : Wiring) (vs : List Event) (es fs : List Step) (s t u : State) → Plays p w s vs es t → Plays p w s vs fs u → es ≡ fs
-one_play p w [] [] [] s t u h k = refl
-one_play p w [] [] (f ∷ fs) s t u h k = absurd k
-one_play p w [] (e ∷ es) fs s t u h k = absurd h
-one_play p w (v ∷ vs) [] fs s t u h k = absurd h
-one_play p w (v ∷ vs) (e ∷ es) [] s t u h k = absurd k
-one_play p w (v ∷ vs) (e ∷ es) (f ∷ fs) s t u h k =
-    let same : e ≡ f = one_step w s v e f h.0 k.0 in
-    let rest : es ≡ fs = one_play p w vs es fs (next p w s e) t u h.2 (subst (λ (x : Step). Plays p w (next p w s x) vs fs u) (sym same) k.2) in
-    cc
+use Rattle.instance_steps.specs.Events.{Event}
+use Rattle.instance_steps.specs.Plays.{Plays}
+use Rattle.instance_steps.proofs.PlaysLaws.{one_play}
+use Rattle.virtual_time.specs.Pieces.{end_events_of, release_events_at, service_events_of}
+use Rattle.virtual_time.proofs.PieceEvents.{no_releases}
+use Rattle.virtual_sim.specs.Record.{IsRecord, events_at, events_before}
+use Rattle.virtual_sim.proofs.SoFar.{next_events}
 
 module _ (p : Plan) (serve : ℕ → Option Instance) (service : IsService p serve) (last : ℕ)
     (released : All (λ b. b.time ≤ last) p.batches) (ended : (x : Instance) → IsInstance p x → left_of p serve x last ≡ 0) where
@@ -57,8 +37,8 @@ module _ (p : Plan) (serve : ℕ → Option Instance) (service : IsService p ser
   no_events : (t : ℕ) → last < t → events_at p serve t ≡ []
   no_events zero lt = absurd (omega (arith, lt))
   no_events (suc t) lt =
-      let releases : release_events_at p serve p.batches (suc t) ≡ [] = no_releases p serve p.batches (suc t) (λ k d kl same. let r = released k d kl in omega (arith, r, same, lt)) in
-      ap (λ (o : Option Instance). end_events_of p serve o (suc t) ++ (release_events_at p serve p.batches (suc t) ++ service_events_of p serve (serve (suc t)) (suc t))) (none_served t (omega (arith, lt)))
+      let releases : release_events_at p p.batches (suc t) ≡ [] = no_releases p p.batches (suc t) (λ k d kl same. let r = released k d kl in omega (arith, r, same, lt)) in
+      ap (λ (o : Option Instance). end_events_of p serve o (suc t) ++ (release_events_at p p.batches (suc t) ++ service_events_of p serve (serve (suc t)) (suc t))) (none_served t (omega (arith, lt)))
       ∙ ap (λ (l : List Event). l ++ service_events_of p serve (serve (suc t)) (suc t)) releases
       ∙ ap (λ (o : Option Instance). service_events_of p serve o (suc t)) (none_served (suc t) (omega (arith, lt)))
 

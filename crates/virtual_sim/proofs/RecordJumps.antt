@@ -1,7 +1,6 @@
 -- What the ticks of a jump add to the events so far: those of its first tick, and of an end after its last.
-use Rattle.std.proofs.Common.{◌≡◌, ◌≢◌, ℕ, zero, suc, ◌+◌, ◌-◌, ◌<◌, ◌≤◌, List, [], ◌++◌, length, take, get_or, Option, Some, None, sym, ap, ◌∙◌, subst, ⊎_elim, arith}
-use Rattle.std.proofs.lemmas.Bool.{cases_lt}
-use Rattle.std.proofs.lemmas.List.{append-nil, get_or-take, length-take}
+use Rattle.std.proofs.Common.{◌≡◌, ℕ, zero, suc, ◌+◌, ◌-◌, ◌<◌, ◌≤◌, List, [], ◌++◌, length, get_or, Option, Some, None, sym, ap, ◌∙◌, subst, arith}
+use Rattle.std.proofs.lemmas.List.{append-nil}
 use Rattle.dbp_plan.specs.declared.plan.Plan.{Plan}
 use Rattle.dbp_plan.specs.declared.schedule.Batch.{Batch}
 use Rattle.rank_order.specs.Instances.{Instance}
@@ -9,32 +8,15 @@ use Rattle.rank_order.specs.Service.{GoesBefore, IsFirst, IsService, Waits, left
 use Rattle.rank_order.proofs.Jump as jump
 use Rattle.rank_order.proofs.Jump.{IsQuiet}
 use Rattle.instance_steps.specs.Events.{Event, end_events}
-use Rattle.virtual_sim.specs.Record.{end_events_at, end_events_of, events_at, events_before, events_so_far, release_events_at, service_events_of}
-use Rattle.virtual_sim.proofs.Recorded.{NoReadAt, an_end, next_events, no_end, no_releases, no_steps, with_service}
+use Rattle.virtual_time.specs.Pieces.{end_events_of, release_events_at, service_events_of}
+use Rattle.virtual_time.proofs.PieceEvents.{NoReadAt, an_end, no_end, no_steps, none_after, none_inside, none_later}
+use Rattle.virtual_sim.specs.Record.{end_events_at, events_at, events_before, events_so_far}
+use Rattle.virtual_sim.proofs.SoFar.{next_events, with_service}
 
 module _ (p : Plan) (serve : ℕ → Option Instance) (service : IsService p serve) (b t d : ℕ)
     (early : (k : ℕ) (e : Batch) → k < b → k < length p.batches → (get_or p.batches k e).time ≤ t)
     (later : (k : ℕ) (e : Batch) → b ≤ k → k < length p.batches → t + suc d ≤ (get_or p.batches k e).time)
     (quiet : IsQuiet p t (suc d)) where
-  none_inside : (k u : ℕ) (e : Batch) → k < length p.batches → t < u → u < t + suc d → (get_or p.batches k e).time ≢ u
-  none_inside k u e kl above below same = ⊎_elim
-      (λ (lt : k < b). let l = early k e lt kl in omega (arith, l, same, above))
-      (λ (ge : b ≤ k). let l = later k e ge kl in omega (arith, l, same, below))
-      (cases_lt k b)
-
-  none_later : (k : ℕ) (e : Batch) → b ≤ k → k < length p.batches → (get_or p.batches k e).time ≢ t
-  none_later k e ge kl same = let l = later k e ge kl in omega (arith, l, same)
-
-  -- none of the first b batches has the time after the jump
-  none_after : release_events_at p serve (take b p.batches) (t + suc d) ≡ []
-  none_after = no_releases p serve (take b p.batches) (t + suc d) (λ k e lt same.
-      let n = length-take b p.batches in
-      let kb : k < b = omega (arith, lt, n) in
-      let at = get_or-take b p.batches k e kb in
-      let l = early k e kb (omega (arith, lt, n)) in
-      let s = ap (λ (c : Batch). c.time) at in
-      omega (arith, l, same, s))
-
   -- ticks without events
   quiet_ticks : ((k : ℕ) → suc k < suc d → events_at p serve (suc (t + k)) ≡ []) → (k : ℕ) → suc k ≤ suc d → events_before p serve (t + suc k) ≡ events_before p serve (suc t)
   quiet_ticks none zero le = let e : t + 1 ≡ suc t = omega arith in ap (events_before p serve) e
@@ -49,9 +31,9 @@ module _ (p : Plan) (serve : ℕ → Option Instance) (service : IsService p ser
   after_jump : (o : Option Instance) (l : List Event) → serve t ≡ o → end_events_at p serve (t + suc d) ≡ l → events_before p serve (t + suc d) ≡ events_before p serve (suc t)
       → events_so_far p serve b (t + suc d) ≡ (events_so_far p serve b t ++ service_events_of p serve o t) ++ l
   after_jump o l now ends ticks =
-      ap (λ (r : List Event). events_before p serve (t + suc d) ++ (end_events_at p serve (t + suc d) ++ r)) none_after
+      ap (λ (r : List Event). events_before p serve (t + suc d) ++ (end_events_at p serve (t + suc d) ++ r)) (none_after p b t (suc d) (omega arith) early later)
       ∙ ap (λ (r : List Event). events_before p serve (t + suc d) ++ r) (append-nil (end_events_at p serve (t + suc d)) ∙ ends)
-      ∙ ap (λ (r : List Event). r ++ l) (ticks ∙ sym (with_service p serve b t none_later) ∙ ap (λ (q : Option Instance). events_so_far p serve b t ++ service_events_of p serve q t) now)
+      ∙ ap (λ (r : List Event). r ++ l) (ticks ∙ sym (with_service p serve b t (none_later p b t (suc d) (omega arith) early later)) ∙ ap (λ (q : Option Instance). events_so_far p serve b t ++ service_events_of p serve q t) now)
 
   -- the one that is served runs for the jump, and makes no read inside it
   module _ (x : Instance) (first : IsFirst (GoesBefore p) (Waits p (left_of p serve) t) (Some x)) (fits : suc d ≤ left_of p serve x t)
@@ -69,11 +51,11 @@ module _ (p : Plan) (serve : ℕ → Option Instance) (service : IsService p ser
         let now : serve (suc (t + k)) ≡ Some x = subst (λ (u : ℕ). serve u ≡ Some x) e (served_in (suc k) small) in
         let own : served_ticks serve x (suc (t + k)) ≡ served_ticks serve x t + suc k = subst (λ (u : ℕ). served_ticks serve x u ≡ served_ticks serve x t + suc k) e (ticks_at (suc k) (omega (arith, small))) in
         let ends : end_events_at p serve (suc (t + k)) ≡ [] = ap (λ (o : Option Instance). end_events_of p serve o (suc (t + k))) before ∙ no_end p serve x (suc (t + k)) (omega (arith, own, fits, small)) in
-        let releases = no_releases p serve p.batches (suc (t + k)) (λ n c lt. none_inside n (suc (t + k)) c lt (omega arith) (omega (arith, small))) in
+        let releases = none_inside p b t (suc d) (omega arith) early later (suc (t + k)) (omega arith) (omega (arith, small)) in
         let steps : service_events_of p serve (serve (suc (t + k))) (suc (t + k)) ≡ [] =
         ap (λ (o : Option Instance). service_events_of p serve o (suc (t + k))) now
         ∙ no_steps p serve x (suc (t + k)) (omega (arith, own)) (no_read (served_ticks serve x (suc (t + k))) (omega (arith, own)) (omega (arith, own, small))) in
-        ap (λ (l : List Event). l ++ (release_events_at p serve p.batches (suc (t + k)) ++ service_events_of p serve (serve (suc (t + k))) (suc (t + k)))) ends
+        ap (λ (l : List Event). l ++ (release_events_at p p.batches (suc (t + k)) ++ service_events_of p serve (serve (suc (t + k))) (suc (t + k)))) ends
         ∙ ap (λ (l : List Event). l ++ service_events_of p serve (serve (suc (t + k))) (suc (t + k))) releases
         ∙ steps
 
@@ -114,8 +96,8 @@ module _ (p : Plan) (serve : ℕ → Option Instance) (service : IsService p ser
         let e : t + suc k ≡ suc (t + k) = omega arith in
         let before = unserved_in k (omega (arith, small)) in
         let now' : serve (suc (t + k)) ≡ None = subst (λ (u : ℕ). serve u ≡ None) e (unserved_in (suc k) small) in
-        let releases = no_releases p serve p.batches (suc (t + k)) (λ n c lt. none_inside n (suc (t + k)) c lt (omega arith) (omega (arith, small))) in
-        ap (λ (o : Option Instance). end_events_of p serve o (suc (t + k)) ++ (release_events_at p serve p.batches (suc (t + k)) ++ service_events_of p serve (serve (suc (t + k))) (suc (t + k)))) before
+        let releases = none_inside p b t (suc d) (omega arith) early later (suc (t + k)) (omega arith) (omega (arith, small)) in
+        ap (λ (o : Option Instance). end_events_of p serve o (suc (t + k)) ++ (release_events_at p p.batches (suc (t + k)) ++ service_events_of p serve (serve (suc (t + k))) (suc (t + k)))) before
         ∙ ap (λ (l : List Event). l ++ service_events_of p serve (serve (suc (t + k))) (suc (t + k))) releases
         ∙ ap (λ (o : Option Instance). service_events_of p serve o (suc (t + k))) now'
 

@@ -1,16 +1,13 @@
 -- A simulation goes on: the first instance begins and reads, runs to its next event or to its end, or none runs.
-use Rattle.std.specs.Prelude.{count_by, nat_lt, IfSome, Option, None, unwrap_or}
 use Rattle.std.proofs.Common.{◌≡◌, ◌≢◌, ℕ, suc, ◌+◌, ◌-◌, ◌<◌, ◌≤◌, true, false, List, [], ◌∷◌, ◌++◌, length, take, set, get_or, Some, refl, sym, ap, ◌∙◌, subst, ⊎_elim, arith, append_assoc, length-append, get_or-set_same, get_or-set_other}
-use Rattle.std.proofs.lemmas.Bool.{cases_eq, cases_Bool, eq-eqb, ne_eqb, le-ltb, lt-ltb}
-use Rattle.std.proofs.lemmas.List.{append-nil, get_or_default, take_all, take_more}
-use Rattle.std.proofs.lemmas.List.Sums.{get_or-le-sum_by, sum_by-append, sum_by-cons, sum_by-take-le}
-use Rattle.dbp_plan.specs.declared.diagram.Read.{Read}
+use Rattle.std.proofs.lemmas.Bool.{cases_eq, cases_Bool, eq-eqb, ne_eqb, le-ltb}
+use Rattle.std.proofs.lemmas.List.{append-nil, get_or_default, take_more}
+use Rattle.std.proofs.lemmas.List.Sums.{sum_by-append, sum_by-cons, sum_by-take-le}
 use Rattle.dbp_plan.specs.declared.diagram.Task.{Task}
 use Rattle.dbp_plan.specs.declared.plan.Plan.{Plan}
 use Rattle.dbp_plan.specs.declared.schedule.Batch.{Batch}
 use Rattle.dbp_plan.specs.Lookups.{declared_task, no_declared_task, no_read}
 use Rattle.dbp_plan.specs.Occurrences.{names, occurrence_count}
-use Rattle.dbp_plan.proofs.Counts.{count-cons}
 use Rattle.rank_order.specs.Instances.{Instance}
 use Rattle.rank_order.specs.Queue.{IsServedFirst}
 use Rattle.rank_order.specs.Service.{GoesBefore, IsFirst, Waits, left_of, served_ticks}
@@ -21,50 +18,39 @@ use Rattle.rank_order.proofs.ServedTicks.{served_within}
 use Rattle.rank_order.proofs.SomeService.{service_is}
 use Rattle.dbp_rules.specs.Moves.{read_place}
 use Rattle.dbp_rules.specs.Lookups.{task, task_entry}
-use Rattle.dbp_rules.specs.Start.{start_of}
 use Rattle.dbp_rules.specs.Wired.{wiring_of}
 use Rattle.dbp_rules.specs.Rules.{next}
-use Rattle.dbp_rules.specs.declared.parts.Place.{Place}
 use Rattle.dbp_rules.specs.declared.parts.Place.TheVariants.{Idle, Shut}
 use Rattle.dbp_rules.specs.declared.state.State.{State}
 use Rattle.dbp_rules.specs.declared.step.Count.TheVariants.{Ranked}
-use Rattle.dbp_rules.specs.declared.step.Step.{Step}
 use Rattle.instance_steps.specs.EndedRows.{HasEndedRows}
 use Rattle.instance_steps.specs.Events.{Event, batch_events, begin_events, end_events, read_events}
-use Rattle.instance_steps.specs.Plays.{Plays}
-use Rattle.instance_steps.specs.Recorders.{AddsSteps, plan_in, record_in, state_in, steps_in, table_in}
+use Rattle.instance_steps.specs.Recorders.{AddsSteps, plan_in, state_in, table_in}
 use Rattle.instance_steps.specs.Releases.{HasEnded, ReleasesBatch, batch_at, no_batch}
 use Rattle.instance_steps.specs.TaskPieces.{AddsPiece, MayStep, place_after}
 use Rattle.instance_steps.specs.declared.recorder.Recorder.{Recorder}
-use Rattle.instance_steps.proofs.PlaysLaws.{plays_long}
-use Rattle.virtual_sim.specs.Budgets.{early_reads, step_bound}
-use Rattle.virtual_sim.specs.Events.{IsNextEvent}
-use Rattle.virtual_sim.specs.Record.{begin_events_at, events_so_far, service_events_of}
-use Rattle.virtual_sim.specs.Recordings.{IsRecorded, place_of, places_with}
-use Rattle.dbp_plan.specs.Numbers.{is_in}
-use Rattle.virtual_sim.specs.Runs.{IsRun}
-use Rattle.virtual_sim.specs.Simulations.{IsSimulation}
-use Rattle.virtual_sim.specs.State.{NoBatchBefore, Renewed, instance, release_count}
+use Rattle.virtual_time.specs.Budgets.{early_reads, step_bound}
+use Rattle.virtual_time.specs.Events.{IsNextEvent}
+use Rattle.virtual_time.specs.Pieces.{begin_events_at, service_events_of}
+use Rattle.virtual_sim.specs.Record.{events_so_far}
+use Rattle.virtual_time.specs.Recordings.{IsRecorded, place_of, places_with}
+use Rattle.virtual_time.specs.Runs.{IsRun}
+use Rattle.virtual_sim.specs.Simulations.{IsSimulation, one_processor}
+use Rattle.virtual_time.specs.State.{NoBatchBefore, Renewed, instance, release_count}
 use Rattle.virtual_sim.specs.declared.simulation.Simulation.{Simulation}
-use Rattle.virtual_sim.proofs.Budgets.{bound_all, ended_steps, length-batch, one_changed, paused_steps, same_early, same_steps, steps_few}
+use Rattle.virtual_time.proofs.Budgets.{all_reads_early, bound_all, ended_steps, length-batch, one_changed, paused_steps, same_early, same_steps, steps_few}
 use Rattle.virtual_sim.proofs.MaySteps.{may_step}
 use Rattle.dbp_plan.proofs.PlanRules as rules
-use Rattle.virtual_sim.proofs.Recorded.{NoReadAt, one_batch_more}
+use Rattle.virtual_time.proofs.PieceEvents.{NoReadAt}
+use Rattle.virtual_sim.proofs.SoFar.{one_batch_more}
 use Rattle.virtual_sim.proofs.RecordJumps.{jump_idle, jump_to_end, jump_to_event}
-use Rattle.virtual_sim.proofs.Recordings.{adds_batch, adds_piece, goes_on, has_ended, place_all, place_some}
-use Rattle.dbp_plan.proofs.Searches.{in_place}
-use Rattle.virtual_sim.proofs.Running.{few_ends, first_small, first_some, is_choice}
-use Rattle.virtual_sim.proofs.Steps.{busy_count_none, busy_count_one, quiet, waits_is}
+use Rattle.virtual_time.proofs.Recordings.{adds_batch, adds_piece, goes_on, has_ended, place_all, place_some, same_places, with_here, with_other}
+use Rattle.virtual_time.proofs.Running.{few_ends}
+use Rattle.virtual_time.proofs.Whole.{named_there}
+use Rattle.virtual_sim.proofs.FirstServed.{first_small, first_some, is_choice}
+use Rattle.virtual_time.proofs.Steps.{busy_count_none, busy_count_one, quiet, waits_is}
 
 -- ---- lengths
-
-kept_length : (kept : Option (List Step)) (steps : List Step) → IfSome kept (λ l. l ≡ steps) → length (unwrap_or kept []) ≤ length steps
-kept_length None steps is = omega arith
-kept_length (Some list) steps is = omega (arith, ap length is)
-
-pub recorded_length : (p : Plan) (b : ℕ) (events : List Event) (places : ℕ → Place) (ends : List (List ℕ)) (r : Recorder) → IsRecorded p b events places ends r → length (steps_in r) ≤ length events
-recorded_length p b events places ends r h =
-    omega (arith, kept_length (record_in r) h.steps h.kept, plays_long p (wiring_of p Ranked) events h.steps (start_of p (wiring_of p Ranked)) (state_in r) h.plays)
 
 occurrences_before : (bs : List Batch) (b : ℕ) → occurrence_count (take b bs) ≤ occurrence_count bs
 occurrences_before bs b = sum_by-take-le (λ (a : Batch). length a.tasks) bs b
@@ -75,32 +61,10 @@ events_few p s h =
     let few = p.rules.few in
     let tasks = rules.few_tasks p in
     let before = occurrences_before p.batches s.run.released in
-    let bound = steps_few p s.run.rest.items s.run.ends (length p.diagram.tasks) (omega arith) (λ j lt. few_ends p s.run h.run j lt) in
+    let bound = steps_few p s.run.rest.items s.run.ends (length p.diagram.tasks) (omega arith) (λ j lt. few_ends p (one_processor p s.run.time) s.run h.run j lt) in
     omega (arith, h.few, few, tasks, before, bound)
 
 -- ---- places
-
-pub with_here : (p : Plan) (rest : List ℕ) (i : ℕ) (place : Place) → places_with p rest i place i ≡ place
-with_here p rest i place = rw (eq-eqb i i refl) refl
-
-with_other : (p : Plan) (rest : List ℕ) (i j : ℕ) (place : Place) → j ≢ i → places_with p rest i place j ≡ place_of p j (get_or rest j 0)
-with_other p rest i j place ne = rw (ne_eqb j i ne) refl
-
-same_places : (p : Plan) (b : ℕ) (events events' : List Event) (places places' : ℕ → Place) (ends : List (List ℕ)) (r : Recorder) → IsRecorded p b events places ends r
-    → events' ≡ events → ((i : ℕ) → i < length p.diagram.tasks → places' i ≡ places i) → IsRecorded p b events' places' ends r
-same_places p b events events' places places' ends r h same each = record {
-  plan = h.plan;
-  wiring = h.wiring;
-  steps = h.steps;
-  plays = subst (λ (l : List Event). Plays p (wiring_of p Ranked) (start_of p (wiring_of p Ranked)) l h.steps (state_in r)) (sym same) h.plays;
-  kept = h.kept;
-  rows = h.rows;
-  released = h.released;
-  aimed = h.aimed;
-  gates = h.gates;
-  ended = h.ended;
-  place = λ i il. h.place i il ∙ sym (each i il);
-}
 
 -- where an instance stands after all its reads
 all_read : (n : ℕ) → read_place n n ≡ Shut
@@ -133,9 +97,6 @@ of_first p s h i first cost rest same read =
       within = omega (arith, under, read, same);
       served = omega (arith, under, read, same);
     }
-
-pub sooner : (p : Plan) (b limit t : ℕ) → NoBatchBefore p b limit → t ≤ limit → NoBatchBefore p b t
-sooner p b limit t until le = record { later = λ k d bk kl. let u = until.later k d bk kl in omega (arith, u, le) }
 
 -- the next event of the task, by the declared one and fewer ticks
 pub no_sooner_in : (p : Plan) (i : ℕ) (t : Task) (served event ticks : ℕ) → t ≡ declared_task p i → IsNextEvent t served event → ticks ≤ event
@@ -195,21 +156,21 @@ module _ (p : Plan) (s : Simulation) (h : IsSimulation p s) (i served : ℕ) (fi
 
   -- it begins
   pub begins_first : (r' : Recorder) → served ≡ 0 → AddsPiece s.recorder r' (begin_events (plan_in s.recorder) i) i (task (state_in s.recorder) i).part.ended (place_after (plan_in s.recorder) i 0) → table_in r' ≡ table_in s.recorder
-      → IsRecorded p s.run.released (events_so_far p (service p) s.run.released s.run.time ++ begin_events_at p (service p) i served) (places_with p s.run.rest.items i (place_after p i served)) s.run.ends r'
+      → IsRecorded p Ranked s.run.released (events_so_far p (service p) s.run.released s.run.time ++ begin_events_at p i served) (places_with p s.run.rest.items i (place_after p i served)) s.run.ends r'
   begins_first r' none adds table =
       let own : AddsPiece s.recorder r' (begin_events p i) i (task (state_in s.recorder) i).part.ended (place_after p i 0) =
       subst (λ (q : Plan). AddsPiece s.recorder r' (begin_events q i) i (task (state_in s.recorder) i).part.ended (place_after q i 0)) h.recorded.plan adds in
-      let events : begin_events_at p (service p) i served ≡ begin_events p i = rw (eq-eqb served 0 none) refl in
-      subst (λ (l : List Event). IsRecorded p s.run.released (events_so_far p (service p) s.run.released s.run.time ++ l) (places_with p s.run.rest.items i (place_after p i served)) s.run.ends r') (sym events)
-      (goes_on p s.recorder r' s.run.released (events_so_far p (service p) s.run.released s.run.time) (λ j. place_of p j (get_or s.run.rest.items j 0)) s.run.ends h.recorded
+      let events : begin_events_at p i served ≡ begin_events p i = rw (eq-eqb served 0 none) refl in
+      subst (λ (l : List Event). IsRecorded p Ranked s.run.released (events_so_far p (service p) s.run.released s.run.time ++ l) (places_with p s.run.rest.items i (place_after p i served)) s.run.ends r') (sym events)
+      (goes_on p Ranked s.recorder r' s.run.released (events_so_far p (service p) s.run.released s.run.time) (λ j. place_of p j (get_or s.run.rest.items j 0)) s.run.ends h.recorded
       (begin_events p i) i (place_after p i 0) (places_with p s.run.rest.items i (place_after p i served)) il own
       (with_here p s.run.rest.items i (place_after p i served) ∙ ap (place_after p i) none) (λ j ne. with_other p s.run.rest.items i j (place_after p i served) ne) table)
 
   -- it began before
-  pub began : (0 < served) → IsRecorded p s.run.released (events_so_far p (service p) s.run.released s.run.time ++ begin_events_at p (service p) i served) (places_with p s.run.rest.items i (place_after p i served)) s.run.ends s.recorder
+  pub began : (0 < served) → IsRecorded p Ranked s.run.released (events_so_far p (service p) s.run.released s.run.time ++ begin_events_at p i served) (places_with p s.run.rest.items i (place_after p i served)) s.run.ends s.recorder
   began before =
-      let events : begin_events_at p (service p) i served ≡ [] = rw (ne_eqb served 0 (λ e. omega (arith, e, before))) refl in
-      same_places p s.run.released (events_so_far p (service p) s.run.released s.run.time) (events_so_far p (service p) s.run.released s.run.time ++ begin_events_at p (service p) i served)
+      let events : begin_events_at p i served ≡ [] = rw (ne_eqb served 0 (λ e. omega (arith, e, before))) refl in
+      same_places p Ranked s.run.released (events_so_far p (service p) s.run.released s.run.time) (events_so_far p (service p) s.run.released s.run.time ++ begin_events_at p i served)
       (λ j. place_of p j (get_or s.run.rest.items j 0)) (places_with p s.run.rest.items i (place_after p i served)) s.run.ends s.recorder h.recorded
       (ap (λ (l : List Event). events_so_far p (service p) s.run.released s.run.time ++ l) events ∙ append-nil (events_so_far p (service p) s.run.released s.run.time))
       (λ j jl. ⊎_elim
@@ -221,22 +182,22 @@ module _ (p : Plan) (s : Simulation) (h : IsSimulation p s) (i served : ℕ) (fi
       (cases_eq j i))
 
   -- it makes its reads
-  pub reads_first : (r r' : Recorder) → IsRecorded p s.run.released (events_so_far p (service p) s.run.released s.run.time ++ begin_events_at p (service p) i served) (places_with p s.run.rest.items i (place_after p i served)) s.run.ends r
+  pub reads_first : (r r' : Recorder) → IsRecorded p Ranked s.run.released (events_so_far p (service p) s.run.released s.run.time ++ begin_events_at p i served) (places_with p s.run.rest.items i (place_after p i served)) s.run.ends r
       → AddsPiece r r' (read_events (plan_in r) i served) i (task (state_in r) i).part.ended (place_after (plan_in r) i (served + 1)) → table_in r' ≡ table_in r
-      → IsRecorded p s.run.released (events_so_far p (service p) s.run.released s.run.time ++ (begin_events_at p (service p) i served ++ read_events p i served)) (places_with p s.run.rest.items i (place_after p i (served + 1))) s.run.ends r'
+      → IsRecorded p Ranked s.run.released (events_so_far p (service p) s.run.released s.run.time ++ (begin_events_at p i served ++ read_events p i served)) (places_with p s.run.rest.items i (place_after p i (served + 1))) s.run.ends r'
   reads_first r r' g adds table =
       let own : AddsPiece r r' (read_events p i served) i (task (state_in r) i).part.ended (place_after p i (served + 1)) =
       subst (λ (q : Plan). AddsPiece r r' (read_events q i served) i (task (state_in r) i).part.ended (place_after q i (served + 1))) g.plan adds in
-      subst (λ (l : List Event). IsRecorded p s.run.released l (places_with p s.run.rest.items i (place_after p i (served + 1))) s.run.ends r')
-      (append_assoc (events_so_far p (service p) s.run.released s.run.time) (begin_events_at p (service p) i served) (read_events p i served))
-      (goes_on p r r' s.run.released (events_so_far p (service p) s.run.released s.run.time ++ begin_events_at p (service p) i served) (places_with p s.run.rest.items i (place_after p i served)) s.run.ends g
+      subst (λ (l : List Event). IsRecorded p Ranked s.run.released l (places_with p s.run.rest.items i (place_after p i (served + 1))) s.run.ends r')
+      (append_assoc (events_so_far p (service p) s.run.released s.run.time) (begin_events_at p i served) (read_events p i served))
+      (goes_on p Ranked r r' s.run.released (events_so_far p (service p) s.run.released s.run.time ++ begin_events_at p i served) (places_with p s.run.rest.items i (place_after p i served)) s.run.ends g
       (read_events p i served) i (place_after p i (served + 1)) (places_with p s.run.rest.items i (place_after p i (served + 1))) il own
       (with_here p s.run.rest.items i (place_after p i (served + 1)))
       (λ j ne. with_other p s.run.rest.items i j (place_after p i (served + 1)) ne ∙ sym (with_other p s.run.rest.items i j (place_after p i served) ne)) table)
 
   -- the steps of the tick are those of the definition
-  pub tick_steps : service_events_of p (service p) (Some (instance i (release_count p.batches s.run.released i))) s.run.time ≡ begin_events_at p (service p) i served ++ read_events p i served
-  tick_steps = ap (λ (c : ℕ). begin_events_at p (service p) i c ++ read_events p i c) ticks_so_far
+  pub tick_steps : service_events_of p (service p) (Some (instance i (release_count p.batches s.run.released i))) s.run.time ≡ begin_events_at p i served ++ read_events p i served
+  tick_steps = ap (λ (c : ℕ). begin_events_at p i c ++ read_events p i c) ticks_so_far
 
   module _ (ticks : ℕ) (forward : 0 < ticks) (within : ticks ≤ get_or s.run.rest.items i 0) (until : NoBatchBefore p s.run.released (s.run.time + ticks))
       (no_sooner : (r : ℕ) → r < length (declared_task p i).reads → served < (get_or (declared_task p i).reads r no_read).at → served + ticks ≤ (get_or (declared_task p i).reads r no_read).at) where
@@ -254,7 +215,7 @@ module _ (p : Plan) (s : Simulation) (h : IsSimulation p s) (i served : ℕ) (fi
     until' = subst (λ (d : ℕ). NoBatchBefore p s.run.released (s.run.time + d)) one_more_tick until
 
     quiet' : IsQuiet p s.run.time (suc (ticks - 1))
-    quiet' = quiet p (service p) (service_is p) s.run.released s.run.time s.run.rest.items s.run.ends h.run.at (s.run.time + suc (ticks - 1)) until' (suc (ticks - 1)) (omega arith)
+    quiet' = quiet p (λ k. 0) (λ c. service p) s.run.released (λ c. s.run.time) s.run.rest.items s.run.ends h.run.at (s.run.time + suc (ticks - 1)) until' 0 (suc (ticks - 1)) (omega arith)
 
     choice : IsFirst (GoesBefore p) (Waits p (left_of p (service p)) s.run.time) (Some (instance i (release_count p.batches s.run.released i)))
     choice = is_choice p s.run h.run i first (s.run.time + ticks) until (omega (arith, forward))
@@ -269,23 +230,23 @@ module _ (p : Plan) (s : Simulation) (h : IsSimulation p s) (i served : ℕ) (fi
     moved t is = ap (events_so_far p (service p) s.run.released) (let e : t ≡ s.run.time + suc (ticks - 1) = omega (arith, is, one_more_tick) in e)
 
     pub events_to_event : (t : ℕ) → t ≡ s.run.time + ticks → ticks < get_or s.run.rest.items i 0
-        → events_so_far p (service p) s.run.released t ≡ events_so_far p (service p) s.run.released s.run.time ++ (begin_events_at p (service p) i served ++ read_events p i served)
+        → events_so_far p (service p) s.run.released t ≡ events_so_far p (service p) s.run.released s.run.time ++ (begin_events_at p i served ++ read_events p i served)
     events_to_event t is short =
         moved t is
-        ∙ jump_to_event p (service p) (service_is p) s.run.released s.run.time (ticks - 1) h.run.at.early until'.later quiet' (instance i (release_count p.batches s.run.released i)) choice (omega (arith, left, within, one_more_tick)) no_read' (omega (arith, left, short, one_more_tick))
+        ∙ jump_to_event p (service p) (service_is p) s.run.released s.run.time (ticks - 1) (h.run.at.early 0) until'.later quiet' (instance i (release_count p.batches s.run.released i)) choice (omega (arith, left, within, one_more_tick)) no_read' (omega (arith, left, short, one_more_tick))
         ∙ ap (λ (l : List Event). events_so_far p (service p) s.run.released s.run.time ++ l) tick_steps
 
     pub events_to_end : (t : ℕ) → t ≡ s.run.time + ticks → ticks ≡ get_or s.run.rest.items i 0
-        → events_so_far p (service p) s.run.released t ≡ (events_so_far p (service p) s.run.released s.run.time ++ (begin_events_at p (service p) i served ++ read_events p i served)) ++ end_events p i
+        → events_so_far p (service p) s.run.released t ≡ (events_so_far p (service p) s.run.released s.run.time ++ (begin_events_at p i served ++ read_events p i served)) ++ end_events p i
     events_to_end t is all =
         moved t is
-        ∙ jump_to_end p (service p) (service_is p) s.run.released s.run.time (ticks - 1) h.run.at.early until'.later quiet' (instance i (release_count p.batches s.run.released i)) choice (omega (arith, left, within, one_more_tick)) no_read' (omega (arith, left, all, one_more_tick))
+        ∙ jump_to_end p (service p) (service_is p) s.run.released s.run.time (ticks - 1) (h.run.at.early 0) until'.later quiet' (instance i (release_count p.batches s.run.released i)) choice (omega (arith, left, within, one_more_tick)) no_read' (omega (arith, left, all, one_more_tick))
         ∙ ap (λ (l : List Event). (events_so_far p (service p) s.run.released s.run.time ++ l) ++ end_events p i) tick_steps
 
     -- it runs to an event before its end
-    pub pauses : (s' : Simulation) → ticks < get_or s.run.rest.items i 0 → IsRun p s'.run → s'.run.time ≡ s.run.time + ticks → s'.run.released ≡ s.run.released
+    pub pauses : (s' : Simulation) → ticks < get_or s.run.rest.items i 0 → IsRun p (one_processor p s'.run.time) s'.run → s'.run.time ≡ s.run.time + ticks → s'.run.released ≡ s.run.released
         → s'.run.rest.items ≡ set s.run.rest.items i (get_or s.run.rest.items i 0 - ticks) → s'.run.ends ≡ s.run.ends
-        → IsRecorded p s.run.released (events_so_far p (service p) s.run.released s.run.time ++ (begin_events_at p (service p) i served ++ read_events p i served)) (places_with p s.run.rest.items i (place_after p i (served + 1))) s.run.ends s'.recorder
+        → IsRecorded p Ranked s.run.released (events_so_far p (service p) s.run.released s.run.time ++ (begin_events_at p i served ++ read_events p i served)) (places_with p s.run.rest.items i (place_after p i (served + 1))) s.run.ends s'.recorder
         → IsSimulation p s'
     pauses s' short run time released rest' ends g =
         let inside : i < length s.run.rest.items = let n = h.run.at.rests in omega (arith, n, il) in
@@ -300,46 +261,39 @@ module _ (p : Plan) (s : Simulation) (h : IsSimulation p s) (i served : ℕ) (fi
         record {
           run = run;
           recorded = rw (released, ends)
-              (same_places p s.run.released (events_so_far p (service p) s.run.released s.run.time ++ (begin_events_at p (service p) i served ++ read_events p i served)) (events_so_far p (service p) s.run.released s'.run.time)
+              (same_places p Ranked s.run.released (events_so_far p (service p) s.run.released s.run.time ++ (begin_events_at p i served ++ read_events p i served)) (events_so_far p (service p) s.run.released s'.run.time)
               (places_with p s.run.rest.items i (place_after p i (served + 1))) (λ j. place_of p j (get_or s'.run.rest.items j 0)) s.run.ends s'.recorder g events
               (λ j jl. ⊎_elim
               (λ (e : j ≡ i). subst (λ (k : ℕ). place_of p k (get_or s'.run.rest.items k 0) ≡ places_with p s.run.rest.items i (place_after p i (served + 1)) k) (sym e) (place ∙ sym (with_here p s.run.rest.items i (place_after p i (served + 1)))))
               (λ (ne : j ≢ i). ap (place_of p j) (others j ne) ∙ sym (with_other p s.run.rest.items i j (place_after p i (served + 1)) ne))
               (cases_eq j i)));
           few =
-              let steps = paused_steps p i il (service p) (get_or s.run.rest.items i 0) ticks forward short (omega (arith, is_served)) in
+              let steps = paused_steps p i il (get_or s.run.rest.items i 0) ticks forward short (omega (arith, is_served)) in
               let c : (declared_task p i).cost - get_or s.run.rest.items i 0 ≡ served = omega (arith, is_served) in
-              let begin = ap (λ (n : ℕ). length (begin_events_at p (service p) i n)) c in
+              let begin = ap (λ (n : ℕ). length (begin_events_at p i n)) c in
               let reads = ap (λ (n : ℕ). length (read_events p i n)) c in
               let changed = one_changed p s.run.rest.items s'.run.rest.items s.run.ends s'.run.ends i others lists (length p.diagram.tasks) il in
               let own = ap (λ (l : List (List ℕ)). length (get_or l i [])) ends in
               let bound = ap (step_bound p i) here in
               let long = ap length events in
-              let one = length-append (events_so_far p (service p) s.run.released s.run.time) (begin_events_at p (service p) i served ++ read_events p i served) in
-              let two = length-append (begin_events_at p (service p) i served) (read_events p i served) in
+              let one = length-append (events_so_far p (service p) s.run.released s.run.time) (begin_events_at p i served ++ read_events p i served) in
+              let two = length-append (begin_events_at p i served) (read_events p i served) in
               rw released (omega (arith, h.few, steps, begin, reads, changed, own, bound, long, one, two));
         }
 
     -- after its last read
-    pub is_shut : (r : Recorder) → ticks ≡ get_or s.run.rest.items i 0 → IsRecorded p s.run.released (events_so_far p (service p) s.run.released s.run.time ++ (begin_events_at p (service p) i served ++ read_events p i served)) (places_with p s.run.rest.items i (place_after p i (served + 1))) s.run.ends r
+    pub is_shut : (r : Recorder) → ticks ≡ get_or s.run.rest.items i 0 → IsRecorded p Ranked s.run.released (events_so_far p (service p) s.run.released s.run.time ++ (begin_events_at p i served ++ read_events p i served)) (places_with p s.run.rest.items i (place_after p i (served + 1))) s.run.ends r
         → (task (state_in r) i).part.place ≡ Shut
     is_shut r all g =
         let n : ℕ = length (declared_task p i).reads in
         let count : early_reads p i (served + 1) ≡ n =
-        sym same_reads ∙ ap (early_reads p i) (let e : served + ticks ≡ (declared_task p i).cost = omega (arith, is_served, all) in e) ∙ all_early (declared_task p i).reads (λ k d kl. (rules.closed_task p i il).pointers k d kl) in
+        sym same_reads ∙ ap (early_reads p i) (let e : served + ticks ≡ (declared_task p i).cost = omega (arith, is_served, all) in e) ∙ all_reads_early p i il in
         g.place i il ∙ with_here p s.run.rest.items i (place_after p i (served + 1)) ∙ ap (read_place n) count ∙ all_read n
-      where
-        all_early : (reads : List Read) → ((k : ℕ) (d : Read) → k < length reads → (get_or reads k d).at < (declared_task p i).cost) → count_by (λ r. nat_lt r.at (declared_task p i).cost) reads ≡ length reads
-        all_early [] each = refl
-        all_early (y ∷ reads) each =
-            let rest = all_early reads (λ k d lt. each (suc k) d (omega (arith, lt))) in
-            let here : y.at < (declared_task p i).cost = each 0 y (omega arith) in
-            rw (count-cons (λ (r : Read). nat_lt r.at (declared_task p i).cost) y reads, lt-ltb y.at (declared_task p i).cost here) (omega (arith, rest))
 
     -- it runs to its end
-    pub finishes : (s' : Simulation) (r : Recorder) → ticks ≡ get_or s.run.rest.items i 0 → IsRun p s'.run → s'.run.time ≡ s.run.time + get_or s.run.rest.items i 0 → s'.run.released ≡ s.run.released
+    pub finishes : (s' : Simulation) (r : Recorder) → ticks ≡ get_or s.run.rest.items i 0 → IsRun p (one_processor p s'.run.time) s'.run → s'.run.time ≡ s.run.time + get_or s.run.rest.items i 0 → s'.run.released ≡ s.run.released
         → s'.run.rest.items ≡ set s.run.rest.items i 0 → s'.run.ends ≡ set s.run.ends i (get_or s.run.ends i [] ++ (s.run.time + get_or s.run.rest.items i 0) ∷ [])
-        → IsRecorded p s.run.released (events_so_far p (service p) s.run.released s.run.time ++ (begin_events_at p (service p) i served ++ read_events p i served)) (places_with p s.run.rest.items i (place_after p i (served + 1))) s.run.ends r
+        → IsRecorded p Ranked s.run.released (events_so_far p (service p) s.run.released s.run.time ++ (begin_events_at p i served ++ read_events p i served)) (places_with p s.run.rest.items i (place_after p i (served + 1))) s.run.ends r
         → AddsPiece r s'.recorder (end_events (plan_in r) i) i ((task (state_in r) i).part.ended + 1) Idle → HasEndedRows (plan_in s'.recorder) (state_in s'.recorder) (table_in s'.recorder)
         → IsSimulation p s'
     finishes s' r all run time released rest' ends g adds rows =
@@ -355,8 +309,8 @@ module _ (p : Plan) (s : Simulation) (h : IsSimulation p s) (i served : ℕ) (fi
         let events = events_to_end s'.run.time (time ∙ ap (λ (n : ℕ). s.run.time + n) (sym all)) all in
         let piece : AddsPiece r s'.recorder (end_events p i) i ((task (state_in r) i).part.ended + 1) Idle = subst (λ (q : Plan). AddsPiece r s'.recorder (end_events q i) i ((task (state_in r) i).part.ended + 1) Idle) g.plan adds in
         let plan : plan_in s'.recorder ≡ p = adds.steps.plan ∙ g.plan in
-        let before : IsRecorded p s.run.released ((events_so_far p (service p) s.run.released s.run.time ++ (begin_events_at p (service p) i served ++ read_events p i served)) ++ end_events p i) (λ j. place_of p j (get_or s'.run.rest.items j 0)) s'.run.ends s'.recorder =
-        adds_piece p r s'.recorder s.run.released (events_so_far p (service p) s.run.released s.run.time ++ (begin_events_at p (service p) i served ++ read_events p i served)) (places_with p s.run.rest.items i (place_after p i (served + 1))) s.run.ends g
+        let before : IsRecorded p Ranked s.run.released ((events_so_far p (service p) s.run.released s.run.time ++ (begin_events_at p i served ++ read_events p i served)) ++ end_events p i) (λ j. place_of p j (get_or s'.run.rest.items j 0)) s'.run.ends s'.recorder =
+        adds_piece p Ranked r s'.recorder s.run.released (events_so_far p (service p) s.run.released s.run.time ++ (begin_events_at p i served ++ read_events p i served)) (places_with p s.run.rest.items i (place_after p i (served + 1))) s.run.ends g
         (end_events p i) i ((task (state_in r) i).part.ended + 1) Idle (λ j. place_of p j (get_or s'.run.rest.items j 0)) s'.run.ends piece
         (ap (place_of p i) here)
         (λ j ne. ap (place_of p j) (others j ne) ∙ sym (with_other p s.run.rest.items i j (place_after p i (served + 1)) ne))
@@ -364,36 +318,36 @@ module _ (p : Plan) (s : Simulation) (h : IsSimulation p s) (i served : ℕ) (fi
         (subst (λ (q : Plan). HasEndedRows q (state_in s'.recorder) (table_in s'.recorder)) plan rows) in
         record {
           run = run;
-          recorded = rw released (subst (λ (l : List Event). IsRecorded p s.run.released l (λ j. place_of p j (get_or s'.run.rest.items j 0)) s'.run.ends s'.recorder) (sym events) before);
+          recorded = rw released (subst (λ (l : List Event). IsRecorded p Ranked s.run.released l (λ j. place_of p j (get_or s'.run.rest.items j 0)) s'.run.ends s'.recorder) (sym events) before);
           few =
-              let steps = ended_steps p i il (service p) (get_or s.run.rest.items i 0) some (omega (arith, is_served)) in
+              let steps = ended_steps p i il (get_or s.run.rest.items i 0) some (omega (arith, is_served)) in
               let c : (declared_task p i).cost - get_or s.run.rest.items i 0 ≡ served = omega (arith, is_served) in
-              let begin = ap (λ (n : ℕ). length (begin_events_at p (service p) i n)) c in
+              let begin = ap (λ (n : ℕ). length (begin_events_at p i n)) c in
               let reads = ap (λ (n : ℕ). length (read_events p i n)) c in
               let changed = one_changed p s.run.rest.items s'.run.rest.items s.run.ends s'.run.ends i others lists (length p.diagram.tasks) il in
               let bound : step_bound p i (get_or s'.run.rest.items i 0) ≡ 0 = ap (step_bound p i) here in
               let long = ap length events in
-              let one = length-append (events_so_far p (service p) s.run.released s.run.time) (begin_events_at p (service p) i served ++ read_events p i served) in
-              let two = length-append (begin_events_at p (service p) i served) (read_events p i served) in
-              let three = length-append (events_so_far p (service p) s.run.released s.run.time ++ (begin_events_at p (service p) i served ++ read_events p i served)) (end_events p i) in
+              let one = length-append (events_so_far p (service p) s.run.released s.run.time) (begin_events_at p i served ++ read_events p i served) in
+              let two = length-append (begin_events_at p i served) (read_events p i served) in
+              let three = length-append (events_so_far p (service p) s.run.released s.run.time ++ (begin_events_at p i served ++ read_events p i served)) (end_events p i) in
               rw released (omega (arith, h.few, steps, begin, reads, changed, own_list, bound, long, one, two, three));
         }
 
 -- ---- none runs
 
 pub idles : (p : Plan) (s s' : Simulation) → IsSimulation p s → (limit : ℕ) → NoBatchBefore p s.run.released limit → s.run.time < limit → ((i : ℕ) → i < length p.diagram.tasks → get_or s.run.rest.items i 0 ≡ 0)
-    → IsRun p s'.run → s'.run.time ≡ limit → s'.run.released ≡ s.run.released → s'.run.rest ≡ s.run.rest → s'.run.ends ≡ s.run.ends → s'.recorder ≡ s.recorder → IsSimulation p s'
+    → IsRun p (one_processor p s'.run.time) s'.run → s'.run.time ≡ limit → s'.run.released ≡ s.run.released → s'.run.rest ≡ s.run.rest → s'.run.ends ≡ s.run.ends → s'.recorder ≡ s.recorder → IsSimulation p s'
 idles p s s' h limit until ahead idle run time released rest ends recorder =
     let d : ℕ = limit - s.run.time - 1 in
     let reach : limit ≡ s.run.time + suc d = omega (arith, ahead) in
     let until' : NoBatchBefore p s.run.released (s.run.time + suc d) = subst (λ (t : ℕ). NoBatchBefore p s.run.released t) reach until in
-    let quiet' : IsQuiet p s.run.time (suc d) = quiet p (service p) (service_is p) s.run.released s.run.time s.run.rest.items s.run.ends h.run.at (s.run.time + suc d) until' (suc d) (omega arith) in
+    let quiet' : IsQuiet p s.run.time (suc d) = quiet p (λ k. 0) (λ c. service p) s.run.released (λ c. s.run.time) s.run.rest.items s.run.ends h.run.at (s.run.time + suc d) until' 0 (suc d) (omega arith) in
     let none : (y : Instance) → Waits p (left_of p (service p)) s.run.time y → ⊥ = λ y w.
-    let is = waits_is p (service p) (service_is p) s.run.released s.run.time s.run.rest.items s.run.ends h.run.at limit until ahead y w in
+    let is = waits_is p (λ k. 0) (λ c. service p) s.run.released (λ c. s.run.time) s.run.rest.items s.run.ends h.run.at limit until y ahead w in
     let z = idle y.task w.instance.task in
     omega (arith, is.0, z) in
     let events : events_so_far p (service p) s.run.released s'.run.time ≡ events_so_far p (service p) s.run.released s.run.time =
-    ap (events_so_far p (service p) s.run.released) (time ∙ reach) ∙ jump_idle p (service p) (service_is p) s.run.released s.run.time d h.run.at.early until'.later quiet' none in
+    ap (events_so_far p (service p) s.run.released) (time ∙ reach) ∙ jump_idle p (service p) (service_is p) s.run.released s.run.time d (h.run.at.early 0) until'.later quiet' none in
     record {
       run = run;
       recorded = rw (released, rest, ends, recorder, events) h.recorded;
@@ -402,34 +356,19 @@ idles p s s' h limit until ahead idle run time released rest ends recorder =
 
 -- ---- a batch
 
-pub named_there : (p : Plan) (b : ℕ) → b < length p.batches → (i : ℕ) → names i (batch_at p b) ≡ true → i < length p.diagram.tasks
-named_there p b more i named =
-    let tasks : List ℕ = (batch_at p b).tasks in
-    let all = take_all (length (batch_at p b).tasks) (batch_at p b).tasks (omega arith) in
-    let k = in_place (batch_at p b).tasks (length (batch_at p b).tasks) i (ap (λ (l : List ℕ). is_in l i) all ∙ named) in
-    let there = rules.inside p b k.0 no_batch more k.2 in
-    let is = k.3 in
-    omega (arith, there, is)
-
 pub batch_ended : (p : Plan) (s : Simulation) → IsSimulation p s → s.run.released < length p.batches → ((i : ℕ) → names i (batch_at p s.run.released) ≡ true → get_or s.run.rest.items i 0 ≡ 0) → HasEnded (state_in s.recorder) (batch_at p s.run.released)
 batch_ended p s h more free =
-    has_ended p s.recorder s.run.released (events_so_far p (service p) s.run.released s.run.time) (λ i. place_of p i (get_or s.run.rest.items i 0)) s.run.ends h.recorded (λ i named.
+    has_ended p Ranked s.recorder s.run.released (events_so_far p (service p) s.run.released s.run.time) (λ i. place_of p i (get_or s.run.rest.items i 0)) s.run.ends h.recorded (λ i named.
     let il = named_there p s.run.released more i named in
     let count = h.run.at.counts i il in
     let none = busy_count_none (get_or s.run.rest.items i 0) (free i named) in
     (il, omega (arith, count, none)))
 
-pub batch_few : (p : Plan) (b : ℕ) → b < length p.batches → length (batch_at p b).tasks ≤ 100000
-batch_few p b more =
-    let few = p.rules.few in
-    let own = get_or-le-sum_by (λ (a : Batch). length a.tasks) p.batches b no_batch more in
-    omega (arith, few, own)
-
 -- ---- a batch is released
 
 pub renews : (p : Plan) (s s' : Simulation) → IsSimulation p s → s.run.released < length p.batches → s.run.time ≡ (batch_at p s.run.released).time
     → ((i : ℕ) → names i (batch_at p s.run.released) ≡ true → get_or s.run.rest.items i 0 ≡ 0)
-    → IsRun p s'.run → s'.run.time ≡ s.run.time → s'.run.released ≡ s.run.released + 1 → Renewed p (batch_at p s.run.released) s.run.rest.items s'.run.rest.items → s'.run.ends ≡ s.run.ends
+    → IsRun p (one_processor p s'.run.time) s'.run → s'.run.time ≡ s.run.time → s'.run.released ≡ s.run.released + 1 → Renewed p (batch_at p s.run.released) s.run.rest.items s'.run.rest.items → s'.run.ends ≡ s.run.ends
     → AddsSteps s.recorder s'.recorder (batch_events (plan_in s.recorder) (batch_at (plan_in s.recorder) s.run.released))
     → ReleasesBatch (plan_in s.recorder) (state_in s.recorder) (state_in s'.recorder) s.run.released (batch_at (plan_in s.recorder) s.run.released) → table_in s'.recorder ≡ table_in s.recorder → IsSimulation p s'
 renews p s s' h more due free run time released renewed ends adds releases table =
@@ -438,10 +377,10 @@ renews p s s' h more due free run time released renewed ends adds releases table
     subst (λ (q : Plan). ReleasesBatch q (state_in s.recorder) (state_in s'.recorder) s.run.released (batch_at q s.run.released)) h.recorded.plan releases in
     let events : events_so_far p (service p) (s.run.released + 1) s.run.time ≡ events_so_far p (service p) s.run.released s.run.time ++ batch_events p (batch_at p s.run.released) =
     one_batch_more p (service p) s.run.released s.run.time no_batch more (sym due) in
-    let after = adds_batch p s.recorder s'.recorder s.run.released (events_so_far p (service p) s.run.released s.run.time) s.run.rest.items s'.run.rest.items s.run.ends h.recorded adds' releases' table renewed free in
+    let after = adds_batch p Ranked s.recorder s'.recorder s.run.released (events_so_far p (service p) s.run.released s.run.time) s.run.rest.items s'.run.rest.items s.run.ends h.recorded adds' releases' table renewed free in
     record {
       run = run;
-      recorded = rw (released, time, ends) (subst (λ (l : List Event). IsRecorded p (s.run.released + 1) l (λ i. place_of p i (get_or s'.run.rest.items i 0)) s.run.ends s'.recorder) (sym events) after);
+      recorded = rw (released, time, ends) (subst (λ (l : List Event). IsRecorded p Ranked (s.run.released + 1) l (λ i. place_of p i (get_or s'.run.rest.items i 0)) s.run.ends s'.recorder) (sym events) after);
       few =
           let bounds = same_steps p s.run.rest.items s'.run.rest.items s.run.ends (length p.diagram.tasks) (λ j. ⊎_elim
           (λ (e : names j (batch_at p s.run.released) ≡ true). ap (step_bound p j) (renewed.named j e) ∙ bound_all p j ∙ sym (ap (step_bound p j) (free j e)))

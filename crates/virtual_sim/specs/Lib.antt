@@ -2,9 +2,4 @@
 pub mod Outcomes
 pub mod Record
 -- What private functions, the inside of types and proofs cite.
-pub mod Budgets
-pub mod Events
-pub mod Recordings
-pub mod Runs
 pub mod Simulations
-pub mod State

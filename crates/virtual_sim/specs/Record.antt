@@ -1,48 +1,29 @@
 -- The recorded list of a simulation, tick by tick.
-use Rattle.std.specs.Prelude.{◌≡◌, ℕ, zero, suc, ◌+◌, ◌≤◌, ◌==◌, if◌then◌else◌, All, List, [], ◌++◌, filter, take, Option, Some, None}
-use Rattle.std.specs.List.{flat_map}
+use Rattle.std.specs.Prelude.{◌≡◌, ℕ, zero, suc, ◌+◌, ◌≤◌, All, List, [], ◌++◌, take, Option}
 use Rattle.dbp_plan.specs.declared.plan.Plan.{Plan}
-use Rattle.dbp_plan.specs.declared.schedule.Batch.{Batch}
 use Rattle.rank_order.specs.Ends.{NoOverrun}
 use Rattle.rank_order.specs.Instances.{Instance, IsInstance}
-use Rattle.rank_order.specs.Service.{left_of, served_ticks}
+use Rattle.rank_order.specs.Service.{left_of}
 use Rattle.rank_order.specs.ServiceOf.{service}
 use Rattle.dbp_rules.specs.Start.{start_of}
 use Rattle.dbp_rules.specs.Wired.{wiring_of}
 use Rattle.dbp_rules.specs.declared.state.State.{State}
 use Rattle.dbp_rules.specs.declared.step.Count.TheVariants.{Ranked}
 use Rattle.dbp_rules.specs.declared.step.Step.{Step}
-use Rattle.instance_steps.specs.Events.{Event, batch_events, begin_events, end_events, read_events}
+use Rattle.instance_steps.specs.Events.{Event, end_events}
 use Rattle.instance_steps.specs.Plays.{Plays}
 use Rattle.instance_steps.specs.Releases.{HasReleased}
+use Rattle.virtual_time.specs.Pieces.{end_events_of, release_events_at, service_events_of}
 
 module _ (p : Plan) (serve : ℕ → Option Instance) where
-  -- 1. the instance that was served in the tick before ends, if nothing is left of it
-  abbrev pub end_events_of : Option Instance → ℕ → List Event
-  end_events_of None t = []
-  end_events_of (Some x) t = if left_of p serve x t == 0 then end_events p x.task else []
-
+  -- the end of the tick is that of the instance that was served in the tick before
   abbrev pub end_events_at : ℕ → List Event
   end_events_at zero = []
-  end_events_at (suc t) = end_events_of (serve t) (suc t)
+  end_events_at (suc t) = end_events_of p serve (serve t) (suc t)
 
-  -- 2. the batch of the tick is released
-  abbrev pub release_events_at : List Batch → ℕ → List Event
-  release_events_at batches t = flat_map (batch_events p) (filter (λ b. b.time == t) batches)
-
-  -- 3. the instance that is served begins, if it hasn't been served before, and then makes each read whose tick of service
-  -- this is
-  abbrev pub begin_events_at : ℕ → ℕ → List Event
-  begin_events_at i served = if served == 0 then begin_events p i else []
-
-  abbrev pub service_events_of : Option Instance → ℕ → List Event
-  service_events_of None t = []
-  service_events_of (Some x) t =
-      begin_events_at x.task (served_ticks serve x t)
-      ++ read_events p x.task (served_ticks serve x t)
-
+  -- those of the tick: its end, the release of its batch, and the begin and the reads of the one that is served
   abbrev pub events_at : ℕ → List Event
-  events_at t = end_events_at t ++ (release_events_at p.batches t ++ service_events_of (serve t) t)
+  events_at t = end_events_at t ++ (release_events_at p p.batches t ++ service_events_of p serve (serve t) t)
 
   -- those of all ticks before t
   unfoldable pub events_before : ℕ → List Event
@@ -52,7 +33,7 @@ module _ (p : Plan) (serve : ℕ → Option Instance) where
   -- those so far at t, if the first b batches are released: those of the ticks before, and of this tick its end and the
   -- releases of these batches
   abbrev pub events_so_far : ℕ → ℕ → List Event
-  events_so_far b t = events_before t ++ (end_events_at t ++ release_events_at (take b p.batches) t)
+  events_so_far b t = events_before t ++ (end_events_at t ++ release_events_at p (take b p.batches) t)
 
 -- In the list stand the steps of all ticks before the time, and right after them those by which the task's instance ends.
 pub record HasEndAt (p : Plan) (script : List Step) (task time : ℕ) : Type 0 where

@@ -1,17 +1,16 @@
 // A simulation, from one event to the next.
 
 ghost use Rattle.std.specs.Prelude.{◌≡◌, ◌+◌, ◌<◌, ◌≤◌, ◌++◌, ℕ, length, slice_index, IfOk, OnOk, MatchResult};
-ghost use Rattle.virtual_sim.specs.Events.{IsNextEvent};
 ghost use Rattle.virtual_sim.specs.Outcomes.{IsSimFail, IsSimRun, IsSimTable};
 ghost use Rattle.virtual_sim.specs.Simulations.{IsFinished};
 
 use crate::outcome::{SimFail, SimRun};
-use crate::run::Run;
 use dbp_core::Count;
-use dbp_plan::{NoMemory, Plan, Table, Task};
+use dbp_plan::{NoMemory, Plan, Table};
 use instance_steps::{Keeping, Recorder};
 use std::alloc::Global;
 use std::rc::Rc;
+use virtual_time::{Run, ticks_to_event};
 
 // Its time, and the protocol that is taken through it.
 #[derive(Drop)]
@@ -29,11 +28,13 @@ impl Simulation {
     ghost use Rattle.instance_steps.specs.Recorders.{first_record, record_in};
     ghost use Rattle.instance_steps.specs.Releases.{batch_at};
     ghost use Rattle.instance_steps.specs.TaskPieces.{place_after};
-    ghost use Rattle.virtual_sim.specs.Record.{begin_events_at, events_so_far};
-    ghost use Rattle.virtual_sim.specs.Recordings.{IsRecorded, places_with};
+    ghost use Rattle.dbp_rules.specs.declared.step.Count.TheVariants.{Ranked};
+    ghost use Rattle.virtual_time.specs.Pieces.{begin_events_at};
+    ghost use Rattle.virtual_time.specs.Recordings.{IsRecorded, places_with};
+    ghost use Rattle.virtual_sim.specs.Record.{events_so_far};
     ghost use Rattle.dbp_plan.specs.Numbers.{is_in};
     ghost use Rattle.virtual_sim.specs.Simulations.{IsSimulation};
-    ghost use Rattle.virtual_sim.specs.State.{NoBatchBefore};
+    ghost use Rattle.virtual_time.specs.State.{NoBatchBefore};
     ghost use Rattle.virtual_sim.specs.declared.outcome.SimFail.TheVariants.{NoMemory as OutOfMemory};
 
     // Nothing is released yet.
@@ -57,9 +58,9 @@ impl Simulation {
         requires served { served + slice_index self.old.run.rest.items task
             ≡ (declared_task plan.now task).cost }
         ensures run { OnOk result (self.new.run ≡ self.old.run) }
-        ensures recorded { OnOk result (IsRecorded plan.now self.old.run.released
+        ensures recorded { OnOk result (IsRecorded plan.now Ranked self.old.run.released
             (events_so_far plan.now (service plan.now) self.old.run.released self.old.run.time
-            ++ begin_events_at plan.now (service plan.now) task served)
+            ++ begin_events_at plan.now task served)
             (places_with plan.now self.old.run.rest.items task (place_after plan.now task served))
             self.old.run.ends self.new.recorder) }
         ensures keeps { OnOk result
@@ -81,9 +82,9 @@ impl Simulation {
         requires served { served + slice_index self.old.run.rest.items task
             ≡ (declared_task plan.now task).cost }
         ensures run { OnOk result (self.new.run ≡ self.old.run) }
-        ensures recorded { OnOk result (IsRecorded plan.now self.old.run.released
+        ensures recorded { OnOk result (IsRecorded plan.now Ranked self.old.run.released
             (events_so_far plan.now (service plan.now) self.old.run.released self.old.run.time
-            ++ (begin_events_at plan.now (service plan.now) task served
+            ++ (begin_events_at plan.now task served
             ++ read_events plan.now task served))
             (places_with plan.now self.old.run.rest.items task
             (place_after plan.now task (served + 1)))
@@ -116,10 +117,12 @@ impl Simulation {
         self.make_steps(plan, task, served)?;
         if ticks < rest {
             self.run.pause(plan, task, ticks);
+            self.run.advance(plan, ticks);
             return Ok(());
         }
         self.recorder.end_instance(task)?;
         self.run.finish(plan, task)?;
+        self.run.advance(plan, ticks);
         Ok(())
     }
 
@@ -189,20 +192,6 @@ impl Simulation {
         self.run.renew(plan);
         Ok(())
     }
-}
-
-// After how many ticks of its service the task's instance, which was served so many, makes its next reads or ends.
-fn ticks_to_event(task: &Task, served: u64) -> u64
-    requires { served < task.now.cost }
-    ensures { IsNextEvent task.now served result }
-{
-    let mut next = task.cost;
-    for read in task.reads.items() {
-        if served < read.at && read.at < next {
-            next = read.at;
-        }
-    }
-    next - served
 }
 
 // The simulation of the plan at its end. Its steps are kept if they are asked for.

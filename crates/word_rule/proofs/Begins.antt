@@ -4,10 +4,12 @@ use Rattle.std.proofs.lemmas.List.FromFn.{get_or-map-range_with_len}
 use Rattle.std.proofs.Math.ListN.{get_or-eq_default}
 use Rattle.std.proofs.lemmas.Bool.{cases_lt}
 use Rattle.std.proofs.lemmas.Option.{same_Some}
+use mathlib.Core.Logic.{dite}
 use mathlib.Core.Option.{some, some-ne-none, some-injective}
+use native.Mathlib.Decide.{ℕ_discrete}
 use lib.ListN.{get_elem?}
 use Rattle.atomic_table.specs.Table.{opening, Splits}
-use Rattle.atomic_table.proofs.Lists.{at_set}
+use Rattle.atomic_table.proofs.Lists.{at_longer, at_set, set_else, set_here}
 use Rattle.dbp_plan.specs.declared.plan.Plan.{Plan}
 use Rattle.dbp_plan.specs.Lookups.{declared_task}
 use Rattle.sync_meaning.proofs.OneMeaning.{meaning_solves}
@@ -26,14 +28,13 @@ use Rattle.dbp_rules.proofs.SoundStart.{start_sound}
 use Rattle.dbp_rules.proofs.StartNumbers.{starts_with}
 use Rattle.dbp_rules.proofs.Wirings.{wiring-whole}
 use Rattle.dbp_rules.proofs.WordRanges.{start_fits}
-use Rattle.word_rule.specs.FirstWords.{HasFirstNumbers}
 use Rattle.word_rule.specs.Plays.{IsReleaser, Seated, seats_split}
 use Rattle.word_rule.specs.Roles.{meaning_row, run_wiring}
-use Rattle.word_rule.specs.Showing.{Keeps, ShowsRole, first_part, first_view, view_of_next_task, with_seat_split}
+use Rattle.word_rule.specs.Showing.{HasFirstNumbers, HaveNotStepped, Keeps, ShowsRole, first_part, first_view, view_of_next_task, with_seat_split}
 use Rattle.word_rule.specs.declared.views.Role.{Role}
 use Rattle.word_rule.specs.declared.views.Role.TheVariants.{Releaser, Task}
 use Rattle.word_rule.specs.declared.views.View.{View}
-use Rattle.word_rule.proofs.Showings.{releaser_at}
+use Rattle.word_rule.proofs.Showings.{releaser_at, seat_below}
 
 first_sound : (p : Plan) → Sound p (run_wiring p) (meaning_row p) (start_of p (run_wiring p))
 first_sound p = start_sound p (run_wiring p) (meaning_row p) (wiring-whole p All) (meaning_solves p.diagram p.samples p.batches (meaning_of p) p.rules (meaning_of-is p))
@@ -59,6 +60,7 @@ begins p words fit first = record {
   };
   sound = first_sound p;
   fit = start_fits p (run_wiring p) fit;
+  start = λ none. first;
 }
   where
     seat : (k : ℕ) (v : View) → get_elem? (first_view p ∷ []) k ≡ some v → (v.plan ≡ p) × ShowsRole 0 (start_of p (run_wiring p)) k v.role
@@ -85,6 +87,15 @@ stays : (split : ℕ) (s : State) (k : ℕ) (role : Role) → k ≢ 0 → ShowsR
 stays split s zero role other h = absurd (other refl)
 stays split s (suc j) (Releaser r n) other h = elim h [ ]
 stays split s (suc j) (Task i t) other h = h
+
+-- a split makes no step
+none_before : (views : List View) (id : ℕ) (v right : View) → get_elem? views id ≡ some v → HaveNotStepped (set views id (with_seat_split v) ++ right ∷ []) → HaveNotStepped views
+none_before views id v right there none k u at = dite (ℕ_discrete k id)
+    (λ same.
+    let here : get_elem? (set views id (with_seat_split v)) id ≡ some (with_seat_split v) = set_here views id (with_seat_split v) (seat_below views id v there) in
+    let one : v ≡ u = some-injective v u (sym there ∙ ap (get_elem? views) (sym same) ∙ at) in
+    ap (λ (x : View). x.steps) (sym one) ∙ none id (with_seat_split v) (at_longer (set views id (with_seat_split v)) (right ∷ []) id (with_seat_split v) here))
+    (λ apart. none k u (at_longer (set views id (with_seat_split v)) (right ∷ []) k u (set_else views id k (with_seat_split v) apart ∙ at)))
 
 pub splits : (p : Plan) (id : ℕ) (v : View) (c : List (ℕ × Unit {0})) (r : ReleaserPart) → v.plan ≡ p → IsReleaser (v, c) r → seats_split v.role < length p.diagram.tasks → Splits (Keeps p) id v (with_seat_split v) (view_of_next_task v)
 splits p id v c r plan is room t h there =
@@ -113,6 +124,7 @@ splits p id v c r plan is room t h there =
       };
       sound = h.sound;
       fit = h.fit;
+      start = λ none. h.start (none_before t.views id v (view_of_next_task v) there none);
     }
 
 -- the first seat is the releaser's

@@ -19,7 +19,8 @@ use Rattle.dbp_rules.proofs.TableSizes.{same_sizes, sizes_of_task, task_count}
 use Rattle.dbp_rules.proofs.WiringParts.{wired_tasks}
 use Rattle.dbp_rules.proofs.Wirings.{wiring-whole}
 use Rattle.dbp_rules.proofs.WordRanges.{repeat_each}
-use Rattle.word_rule.specs.FirstWords.{HasFirstNumbers, HasNumbersSoFar, HasSlotFilled, IsNotInFirstSlot, number_so_far}
+use Rattle.word_rule.specs.FirstWords.{HasNumbersSoFar, HasSlotFilled, IsNotInFirstSlot, number_so_far}
+use Rattle.word_rule.specs.Showing.{HasFirstNumbers}
 
 module _ (s : Sizes) (i : ℕ) (outs : List Out) (task : i < length s.tasks) (slot : 0 < (task_sizes s i).slots) (ports : length outs ≡ (task_sizes s i).ports) where
   stamp_inside : IsWord s (stamp i 0)

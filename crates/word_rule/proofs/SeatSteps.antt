@@ -32,7 +32,7 @@ module _ (slots id : ℕ) (me : Seated) (e : Step) (own : IsOwnStep me.0.plan me
         view_after v.plan v e (loaded_of e x),
         keeps,
         tt,
-        keeps_loaded v.plan t h id v there e own.named own.mine own.free own.put q loads x refl,
+        (keeps_loaded v.plan t h id v there e own.named own.mine own.free own.put q loads x refl).after,
         tell x (view_after v.plan v e (loaded_of e x), me.1) (record { plan = refl; steps = refl; slots = refl }) (record {
           part = refl;
           loads = range_after v.plan t h id v there e own.named own.mine own.free own.put (loaded_of e x) is;
@@ -49,7 +49,7 @@ module _ (slots id : ℕ) (me : Seated) (e : Step) (own : IsOwnStep me.0.plan me
         view_after v.plan v e (loaded_of e 0),
         keeps,
         tt,
-        rw (← number) (keeps_stored v.plan t h id v there e own.named own.mine own.free own.put q stores),
+        rw (← number) (keeps_stored v.plan t h id v there e own.named own.mine own.free own.put q stores).after,
         tell (view_after v.plan v e (loaded_of e 0), me.1) (record { plan = refl; steps = refl; slots = refl }) (record {
           part = refl;
           loads = range_after v.plan t h id v there e own.named own.mine own.free own.put (loaded_of e 0) is;

@@ -1,13 +1,13 @@
 -- The two general laws of a step of a party, by its own part: one that loads a word, and one that stores one. The words and
 -- views afterwards show the next state, which is sound, and all other views stay.
-use Rattle.std.proofs.Common.{◌≡◌, ◌≢◌, ⊎_elim, ℕ, zero, suc, ◌<◌, ◌≤◌, List, length, get_or, set, Option, Some, None, refl, sym, ◌∙◌, ap, subst, arith, length-set, get_or-set_same, get_or-set_other}
+use Rattle.std.proofs.Common.{◌≡◌, ◌≢◌, ⊎_elim, ℕ, zero, suc, ◌+◌, ◌<◌, ◌≤◌, List, length, get_or, set, Option, Some, None, refl, sym, ◌∙◌, ap, subst, arith, length-set, get_or-set_same, get_or-set_other}
 use Rattle.std.proofs.lemmas.List.{set-get_or}
 use Rattle.std.proofs.lemmas.Option.{same_Some}
 use mathlib.Core.Logic.{dite}
 use mathlib.Core.Option.{some}
 use native.Mathlib.Decide.{ℕ_discrete}
 use lib.ListN.{get_elem?}
-use Rattle.atomic_table.proofs.Lists.{at_set}
+use Rattle.atomic_table.proofs.Lists.{at_set, set_here}
 use Rattle.dbp_plan.specs.declared.plan.Plan.{Plan}
 use Rattle.dbp_slots.specs.TableWords.{IsWord, TableWord, address_of, sizes_of}
 use Rattle.dbp_slots.proofs.Spots.{one_word, word_inside}
@@ -27,14 +27,14 @@ use Rattle.dbp_rules.proofs.Parties.{releaser_in_shape, task_in_shape}
 use Rattle.dbp_rules.proofs.SoundKept.{sound_kept}
 use Rattle.dbp_rules.proofs.StoredWords.{parts_kept, words_kept}
 use Rattle.dbp_rules.proofs.WordRanges.{step_fits}
-use Rattle.word_rule.specs.OwnSteps.{view_after}
+use Rattle.word_rule.specs.OwnSteps.{KeepsNext, view_after}
 use Rattle.word_rule.specs.Roles.{PutFits, RoleLoads, RolePromise, RoleShape, meaning_row, number_stored, role_after, role_refusal, run_wiring, task_of, task_part_of, word_loaded, word_stored}
-use Rattle.word_rule.specs.Showing.{Keeps, ShowsRole, TableState}
+use Rattle.word_rule.specs.Showing.{HaveNotStepped, Keeps, ShowsRole, TableState}
 use Rattle.word_rule.specs.declared.views.Role.{Role}
 use Rattle.word_rule.specs.declared.views.Role.TheVariants.{Releaser, Task}
 use Rattle.word_rule.specs.declared.views.View.{View}
 use Rattle.word_rule.proofs.OwnSteps.{allowed, in_range, loads_alone, loads_from, loads_nothing, loads_word, maker, moved, number_is, promised, put_fits, stores_alone, stores_number, stores_silent, stores_word}
-use Rattle.word_rule.proofs.Showings.{seat_is, seat_of, task_named, task_split}
+use Rattle.word_rule.proofs.Showings.{seat_below, seat_is, seat_of, task_named, task_split}
 
 -- a seat's party keeps its task
 same_task : (p : Plan) (v : Role) (e : Step) (l : Loaded) → task_of (role_after (run_wiring p) v e l) ≡ task_of v
@@ -105,22 +105,31 @@ module _ (p : Plan) (t : TableState) (h : Keeps p t) (id : ℕ) (v : View) (ther
     no_seat_after i above =
         (others.tasks i (λ at. let inside : i < h.split = task_split p t h id v i there (id_is ∙ ap seat_of (sym mine ∙ at)) in absurd (omega arith))).0 ∙ h.shows.no_seat i above
 
+    -- the seat has made a step
+    not_first : HaveNotStepped (set t.views id (view_after p v e l)) → ⊥
+    not_first none = let zero_steps : v.steps + 1 ≡ 0 = none id (view_after p v e l) (set_here t.views id (view_after p v e l) (seat_below t.views id v there)) in absurd (omega (arith, zero_steps))
+
     -- with words that show the next state
     keeps_after : (ws : List ℕ) → length ws ≡ length t.words → ((q : TableWord) → IsWord (sizes_of p.diagram) q → get_or ws (address_of (sizes_of p.diagram) q) 0 ≡ value_in new q)
-        → Keeps p (record { words = ws; homes = t.homes; views = set t.views id (view_after p v e l) })
+        → KeepsNext p h.split h.state e (record { words = ws; homes = t.homes; views = set t.views id (view_after p v e l) })
     keeps_after ws size each = record {
-      split = h.split;
-      state = new;
-      sound = new_sound;
-      fit = new_fit;
-      shows = record {
-        size = size ∙ h.shows.size;
-        each_word = each;
-        seats = length-set t.views id (view_after p v e l) ∙ h.shows.seats;
-        few = h.shows.few;
-        each_seat = seats_after;
-        no_seat = no_seat_after;
+      after = record {
+        split = h.split;
+        state = new;
+        sound = new_sound;
+        fit = new_fit;
+        shows = record {
+          size = size ∙ h.shows.size;
+          each_word = each;
+          seats = length-set t.views id (view_after p v e l) ∙ h.shows.seats;
+          few = h.shows.few;
+          each_seat = seats_after;
+          no_seat = no_seat_after;
+        };
+        start = λ none. absurd (not_first none);
       };
+      split_off = refl;
+      next_state = refl;
     }
 
   -- ---- a step that loads
@@ -146,7 +155,7 @@ module _ (p : Plan) (t : TableState) (h : Keeps p t) (id : ℕ) (v : View) (ther
         h.shows.each_word r inside ∙ sym (words_kept p (run_wiring p) h.state h.sound.shape e named steps r (λ at. absurd (cc (stores_none, at))))
 
     pub keeps_loaded : (x : ℕ) → x ≡ get_or t.words (address_of (sizes_of p.diagram) q) 0
-        → Keeps p (record { words = set t.words (address_of (sizes_of p.diagram) q) x; homes = t.homes; views = set t.views id (view_after p v e (loaded_of e x)) })
+        → KeepsNext p h.split h.state e (record { words = set t.words (address_of (sizes_of p.diagram) q) x; homes = t.homes; views = set t.views id (view_after p v e (loaded_of e x)) })
     keeps_loaded x is =
         let here : set t.words (address_of (sizes_of p.diagram) q) x ≡ t.words = ap (set t.words (address_of (sizes_of p.diagram) q)) is ∙ set-get_or t.words (address_of (sizes_of p.diagram) q) 0 in
         keeps_after (loaded_of e x) (loaded_there ∙ ap (loaded_of e) (sym is)) (set t.words (address_of (sizes_of p.diagram) q) x) (ap length here)
@@ -184,9 +193,9 @@ module _ (p : Plan) (t : TableState) (h : Keeps p t) (id : ℕ) (v : View) (ther
         ∙ (h.shows.each_word r inside ∙ sym (words_kept p (run_wiring p) h.state h.sound.shape e named steps r
         (λ at. apart (ap (address_of (sizes_of p.diagram)) (same_Some r q (sym at ∙ stores_it)))))))
 
-    pub keeps_stored : Keeps p (record { words = set t.words (address_of (sizes_of p.diagram) q) (number_stored p v.role e); homes = t.homes; views = set t.views id (view_after p v e (loaded_of e 0)) })
+    pub keeps_stored : KeepsNext p h.split h.state e (record { words = set t.words (address_of (sizes_of p.diagram) q) (number_stored p v.role e); homes = t.homes; views = set t.views id (view_after p v e (loaded_of e 0)) })
     keeps_stored = keeps_after (loaded_of e 0) nothing_there (set t.words (address_of (sizes_of p.diagram) q) (number_stored p v.role e)) (length-set t.words _ _) one_word_changed
 
     -- a step that stores hears nothing
-    pub keeps_stored_plainly : Keeps p (record { words = set t.words (address_of (sizes_of p.diagram) q) (number_stored p v.role e); homes = t.homes; views = set t.views id (view_after p v e no_word) })
+    pub keeps_stored_plainly : KeepsNext p h.split h.state e (record { words = set t.words (address_of (sizes_of p.diagram) q) (number_stored p v.role e); homes = t.homes; views = set t.views id (view_after p v e no_word) })
     keeps_stored_plainly = rw (← (stores_silent (task_part_of v.role) e q stores)) keeps_stored

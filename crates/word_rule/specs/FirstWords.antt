@@ -6,11 +6,6 @@ use Rattle.dbp_slots.specs.TableWords.{IsWord, Sizes, TableWord, address_of, siz
 use Rattle.dbp_rules.specs.LoadedWords.{start_number}
 use Rattle.dbp_rules.specs.SharedWords.{signed_value}
 
--- each word of the table has its number
-pub record HasFirstNumbers (p : Plan) (words : List ℕ) : Type 0 where
-  pub size : length words ≡ word_count (sizes_of p.diagram)
-  pub each : (q : TableWord) → IsWord (sizes_of p.diagram) q → slice_index words (address_of (sizes_of p.diagram) q) ≡ start_number p q
-
 -- once the first slots of so many tasks are filled
 abbrev pub number_so_far : Plan → ℕ → TableWord → ℕ
 number_so_far p count (stamp i zero) = if nat_lt i count then start_number p (stamp i 0) else 0

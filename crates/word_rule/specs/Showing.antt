@@ -1,10 +1,12 @@
--- The rule of the table: between any two atomic steps its words and views show a sound state of the protocol.
+-- The rule of the table: between any two atomic steps its words and views show a sound state of the protocol, and before the
+-- first step the words are those of the start state.
 use Rattle.std.specs.Prelude.{◌≡◌, ℕ, zero, suc, ◌≤◌, List, length, slice_index}
 use mathlib.Core.Option.{some}
 use lib.ListN.{get_elem?}
 use Rattle.atomic_table.specs.Table as table
 use Rattle.dbp_plan.specs.declared.plan.Plan.{Plan}
 use Rattle.dbp_slots.specs.TableWords.{IsWord, TableWord, address_of, sizes_of, word_count}
+use Rattle.dbp_rules.specs.LoadedWords.{start_number}
 use Rattle.dbp_rules.specs.Lookups.{no_task, task}
 use Rattle.dbp_rules.specs.SharedWords.{value_in}
 use Rattle.dbp_rules.specs.Sound.{Sound}
@@ -43,6 +45,15 @@ pub record Shows (p : Plan) (words : List ℕ) (views : List View) (split : ℕ)
   pub each_seat : (k : ℕ) (v : View) → get_elem? views k ≡ some v → (v.plan ≡ p) × ShowsRole split s k v.role
   pub no_seat : (i : ℕ) → split ≤ i → (task s i).part ≡ first_part
 
+-- each word of the table has the number that the start state gives it
+pub record HasFirstNumbers (p : Plan) (words : List ℕ) : Type 0 where
+  pub size : length words ≡ word_count (sizes_of p.diagram)
+  pub each : (q : TableWord) → IsWord (sizes_of p.diagram) q → slice_index words (address_of (sizes_of p.diagram) q) ≡ start_number p q
+
+-- no seat has made a step
+abbrev pub HaveNotStepped : List View → Type 0
+HaveNotStepped views = (k : ℕ) (v : View) → get_elem? views k ≡ some v → v.steps ≡ 0
+
 -- the rule
 pub record Keeps (p : Plan) (t : TableState) : Type 0 where
   pub split : ℕ
@@ -50,13 +61,16 @@ pub record Keeps (p : Plan) (t : TableState) : Type 0 where
   pub shows : Shows p t.words t.views split state
   pub sound : Sound p (run_wiring p) (meaning_row p) state
   pub fit : SlotWordsFit state
+  pub start : HaveNotStepped t.views → HasFirstNumbers p t.words
 
--- what the rule says to a reader: the ten parts hold of a state that the words and views show
+-- what the rule says to a reader: the ten parts hold of a state that the words and views show, and if no seat has made a step
+-- the words are those of the start state
 pub record ShowsTenParts (p : Plan) (t : TableState) : Type 0 where
   pub split : ℕ
   pub state : State
   pub shows : Shows p t.words t.views split state
   pub parts : HoldsInTenParts p (run_wiring p) (meaning_row p) state
+  pub start : HaveNotStepped t.views → HasFirstNumbers p t.words
 
 -- ---- seats before the first step
 

@@ -18,7 +18,8 @@ use std::alloc::Global;
 
 impl SlotWords {
     /// The words of the plan before the first step, the releaser's seat, and the tasks' seats: the one at index i is that
-    /// of task i. No seat has made a step. If memory runs out the plan is given up.
+    /// of task i. No seat has made a step, so by the rule of the table each word is that of the start state. If memory runs
+    /// out the plan is given up.
     pub fn new(
         alloc: Global,
         plan: Plan,

@@ -3,7 +3,8 @@
 ghost use Rattle.std.specs.Prelude.{◌≡◌, ◌<◌, ◌^◌, IfOk, length, replicate};
 ghost use Rattle.dbp_slots.specs.Layout.{sizes};
 ghost use Rattle.dbp_slots.specs.TableWords.{sizes_of, task_sizes, word_count};
-ghost use Rattle.word_rule.specs.FirstWords.{HasFirstNumbers, HasSlotFilled};
+ghost use Rattle.word_rule.specs.FirstWords.{HasSlotFilled};
+ghost use Rattle.word_rule.specs.Showing.{HasFirstNumbers};
 
 use dbp_plan::{NoMemory, Out, Plan};
 use dbp_rules::value_to_word;

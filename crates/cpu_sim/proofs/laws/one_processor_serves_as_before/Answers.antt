@@ -1,3 +1,4 @@
+use Rattle.std.proofs.Common.{◌+◌, [], get_or, arith}
 use Rattle.cpu_sim.specs.Services.{services}
 use Rattle.cpu_sim.proofs.OneCpu.{end-here, end-there, none-here, none-there, overrun-here, overrun-there, serves-as-before}
 use Rattle.cpu_sim.proofs.SomeServiceOn.{services-are}
@@ -8,6 +9,9 @@ returns-clause-serves c = λ p cpu all. serves-as-before p (services p) (service
 
 pub returns-clause-ends : goal.returns-clause-ends
 returns-clause-ends c = λ p cpu all x e is. (end-there p (services p) (services-are p) cpu all x e is, end-here p (services p) (services-are p) cpu all x e is)
+
+pub returns-clause-listed : goal.returns-clause-listed
+returns-clause-listed c = λ p cpu all ends i k are il kl. end-there p (services p) (services-are p) cpu all (record { task = i; number = k + 1 }) (get_or (get_or ends i []) k 0) (record { task = il; from_one = omega arith; within = omega (arith, kl, are.numbers i il) }) (are.each i k il kl)
 
 pub returns-clause-overrun : goal.returns-clause-overrun
 returns-clause-overrun c = λ p cpu all t x. (overrun-there p (services p) (services-are p) cpu all t x, overrun-here p (services p) (services-are p) cpu all t x)

@@ -1,31 +1,43 @@
-use Rattle.std.proofs.Common.{refl, ◌∙◌}
+use Rattle.std.proofs.Common.{All}
+use Rattle.party_exec.specs.Jobs.{no_round, one_round}
+use Rattle.party_exec.specs.Parties.{HasFinished}
 use Rattle.party_exec.proofs.Places.{fresh_parties}
-use Rattle.party_exec.proofs.SameParties.{all_belong, all_same, all_there_belong, jobs_same, places_stay, same_all_further, same_parties}
+use Rattle.party_exec.proofs.Rounds.{rounds_same, rounds_size}
+use Rattle.party_exec.proofs.SameParties.{all_belong, all_there_belong, places_stay, same_parties}
 use Rattle.party_exec.proofs.thread_crew.run_rounds.Goals as goal
 
 pub loop-init : goal.loop-init
 loop-init g c = record {
-  size = refl;
   here = all_there_belong c.args.words.now c.args.parties.now (fresh_parties c.args.words.now c.args.parties.now c.requires);
-  same = all_same c.args.parties.now;
+  rounds = no_round;
 }
+
+pub returns-then-have_finished-clause-rounds : goal.returns-then-have_finished-clause-rounds
+returns-then-have_finished-clause-rounds g c = c.loop.invariant.rounds
 
 pub returns-then-have_finished-clause-same : goal.returns-then-have_finished-clause-same
-returns-then-have_finished-clause-same g c = same_parties c.args.parties.now c.loop.parties c.loop.invariant.size c.loop.invariant.same
+returns-then-have_finished-clause-same g c =
+    let w = c.args.words.now in
+    let ps = c.args.parties.now in
+    let rounds = c.loop.invariant.rounds in
+    same_parties ps c.loop.parties (rounds_size w ps c.loop.parties rounds) (rounds_same w ps c.loop.parties rounds)
 
 pub returns-then-have_finished-clause-finished : goal.returns-then-have_finished-clause-finished
-returns-then-have_finished-clause-finished g c = record {
-  parties = places_stay c.args.words.now c.args.parties.now c.loop.parties c.loop.invariant.size c.loop.invariant.same (fresh_parties c.args.words.now c.args.parties.now c.requires);
-  finished = c.have_finished.ensures.0 c.if-have_finished.true;
-}
+returns-then-have_finished-clause-finished g c =
+    let w = c.args.words.now in
+    let ps = c.args.parties.now in
+    let rounds = c.loop.invariant.rounds in record {
+      parties = places_stay w ps c.loop.parties (rounds_size w ps c.loop.parties rounds) (rounds_same w ps c.loop.parties rounds) (fresh_parties w ps c.requires);
+      finished = c.have_finished.ensures.0 c.if-have_finished.true;
+    }
 
 pub loop-preserved : goal.loop-preserved
 loop-preserved g c =
-    let before = c.loop.invariant in
-    let size = c.round.auto.parties in
-    let same = same_all_further c.args.parties.now c.loop.parties c.round.new.parties before.size before.same (jobs_same c.args.words.now c.loop.parties c.round.new.parties c.round.ensures) in
-    let here = all_there_belong c.args.words.now c.args.parties.now (fresh_parties c.args.words.now c.args.parties.now c.requires) in record {
-      size = size ∙ before.size;
-      here = all_belong c.args.words.now c.args.parties.now c.round.new.parties (size ∙ before.size) here same;
-      same = same;
+    let w = c.args.words.now in
+    let ps = c.args.parties.now in
+    let more : All (HasFinished w) c.loop.parties → ⊥ = λ all. let no = c.if-have_finished.false in let yes = c.have_finished.ensures.1 all in absurd (cc (no, yes)) in
+    let rounds = one_round c.loop.parties c.round.new.parties c.loop.invariant.rounds more c.round.ensures in
+    let here = all_there_belong w ps (fresh_parties w ps c.requires) in record {
+      here = all_belong w ps c.round.new.parties (rounds_size w ps c.round.new.parties rounds) here (rounds_same w ps c.round.new.parties rounds);
+      rounds = rounds;
     }

@@ -1,11 +1,10 @@
-use Rattle.std.proofs.Common.{◌≡◌, All, length}
+use Rattle.std.proofs.Common.{All}
+use Rattle.party_exec.specs.Jobs.{HaveRounds}
 use Rattle.party_exec.specs.Parties.{Belongs}
-use Rattle.party_exec.specs.SameSeats.{AreSame}
 use Rattle.party_exec.proofs.thread_crew.run_rounds.Given as goal
 
 abbrev pub invariant-loop : goal.invariant-loop
 invariant-loop g l = record {
-  size : length l.parties ≡ length l.initial.parties;
   here : All (Belongs l.words) l.parties;
-  same : AreSame l.initial.parties l.parties;
+  rounds : HaveRounds l.words l.initial.parties l.parties;
 }

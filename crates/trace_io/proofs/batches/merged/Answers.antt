@@ -1,8 +1,8 @@
-use Rattle.std.proofs.Common.{◌≡◌, ◌<◌, ◌≤◌, ◌++◌, ◌∷◌, [], length, rules, arith, sym, ◌∙◌, Some, None}
+use Rattle.std.proofs.Common.{◌≡◌, ◌<◌, ◌≤◌, ◌++◌, ◌∷◌, [], length, rules, arith, sym, ◌∙◌}
 use Rattle.dbp_plan.specs.declared.schedule.Batch.{Batch}
 use Rattle.dbp_plan.proofs.ListParts.{refilled}
-use Rattle.trace_io.specs.Merging.{AreNext, IsLeastBelow, TakesDue}
-use Rattle.trace_io.proofs.Merges.{Merged, after, after-push, least-next, merge-step, merge-end, made-few, taken-small}
+use Rattle.trace_io.specs.Merging.{AreNext, TakesDue}
+use Rattle.trace_io.proofs.Merges.{Merged, after, after-push, least-next, none-next, merge-step, merge-end, made-few, taken-small}
 use Rattle.trace_io.proofs.batches.merged.Goals as goal
 
 pub take_due-requires-clause-few : goal.take_due-requires-clause-few
@@ -17,21 +17,20 @@ push-requires c =
 -- what one turn of the loop does
 abbrev Turns : goal.In_ok-push → Type 0
 Turns c =
-    Merged c.args.until c.args.events.now c.args.clocks.now c.take_due.new.taken (c.loop-time.made ++ record { time = c.in-Some.time; tasks = c.in_ok-tasks.tasks } ∷ [])
-    × (after c.loop-time.made ≤ c.in-Some.time) × (c.in-Some.time < c.args.until)
+    Merged c.args.until c.args.events.now c.args.clocks.now c.take_due.new.taken (c.loop-time.made ++ record { time = c.loop-time.time; tasks = c.in_ok-tasks.tasks } ∷ [])
+    × (after c.loop-time.made ≤ c.loop-time.time) × (c.loop-time.time < c.args.until)
 
 turn : (c : goal.In_ok-push) → Turns c
 turn c =
-    let found : IsLeastBelow c.args.until c.loop-time.next.items (Some c.in-Some.time) = rw (c.in-Some.is, c.deref-in-loop-time.ensures.value) at c.least_below.ensures in
-    let least = least-next c.args.until c.args.events.now c.args.clocks.now c.loop-time.taken.items c.loop-time.next.items (Some c.in-Some.time) c.requires.table c.requires.clocks c.loop-time.invariant.now found in
-    let due : TakesDue c.args.until c.args.events.now c.args.clocks.now c.loop-time.taken.items c.take_due.new.taken c.in-Some.time (length c.args.clocks.now) c.in_ok-tasks.tasks = rw (c.in_ok-tasks.was, c.deref_mut.ensures.value) at c.take_due.ensures.due in
-    merge-step c.args.until c.args.events.now c.args.clocks.now c.loop-time.taken.items c.take_due.new.taken c.loop-time.made c.in-Some.time c.in_ok-tasks.tasks
+    let least = least-next c.args.until c.args.events.now c.args.clocks.now c.loop-time.taken.items c.loop-time.next.items c.loop-time.time c.loop-time.invariant.now c.loop-time.invariant.least (omega (arith, c.loop-time-test.true)) in
+    let due : TakesDue c.args.until c.args.events.now c.args.clocks.now c.loop-time.taken.items c.take_due.new.taken c.loop-time.time (length c.args.clocks.now) c.in_ok-tasks.tasks = rw c.deref_mut.ensures.value at c.in_ok-tasks.ensures.due in
+    merge-step c.args.until c.args.events.now c.args.clocks.now c.loop-time.taken.items c.take_due.new.taken c.loop-time.made c.loop-time.time c.in_ok-tasks.tasks
     c.requires.table c.requires.clocks c.loop-time.invariant.merged least due
 
 pub loop-time-smaller : goal.loop-time-smaller
 loop-time-smaller c =
     let t = turn c in
-    let b : Batch = record { time = c.in-Some.time; tasks = c.in_ok-tasks.tasks } in
+    let b : Batch = record { time = c.loop-time.time; tasks = c.in_ok-tasks.tasks } in
     let push = after-push c.loop-time.made b t.1 in
     rw c.in_ok-push.ensures.ok (omega (arith, push, t.1, t.2))
 
@@ -45,10 +44,9 @@ loop-time-preserved c =
     let len_next : c.loop-time.next.len ≡ length c.loop-time.next.items = search rules in
     rw
     (c.in_ok-push.ensures.ok, refilled c.loop-time.taken.len c.loop-time.taken.items c.take_due.new.taken len same, refilled c.loop-time.next.len c.loop-time.next.items c.take_due.new.next len_next same_next)
-    (record { merged = t.0; now = next })
+    (record { merged = t.0; now = next; least = c.in_ok-tasks.ensures.least })
 
 pub returns : goal.returns
 returns c =
-    let none : IsLeastBelow c.args.until c.loop-time.next.items None = rw (c.in_default.is, c.deref-in-loop-time.ensures.value) at c.least_below.ensures in
-    let ended = least-next c.args.until c.args.events.now c.args.clocks.now c.loop-time.taken.items c.loop-time.next.items None c.requires.table c.requires.clocks c.loop-time.invariant.now none in
+    let ended = none-next c.args.until c.args.events.now c.args.clocks.now c.loop-time.taken.items c.loop-time.next.items c.loop-time.time c.requires.table c.requires.clocks c.loop-time.invariant.now c.loop-time.invariant.least (omega (arith, c.loop-time-test.false)) in
     merge-end c.args.until c.args.events.now c.args.clocks.now c.loop-time.taken.items c.loop-time.made c.requires.clocks c.requires.few c.loop-time.invariant.merged ended

@@ -1,11 +1,11 @@
-use Rattle.std.proofs.Common.{◌≡◌, ◌+◌, ◌<◌, arith, get_or, length, true, false, sym, ap, ◌∙◌}
+use Rattle.std.proofs.Common.{◌≡◌, ◌+◌, ◌<◌, arith, get_or, length, set, true, false, sym, ap, ◌∙◌}
 use Rattle.std.specs.Prelude.{unwrap_or}
 use Rattle.std.proofs.lemmas.List.{length_push, get_or_default, get_or-set_same}
 use Rattle.dbp_plan.specs.declared.diagram.Clock.{Clock}
 use Rattle.dbp_plan.specs.declared.diagram.Clock.TheVariants.{Every}
 use Rattle.dbp_plan.specs.Clocks.{time_at}
 use Rattle.trace_io.specs.Merging.{is_at, next_of}
-use Rattle.trace_io.proofs.Due.{at-next, take-one, pass-one, next-one, not-at-next}
+use Rattle.trace_io.proofs.Due.{at-next, least-more, least-set, take-one, pass-one, next-one, not-at-next}
 use Rattle.trace_io.proofs.batches.take_due.Goals as goal
 use Rattle.trace_io.proofs.batches.take_due.Goals.{then-next-i+in_ok-push, else-next-i}
 
@@ -29,10 +29,11 @@ loop-i-preserved c =
           let kept : (d : Clock) → w.unwrap_or.result ≡ unwrap_or (time_at c.args.until c.args.events.now (get_or c.args.clocks.now i d) (get_or c.loop-i.taken i 0 + 1)) c.args.until = λ d.
           w.unwrap_or.ensures ∙ ap (λ o. unwrap_or o c.args.until) (found d) in
           let now = next-one c.args.until c.args.events.now c.args.clocks.now c.loop-i.taken c.loop-i.next i w.unwrap_or.result (omega (arith, inv.so_far.places)) (omega (arith, inv.now.0)) inv.now kept in
-          rw (w.taken-is, w.next-is, w.tasks-is, w.in_ok-push.ensures.ok) (record { so_far = step; few = omega (arith, length_push c.loop-i.tasks i, inv.few); now = now })
+          let least = least-more c.args.until (set c.loop-i.next i w.unwrap_or.result) i c.loop-i.least (least-set c.args.until c.loop-i.next i w.unwrap_or.result c.loop-i.least inv.least) in
+          rw (c.min-least.ensures, w.taken-is, w.next-is, w.tasks-is, w.in_ok-push.ensures.ok) (record { so_far = step; few = omega (arith, length_push c.loop-i.tasks i, inv.few); now = now; least = least })
       | else-next-i w ↦
           let here : (d : Clock) → is_at c.args.time (next_of c.args.until c.args.events.now c.args.clocks.now c.args.taken.now i d) ≡ false = λ d.
           not-at-next c.args.until c.args.time (next_of c.args.until c.args.events.now c.args.clocks.now c.args.taken.now i d) (λ same. w.if-next-i.false (next d ∙ same)) in
           let step = pass-one c.args.until c.args.events.now c.args.clocks.now c.args.taken.now c.loop-i.taken c.args.time i c.loop-i.tasks inv.so_far here in
-          rw (w.taken-is, w.next-is, w.tasks-is) (record { so_far = step; few = omega (arith, inv.few); now = inv.now })
+          rw (c.min-least.ensures, w.taken-is, w.next-is, w.tasks-is) (record { so_far = step; few = omega (arith, inv.few); now = inv.now; least = least-more c.args.until c.loop-i.next i c.loop-i.least inv.least })
     ]

@@ -11,6 +11,7 @@ invariant-loop-i l = record {
   more : HasMoreEvents l.fn.events.items l.events.items;
   few : length l.events.items ≤ length l.fn.events.items + l.i;
   table : IsTimetable l.diagram.until l.events.items;
+  places : length l.clocks.items ≡ l.i;
   clocks : All (IsClockOf (length l.events.items)) l.clocks.items;
   times : (samples : List Sample) → All (HasItsSamples samples l.own) l.diagram.tasks
       → map (base_times l.diagram.until l.events.items) l.clocks.items ≡ map (times_in l.diagram samples l.fn.events.items) (take l.i l.diagram.tasks);

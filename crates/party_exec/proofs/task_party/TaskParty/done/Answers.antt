@@ -16,6 +16,7 @@ pub returns-clause-turn : goal.returns-clause-turn
 returns-clause-turn c = record {
   made = Done c.args.self.now.seat.task;
   loaded = no_word;
+  own = refl;
   seat = c.done.ensures.step;
   turns = refl;
   allowed = may_finish (wired_task c.args.words.now.wiring c.args.self.now.seat.task) c.args.self.now.seat.part c.args.self.now.seat.task c.requires.place;

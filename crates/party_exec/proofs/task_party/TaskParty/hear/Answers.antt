@@ -16,6 +16,7 @@ pub returns-clause-turn : goal.returns-clause-turn
 returns-clause-turn c = record {
   made = Hear c.args.self.now.seat.task;
   loaded = an_order c.hear.result;
+  own = refl;
   seat = c.hear.ensures.step;
   turns = refl;
   allowed = may_hear (wired_task c.args.words.now.wiring c.args.self.now.seat.task) c.args.self.now.seat.part c.args.self.now.seat.task c.requires.place.0 c.requires.place.1;

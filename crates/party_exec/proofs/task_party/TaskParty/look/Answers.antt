@@ -26,6 +26,7 @@ returns-in-Ready-clause-turn c =
     record {
       made = Look c.args.self.now.seat.task c.read_number-read.result;
       loaded = a_number c.look.ensures.part.0;
+      own = refl;
       seat = c.look.ensures.step;
       turns = refl;
       allowed = may_look w part c.args.self.now.seat.task c.args.turn c.read_number-read.result c.requires.place (sym read);
@@ -42,6 +43,7 @@ returns-in-NotYet-clause-turn c =
     record {
       made = Look c.args.self.now.seat.task c.read_number-read.result;
       loaded = a_number c.look.ensures.part.0;
+      own = refl;
       seat = c.look.ensures.step;
       turns = refl;
       allowed = may_look w part c.args.self.now.seat.task c.args.turn c.read_number-read.result c.requires.place (sym read);

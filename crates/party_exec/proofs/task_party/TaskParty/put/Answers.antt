@@ -19,6 +19,7 @@ pub returns-clause-turn : goal.returns-clause-turn
 returns-clause-turn c = record {
   made = Put c.args.self.now.seat.task c.args.port;
   loaded = no_word;
+  own = refl;
   seat = c.put.ensures.step;
   turns = refl;
   allowed = may_put (wired_task c.args.words.now.wiring c.args.self.now.seat.task) c.args.self.now.seat.part c.args.self.now.seat.task c.args.port c.requires.place;

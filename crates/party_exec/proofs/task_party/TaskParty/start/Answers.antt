@@ -16,6 +16,7 @@ pub returns-in-Started-clause-turn : goal.returns-in-Started-clause-turn
 returns-in-Started-clause-turn c = record {
   made = Start c.args.self.now.seat.task;
   loaded = a_number c.start.ensures.part.0;
+  own = refl;
   seat = c.start.ensures.step;
   turns = refl;
   allowed = may_start (wired_task c.args.words.now.wiring c.args.self.now.seat.task) c.args.self.now.seat.part c.args.self.now.seat.task c.requires.place;
@@ -28,6 +29,7 @@ pub returns-in-Closed-clause-turn : goal.returns-in-Closed-clause-turn
 returns-in-Closed-clause-turn c = record {
   made = Start c.args.self.now.seat.task;
   loaded = a_number c.start.ensures.part.0;
+  own = refl;
   seat = c.start.ensures.step;
   turns = refl;
   allowed = may_start (wired_task c.args.words.now.wiring c.args.self.now.seat.task) c.args.self.now.seat.part c.args.self.now.seat.task c.requires.place;

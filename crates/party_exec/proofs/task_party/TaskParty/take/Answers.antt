@@ -58,6 +58,7 @@ returns-clause-turn c =
     record {
       made = Take c.args.self.now.seat.task c.read_number-read.result;
       loaded = a_value c.take-word.result;
+      own = refl;
       seat = c.take-word.ensures.step;
       turns = refl;
       allowed = may_take (wired_task c.args.words.now.wiring c.args.self.now.seat.task) c.args.self.now.seat.part c.args.self.now.seat.task c.args.turn c.read_number-read.result c.requires.place (sym read);

@@ -2,12 +2,14 @@ use Rattle.std.proofs.Common.{arith, ◌≡◌, ◌<◌, length, refl, sym, ap, 
 use Rattle.dbp_plan.specs.declared.plan.Plan.{Plan}
 use Rattle.release_list.specs.Releases.{links_into}
 use Rattle.release_list.proofs.IntoLinks.{into_few}
+use Rattle.dbp_rules.specs.declared.step.Count.TheVariants.{Ranked}
 use Rattle.dbp_rules.specs.declared.wiring.Wiring.{Wiring}
 use Rattle.instance_steps.specs.Recorders.{state_in}
 use Rattle.instance_steps.specs.TaskPieces.{MayStep}
 use Rattle.instance_steps.proofs.Adding.{still_kept}
-use Rattle.virtual_sim.proofs.Running.{first_small}
-use Rattle.virtual_sim.proofs.Serving.{began, begins_first, events_few, gate_open, is_idle, may, recorded_length}
+use Rattle.virtual_time.proofs.Recordings.{recorded_length}
+use Rattle.virtual_sim.proofs.FirstServed.{first_small}
+use Rattle.virtual_sim.proofs.Serving.{began, begins_first, events_few, gate_open, is_idle, may}
 use Rattle.virtual_sim.proofs.simulation.Simulation.begin.Goals as goal
 
 pub begin_instance-requires : goal.begin_instance-requires
@@ -27,7 +29,7 @@ begin_instance-requires c =
       gate = gate_open p s h i c.args.served first c.requires.served;
       room =
           let few = events_few p s h in
-          let long = recorded_length p _ _ _ _ s.recorder h.recorded in
+          let long = recorded_length p Ranked _ _ _ _ s.recorder h.recorded in
           let into = into_few p.diagram.links i (length p.diagram.links) in
           let same = ap (λ (q : Plan). length (links_into q.diagram.links i)) h.recorded.plan in
           omega (arith, few, long, into, same, links);

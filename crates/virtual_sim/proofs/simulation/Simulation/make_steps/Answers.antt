@@ -3,15 +3,18 @@ use Rattle.dbp_plan.specs.declared.plan.Plan.{Plan}
 use Rattle.dbp_plan.specs.Lookups.{declared_task}
 use Rattle.rank_order.specs.ServiceOf.{service}
 use Rattle.dbp_rules.specs.Lookups.{task}
+use Rattle.dbp_rules.specs.declared.step.Count.TheVariants.{Ranked}
 use Rattle.dbp_rules.specs.declared.wiring.Wiring.{Wiring}
 use Rattle.instance_steps.specs.Recorders.{state_in}
 use Rattle.instance_steps.specs.TaskPieces.{MayStep, place_after}
 use Rattle.instance_steps.proofs.Adding.{still_kept}
-use Rattle.virtual_sim.specs.Record.{begin_events_at, events_so_far}
-use Rattle.virtual_sim.proofs.Budgets.{begin_few}
+use Rattle.virtual_time.specs.Pieces.{begin_events_at}
+use Rattle.virtual_sim.specs.Record.{events_so_far}
+use Rattle.virtual_time.proofs.Budgets.{begin_few}
 use Rattle.dbp_plan.proofs.PlanRules.{closed_task}
-use Rattle.virtual_sim.proofs.Running.{first_small}
-use Rattle.virtual_sim.proofs.Serving.{events_few, may, reads_first, recorded_length, with_here}
+use Rattle.virtual_time.proofs.Recordings.{recorded_length, with_here}
+use Rattle.virtual_sim.proofs.FirstServed.{first_small}
+use Rattle.virtual_sim.proofs.Serving.{events_few, may, reads_first}
 use Rattle.virtual_sim.proofs.simulation.Simulation.make_steps.Goals as goal
 
 pub make_reads-requires : goal.make_reads-requires
@@ -31,9 +34,9 @@ make_reads-requires c =
       rows = λ all. absurd (cc (all, ap (λ (w : Wiring). w.count) g.wiring));
       room =
           let few = events_few p s h in
-          let long = recorded_length p _ _ _ _ r g in
-          let begin = begin_few p i (service p) c.args.served in
-          let all = length-append (events_so_far p (service p) s.run.released s.run.time) (begin_events_at p (service p) i c.args.served) in
+          let long = recorded_length p Ranked _ _ _ _ r g in
+          let begin = begin_few p i c.args.served in
+          let all = length-append (events_so_far p (service p) s.run.released s.run.time) (begin_events_at p i c.args.served) in
           let reads = (closed_task p i small).reads in
           let same = ap (λ (q : Plan). length (declared_task q i).reads) g.plan in
           omega (arith, few, long, begin, all, reads, same);

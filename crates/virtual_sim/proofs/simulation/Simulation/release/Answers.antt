@@ -5,13 +5,18 @@ use Rattle.dbp_plan.specs.declared.plan.Plan.{Plan}
 use Rattle.rank_order.specs.Ends.{IsOverrun}
 use Rattle.rank_order.specs.Service.{left_of}
 use Rattle.rank_order.specs.ServiceOf.{service}
+use Rattle.rank_order.proofs.OneService.{serves_waiting}
+use Rattle.rank_order.proofs.SomeService.{service_is}
+use Rattle.dbp_rules.specs.declared.step.Count.TheVariants.{Ranked}
 use Rattle.instance_steps.specs.Recorders.{state_in}
 use Rattle.instance_steps.specs.Releases.{HasEnded, HasReleased, batch_at}
 use Rattle.instance_steps.proofs.Adding.{still_kept}
-use Rattle.virtual_sim.specs.State.{instance}
-use Rattle.virtual_sim.proofs.Running.{few_ends}
-use Rattle.virtual_sim.proofs.Serving.{batch_ended, batch_few, events_few, recorded_length, renews}
-use Rattle.virtual_sim.proofs.Whole.{overruns}
+use Rattle.virtual_time.specs.State.{instance}
+use Rattle.virtual_time.proofs.Recordings.{recorded_length}
+use Rattle.virtual_time.proofs.Running.{few_ends}
+use Rattle.virtual_time.proofs.Whole.{batch_few, overruns}
+use Rattle.virtual_sim.specs.Simulations.{one_processor}
+use Rattle.virtual_sim.proofs.Serving.{batch_ended, events_few, renews}
 use Rattle.virtual_sim.proofs.simulation.Simulation.release.Goals as goal
 
 pub bounds-items-task : goal.bounds-items-task
@@ -24,7 +29,7 @@ overflow_add-result c =
     let there : i < length s.run.ends = omega (arith, c.in-Some.ensures.small, c.requires.simulation.run.at.lists) in
     let is = c.index-items-task.is ∙ ap (λ (l : List (List ℕ)). get_or l i c.index-items-task.result) c.items.ensures.value in
     let read = get_or_read s.run.ends i c.index-items-task.result there is [] in
-    let few = few_ends c.args.plan.now s.run c.requires.simulation.run i c.in-Some.ensures.small in
+    let few = few_ends c.args.plan.now (one_processor c.args.plan.now s.run.time) s.run c.requires.simulation.run i c.in-Some.ensures.small in
     omega (arith, c.len.ensures, few, ap length read)
 
 pub returns-in-Some-clause-outcome : goal.returns-in-Some-clause-outcome
@@ -35,7 +40,7 @@ returns-in-Some-clause-outcome c =
     let there : i < length s.run.ends = omega (arith, c.in-Some.ensures.small, c.requires.simulation.run.at.lists) in
     let is = c.index-items-task.is ∙ ap (λ (l : List (List ℕ)). get_or l i c.index-items-task.result) c.items.ensures.value in
     let read = get_or_read s.run.ends i c.index-items-task.result there is [] in
-    let over = overruns p s.run c.requires.simulation.run c.requires.more c.requires.due i c.in-Some.ensures in
+    let over = overruns p (one_processor p s.run.time) (λ k. serves_waiting p (service p) (service_is p)) s.run c.requires.simulation.run c.requires.more c.requires.due i c.in-Some.ensures in
     subst (λ (n : ℕ). IsOverrun p (left_of p (service p)) s.run.time (instance i (n + 2))) (sym (c.len.ensures ∙ ap length read)) over
 
 pub release_batch-requires : goal.release_batch-requires
@@ -50,7 +55,7 @@ release_batch-requires c =
       ended = subst (λ (q : Plan). HasEnded (state_in s.recorder) (batch_at q b)) (sym h.recorded.plan) (batch_ended p s h c.requires.more c.in_default.ensures);
       room =
           let few = events_few p s h in
-          let long = recorded_length p _ _ _ _ s.recorder h.recorded in
+          let long = recorded_length p Ranked _ _ _ _ s.recorder h.recorded in
           let tasks = batch_few p b c.requires.more in
           let links = p.rules.ranked.closed.links in
           let most : length (batch_at p b).tasks * (length p.diagram.links + 3) ≤ length (batch_at p b).tasks * 131 = mul-le-mul_left (length (batch_at p b).tasks) (omega (arith, links)) in
@@ -59,12 +64,9 @@ release_batch-requires c =
     }
 
 pub renew-requires : goal.renew-requires
-renew-requires c = record {
-  run = c.requires.simulation.run;
-  more = c.requires.more;
-  due = c.requires.due;
-  free = c.in_default.ensures;
-}
+renew-requires c =
+    let p = c.args.plan.now in
+    (c.requires.simulation.run, (λ k. serves_waiting p (service p) (service_is p), (c.requires.more, (c.requires.due, c.in_default.ensures))))
 
 pub returns-clause-outcome : goal.returns-clause-outcome
 returns-clause-outcome c =

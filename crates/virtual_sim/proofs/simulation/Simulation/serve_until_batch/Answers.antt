@@ -1,19 +1,15 @@
 use Rattle.std.proofs.Common.{arith, ℕ, ◌<◌, ◌∙◌, length, refl, sym, ap, subst}
 use Rattle.instance_steps.specs.Releases.{batch_at}
-use Rattle.virtual_sim.specs.State.{NoBatchBefore}
-use Rattle.virtual_sim.proofs.Running.{all_idle, until_next}
+use Rattle.virtual_time.specs.State.{NoBatchBefore}
+use Rattle.virtual_time.proofs.Running.{all_idle, until_next}
+use Rattle.virtual_sim.specs.Simulations.{one_processor}
 use Rattle.virtual_sim.proofs.Serving.{idles}
 use Rattle.virtual_sim.proofs.simulation.Simulation.serve_until_batch.Goals as goal
 
 pub wait-requires : goal.wait-requires
 wait-requires c =
     let inv = c.loop-self.invariant in
-    record {
-      run = inv.simulation.run;
-      more = omega (arith, c.requires.more, inv.released);
-      ahead = omega (arith, c.loop-self-test.true, inv.limit);
-      none = c.in_default.ensures;
-    }
+    (inv.simulation.run, (omega (arith, c.requires.more, inv.released), (omega (arith, c.loop-self-test.true, inv.limit), c.in_default.ensures)))
 
 pub returns-in_default-clause-simulation : goal.returns-in_default-clause-simulation
 returns-in_default-clause-simulation c =
@@ -21,7 +17,7 @@ returns-in_default-clause-simulation c =
     let s = c.loop-self.self in
     let inv = c.loop-self.invariant in
     let more : s.run.released < length p.batches = omega (arith, c.requires.more, inv.released) in
-    idles p s _ inv.simulation _ (until_next p s.run.released more) (omega (arith, c.loop-self-test.true, inv.limit)) (all_idle p s.run inv.simulation.run c.in_default.ensures)
+    idles p s _ inv.simulation _ (until_next p s.run.released more) (omega (arith, c.loop-self-test.true, inv.limit)) (all_idle p (one_processor p s.run.time) s.run inv.simulation.run c.in_default.ensures)
     c.wait.ensures.run c.wait.ensures.time c.wait.ensures.released c.wait.ensures.rest c.wait.ensures.ends refl
 
 pub serve-requires : goal.serve-requires

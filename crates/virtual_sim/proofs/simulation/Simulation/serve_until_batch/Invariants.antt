@@ -2,7 +2,7 @@ use Rattle.std.specs.Prelude.{is_some}
 use Rattle.std.proofs.Common.{◌≡◌, ◌≤◌, ◌-◌}
 use Rattle.instance_steps.specs.Recorders.{record_in}
 use Rattle.instance_steps.specs.Releases.{batch_at}
-use Rattle.virtual_sim.specs.Simulations.{IsSimulation}
+use Rattle.virtual_sim.specs.Simulations.{IsSimulation, one_processor}
 use Rattle.virtual_sim.proofs.simulation.Simulation.serve_until_batch.Given as goal
 
 abbrev pub invariant-loop-self : goal.invariant-loop-self
@@ -16,3 +16,6 @@ invariant-loop-self l = record {
 
 abbrev pub decreases-loop-self : goal.decreases-loop-self
 decreases-loop-self l = l.limit - l.self.run.time
+
+abbrev pub ghost-wait : goal.ghost-wait
+ghost-wait a = one_processor a.plan.now a.self.now.time

@@ -2,7 +2,7 @@ use Rattle.std.proofs.Common.{sym, ap, ◌∙◌, subst}
 use Rattle.dbp_rules.specs.Start.{start_of}
 use Rattle.dbp_rules.specs.declared.state.State.{State}
 use Rattle.dbp_rules.specs.declared.wiring.Wiring.{Wiring}
-use Rattle.word_rule.specs.FirstWords.{HasFirstNumbers}
+use Rattle.word_rule.specs.Showing.{HasFirstNumbers}
 use Rattle.word_rule.proofs.Begins.{begins, first_seat}
 use Rattle.word_rule.proofs.seats.SlotWords.begin.Goals as goal
 

@@ -1,0 +1,5 @@
+//! Tests of simulation on several processors.
+#![tactic(auto)]
+
+#[cfg(test)]
+mod simulation;

@@ -1,0 +1,12 @@
+pub mod Cycles
+pub mod Descents
+pub mod Distances
+pub mod FreeTasks
+pub mod Nearest
+pub mod OrderFronts
+pub mod PriosFall
+pub mod RankedBodies
+pub mod RankedShapes
+pub mod SomeOrder
+pub mod Turned
+pub mod Writers

@@ -1,0 +1,10 @@
+pub mod Budgets
+pub mod Steps
+pub mod Releases
+pub mod Running
+pub mod Renewing
+pub mod Whole
+pub mod LateTasks
+pub mod PieceEvents
+pub mod PieceActions
+pub mod Recordings

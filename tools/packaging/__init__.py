@@ -1,0 +1,1 @@
+"""The packages of dbp: an archive, a package of Debian, and an installation."""

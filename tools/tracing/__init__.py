@@ -1,0 +1,1 @@
+"""A log of a real system as the trace section of a document."""
