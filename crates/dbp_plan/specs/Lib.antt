@@ -17,7 +17,9 @@ pub mod Name
 pub mod NameLists
 pub mod Numbers
 pub mod Occurrences
+pub mod Operators
 pub mod Plan
+pub mod Policies
 pub mod Ranked
 pub mod Ranks
 pub mod ReadSource

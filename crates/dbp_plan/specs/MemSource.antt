@@ -14,6 +14,10 @@ bytes_left s = drop s.at s.bytes.items
 abbrev pub failures : MemSource → ℕ
 failures s = s.failed
 
+-- how many calls gave the end
+abbrev pub ends : MemSource → ℕ
+ends s = s.ended
+
 -- how many calls were made
 abbrev pub calls : MemSource → ℕ
 calls s = s.calls

@@ -125,6 +125,40 @@ pub enum Policy {
     Edf,
 }
 
+/// What an instance that waits is served by.
+#[derive(Clone, Copy, Debug, PartialEq, Eq)]
+pub enum ServedBy {
+    /// The rank of its task.
+    Rank,
+    /// Its deadline, and at a tie the rank of its task.
+    Deadline,
+}
+
+impl Policy {
+    ghost use Rattle.std.specs.Prelude.{◌≡◌};
+    ghost use Rattle.dbp_plan.specs.Policies.{served_by, urgency};
+
+    /// The number by which the policy ranks the task, if the task has it: the smaller, the higher.
+    pub fn urgency(self, task: &Task) -> Option<u64>
+        ensures { result ≡ urgency self task.now }
+    {
+        match self {
+            Policy::Fp => task.prio.map(|prio| (u32::MAX - prio) as u64),
+            Policy::Edf => task.deadline,
+        }
+    }
+
+    /// What the policy serves instances by.
+    pub fn served_by(self) -> ServedBy
+        ensures { result ≡ served_by self }
+    {
+        match self {
+            Policy::Fp => ServedBy::Rank,
+            Policy::Edf => ServedBy::Deadline,
+        }
+    }
+}
+
 /// A diagram. Tasks, links, inputs and events are numbered from 0 in order of declaration; links by the first
 /// read that uses them.
 #[derive(Drop)]

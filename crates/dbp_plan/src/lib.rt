@@ -28,7 +28,9 @@ mod source;
 mod table;
 mod task_numbers;
 
-pub use diagram::{Clock, Diagram, Input, Let, Link, Next, Out, Policy, Read, Sense, State, Task};
+pub use diagram::{
+    Clock, Diagram, Input, Let, Link, Next, Out, Policy, Read, Sense, ServedBy, State, Task,
+};
 pub use expr::Expr;
 pub use limits::{
     MAX_BODY, MAX_CPU, MAX_DELAY, MAX_EVENTS, MAX_INPUTS, MAX_NAME, MAX_NODES, MAX_OCCURRENCES,
@@ -38,7 +40,7 @@ pub use list::{List, NoMemory};
 pub use mem_sink::MemSink;
 pub use mem_source::MemSource;
 pub use name::Name;
-pub use node::{BinOp, Node, UnOp};
+pub use node::{BinOp, Node, Notation, UnOp};
 pub use plan::Plan;
 pub use row::Row;
 pub use samples::samples_by_input;

@@ -1,7 +1,7 @@
 // A source in memory, which can be made to fail.
 
 ghost use Rattle.std.specs.Prelude.{◌≡◌, ℕ, ◌+◌, ◌^◌, ◌<◌, ◌≤◌, List, length, drop, Option, Some, None, vec_len};
-ghost use Rattle.dbp_plan.specs.Source.{GivesBytes, GivesCause};
+ghost use Rattle.dbp_plan.specs.Source.{CountsEnd, GivesBytes, GivesCause};
 
 use crate::calls::fails_at;
 use crate::{Got, Source};
@@ -16,18 +16,20 @@ pub struct MemSource {
     fail: Vec<u32>,
     calls: u64,
     failed: u64,
+    ended: u64,
     ghost in_range: { at ≤ vec_len bytes },
     ghost some: { 1 ≤ piece },
 }
 
 impl MemSource {
-    ghost use Rattle.dbp_plan.specs.MemSource.{bytes_left, failures, calls, piece_size, failing_calls};
+    ghost use Rattle.dbp_plan.specs.MemSource.{bytes_left, failures, ends, calls, piece_size, failing_calls};
 
     /// A source of the bytes, in pieces of at most this size, whose calls with the numbers in `fail` fail.
     pub fn new(bytes: Vec<u8>, piece: usize, fail: Vec<u32>) -> MemSource
         requires { 1 ≤ piece }
         ensures left { bytes_left result ≡ bytes.items }
         ensures faults { failures result ≡ 0 }
+        ensures ends { ends result ≡ 0 }
         ensures calls { calls result ≡ 0 }
         ensures piece { piece_size result ≡ piece }
         ensures failing { failing_calls result ≡ fail.items }
@@ -39,21 +41,25 @@ impl MemSource {
             fail,
             calls: 0,
             failed: 0,
+            ended: 0,
         }
     }
 }
 
 impl Source for MemSource {
-    ghost use Rattle.dbp_plan.specs.MemSource.{bytes_left, failures, next_got, CountsRead, KeepsRest};
+    ghost use Rattle.dbp_plan.specs.MemSource.{bytes_left, failures, ends, next_got, CountsRead, KeepsRest};
 
     ghost left = { λ s. Some (bytes_left s) };
 
     ghost faults = { failures };
 
+    ghost ends = { ends };
+
     fn read(&mut self, buf: &mut [u8]) -> Got
         requires { 0 < length buf.old }
         ensures bytes { GivesBytes (Some (bytes_left self.old)) (Some (bytes_left self.new)) buf.new result }
         ensures cause { GivesCause (failures self.old) (failures self.new) result }
+        ensures ended { CountsEnd (ends self.old) (ends self.new) result }
         ensures exact { result ≡ next_got self.old (length buf.old) }
         ensures counts { CountsRead self.old self.new }
         ensures after { KeepsRest buf.old buf.new result }
@@ -65,6 +71,7 @@ impl Source for MemSource {
         }
         let rest = self.bytes.len() - self.at;
         if rest == 0 {
+            self.ended = self.ended.saturating_add(1);
             return Got::End;
         }
         let count = self.piece.min(buf.len()).min(rest);

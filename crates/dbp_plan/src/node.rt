@@ -5,7 +5,24 @@ pub enum UnOp {
     Not,
 }
 
-/// An operator between two operands. `Min` and `Max` are written as calls.
+/// How an operator between two operands is written: as a call, or infix at a level of its own. The loosest level is the first.
+#[derive(Clone, Copy, Debug, PartialEq, Eq)]
+pub enum Notation {
+    /// As a call of two arguments.
+    Call,
+    /// As `or`.
+    Disjunction,
+    /// As `and`.
+    Conjunction,
+    /// As `<`; a comparison of a comparison needs parentheses.
+    Comparison,
+    /// As `+`.
+    Sum,
+    /// As `*`.
+    Product,
+}
+
+/// An operator between two operands.
 #[derive(Clone, Copy, Debug, PartialEq, Eq)]
 pub enum BinOp {
     Add,
@@ -23,6 +40,27 @@ pub enum BinOp {
     Or,
     Min,
     Max,
+}
+
+impl BinOp {
+    ghost use Rattle.std.specs.Prelude.{◌≡◌};
+    ghost use Rattle.dbp_plan.specs.Operators.{notation_of};
+
+    /// How the operator is written.
+    pub fn notation(self) -> Notation
+        ensures { result ≡ notation_of self }
+    {
+        match self {
+            BinOp::Or => Notation::Disjunction,
+            BinOp::And => Notation::Conjunction,
+            BinOp::Eq | BinOp::Ne | BinOp::Lt | BinOp::Le | BinOp::Gt | BinOp::Ge => {
+                Notation::Comparison
+            }
+            BinOp::Add | BinOp::Sub => Notation::Sum,
+            BinOp::Mul | BinOp::Div | BinOp::Rem => Notation::Product,
+            _ => Notation::Call,
+        }
+    }
 }
 
 /// A node of an expression. Operands are named by their places in the list of nodes.
