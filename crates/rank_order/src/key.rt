@@ -10,8 +10,8 @@ use dbp_plan::{Diagram, Policy};
 // Two numbers that a policy compares: the first one decides, and at a tie the second. The smaller goes first.
 #[derive(Clone, Copy)]
 pub(crate) struct Key {
-    pub(crate) first: u64,
-    pub(crate) second: u64,
+    pub(crate) first: u32,
+    pub(crate) second: u32,
 }
 
 // The key of an instance of the task that is released at this time.
@@ -21,14 +21,14 @@ pub(crate) fn key_of(diagram: &Diagram, task: u32, release: u64) -> Key
     requires release { release ≤ MAX_TIME }
     ensures { result ≡ key_of diagram.now task release }
 {
-    let rank = diagram.ranks.items()[task as usize] as u64;
+    let rank = diagram.ranks.items()[task as usize];
     match diagram.policy {
         Policy::Fp => Key {
             first: rank,
-            second: release,
+            second: release as u32,
         },
         Policy::Edf => Key {
-            first: release + relative_deadline(diagram, task),
+            first: (release + relative_deadline(diagram, task)) as u32,
             second: rank,
         },
     }
