@@ -12,9 +12,9 @@ use Rattle.std.proofs.lemmas.Option.{slice_get-get_or}
 use Rattle.dbp_plan.specs.declared.diagram.Diagram.{Diagram}
 use Rattle.dbp_plan.specs.declared.diagram.Link.{Link}
 use Rattle.dbp_plan.specs.declared.diagram.Policy.{Policy}
-use Rattle.dbp_plan.specs.declared.diagram.Policy.TheVariants.{Fp, Edf}
 use Rattle.dbp_plan.specs.declared.diagram.Task.{Task}
 use Rattle.dbp_plan.specs.Closed.{IsClosed}
+use Rattle.dbp_plan.specs.Policies.{urgency}
 use Rattle.dbp_plan.specs.Ranked.{IsRanked}
 use Rattle.dbp_plan.specs.Ranks.{is_above, ranks_of}
 use Rattle.dbp_plan.specs.FirstFault.{faults_after, first_fault}
@@ -22,10 +22,10 @@ use Rattle.dbp_plan.proofs.RankLaws.{above-fewer, above-total, length-ranks_of, 
 use Rattle.dbp_plan.proofs.ListParts.{split-at}
 use Rattle.dbp_plan.proofs.FirstFaults.{append-none, cons-none, first-append, first-front}
 use Rattle.dia_check.specs.declared.fail.RankFault.{RankFault}
-use Rattle.dia_check.specs.declared.fail.RankFault.TheVariants.{MissingPrio, MissingDeadline, UndelayedUpward}
+use Rattle.dia_check.specs.declared.fail.RankFault.TheVariants.{UndelayedUpward}
 use Rattle.dia_check.specs.declared.shaped.ReadLine.{ReadLine}
 use Rattle.dia_check.specs.declared.shaped.Shaped.{Shaped}
-use Rattle.dia_check.specs.RankFaults.{task_rank_fault, link_rank_fault, read_rank_fault, rank_faults, HasNoRankFault, ranked_diagram}
+use Rattle.dia_check.specs.RankFaults.{missing, task_rank_fault, link_rank_fault, read_rank_fault, rank_faults, HasNoRankFault, ranked_diagram}
 use Rattle.dia_check.specs.Shapes.{HasLines}
 
 -- ---- the loop over the read lines
@@ -120,13 +120,8 @@ some-there : (o : Option ℕ) → is_none o ≡ false → IsSome o
 some-there None is = absurd cc
 some-there (Some x) is = refl
 
-prio-there : (p : Policy) (t : Task) → p ≡ Fp → task_rank_fault p t ≡ None → IsSome t.prio
-prio-there Fp t is none = some-there t.prio (if-none (is_none t.prio) MissingPrio none)
-prio-there Edf t is none = absurd cc
-
-deadline-there : (p : Policy) (t : Task) → p ≡ Edf → task_rank_fault p t ≡ None → IsSome t.deadline
-deadline-there Fp t is none = absurd cc
-deadline-there Edf t is none = some-there t.deadline (if-none (is_none t.deadline) MissingDeadline none)
+urgency-there : (p : Policy) (t : Task) → task_rank_fault p t ≡ None → IsSome (urgency p t)
+urgency-there p t none = some-there (urgency p t) (if-none (is_none (urgency p t)) (missing p) none)
 
 -- ---- direct links go downward
 
@@ -225,8 +220,7 @@ module _ (s : Shaped) (closed : IsClosed s.diagram) (lines : HasLines s) (none :
   pub is-ranked : IsRanked (ranked_diagram s.diagram)
   is-ranked = record {
     closed = still-closed;
-    prios = λ is k e below. prio-there s.diagram.policy (get_or s.diagram.tasks k e) is (tasks-none k e below);
-    deadlines = λ is k e below. deadline-there s.diagram.policy (get_or s.diagram.tasks k e) is (tasks-none k e below);
+    urgencies = λ k e below. urgency-there s.diagram.policy (get_or s.diagram.tasks k e) (tasks-none k e below);
     ranks = refl;
     downward = goes-down;
   }

@@ -6,6 +6,7 @@ use Rattle.dbp_plan.specs.declared.diagram.Link.{Link}
 use Rattle.dbp_plan.specs.declared.diagram.Policy.{Policy}
 use Rattle.dbp_plan.specs.declared.diagram.Policy.TheVariants.{Fp, Edf}
 use Rattle.dbp_plan.specs.declared.diagram.Task.{Task}
+use Rattle.dbp_plan.specs.Policies.{urgency}
 use Rattle.dbp_plan.specs.Ranks.{ranks_of}
 use Rattle.dbp_plan.specs.FirstFault.{faults_after, first_fault}
 use Rattle.dia_check.specs.declared.fail.CheckCode.{CheckCode}
@@ -17,10 +18,14 @@ use Rattle.dia_check.specs.declared.fail.RankFault.TheVariants.{MissingPrio, Mis
 use Rattle.dia_check.specs.declared.shaped.ReadLine.{ReadLine}
 use Rattle.dia_check.specs.declared.shaped.Shaped.{Shaped}
 
+-- a task lacks what the policy ranks it by
+abbrev pub missing : Policy → RankFault
+missing Fp = MissingPrio
+missing Edf = MissingDeadline
+
 -- of a task: what the policy ranks it by is missing
 abbrev pub task_rank_fault : Policy → Task → Option RankFault
-task_rank_fault Fp t = if is_none t.prio then Some MissingPrio else None
-task_rank_fault Edf t = if is_none t.deadline then Some MissingDeadline else None
+task_rank_fault policy t = if is_none (urgency policy t) then Some (missing policy) else None
 
 -- of a link, if the tasks have these ranks: it is direct, and its reader is above its writer
 abbrev pub link_rank_fault : List ℕ → Link → Option RankFault

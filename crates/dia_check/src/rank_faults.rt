@@ -5,7 +5,7 @@ ghost use Rattle.dbp_plan.specs.Closed.{IsClosed};
 ghost use Rattle.dbp_plan.specs.Ranked.{IsRanked};
 ghost use Rattle.dbp_plan.specs.FirstFault.{faults_after, first_fault};
 ghost use Rattle.dbp_plan.specs.Ranks.{ranks_of};
-ghost use Rattle.dia_check.specs.RankFaults.{task_rank_fault, link_rank_fault, read_rank_fault, rank_faults, HasNoRankFault, IsRankRefusal, rank_refusal, ranked_diagram};
+ghost use Rattle.dia_check.specs.RankFaults.{missing, task_rank_fault, link_rank_fault, read_rank_fault, rank_faults, HasNoRankFault, IsRankRefusal, rank_refusal, ranked_diagram};
 ghost use Rattle.dia_read.specs.declared.document.Doc.{Doc as AnyDoc};
 ghost use Rattle.dia_check.specs.Checks.{IsCheckedOf};
 ghost use Rattle.dia_check.specs.Shapes.{IsShapeOf, HasLines};
@@ -16,14 +16,23 @@ use crate::shaped::{ReadLine, Shaped};
 use dbp_plan::{Diagram, Link, Policy, Task};
 use std::alloc::Global;
 
-/// `MissingPrio` or `MissingDeadline`, if the task lacks what the policy ranks it by.
+// How a task lacks what the policy ranks it by.
+fn missing(policy: Policy) -> RankFault
+    ensures { result ≡ missing policy }
+{
+    match policy {
+        Policy::Fp => RankFault::MissingPrio,
+        Policy::Edf => RankFault::MissingDeadline,
+    }
+}
+
+// The fault of a task that lacks what the policy ranks it by.
 fn task_rank_fault(policy: Policy, task: &Task) -> Option<RankFault>
     ensures { result ≡ task_rank_fault policy task.now }
 {
-    match policy {
-        Policy::Fp if task.prio.is_none() => Some(RankFault::MissingPrio),
-        Policy::Edf if task.deadline.is_none() => Some(RankFault::MissingDeadline),
-        _ => None,
+    match policy.urgency(task) {
+        Some(_) => None,
+        None => Some(missing(policy)),
     }
 }
 

@@ -44,8 +44,7 @@ printable-form : (ts : List Token) (s : Statement) → IsStatement ts s → AllB
 printable-form ts s st.a_blank_line f = tt
 printable-form ts s st.in_version_1 f = tt
 printable-form ts s st.in_version_2 f = tt
-printable-form ts s st.fixed_priorities f = tt
-printable-form ts s st.earliest_deadline f = tt
+printable-form ts s (st.a_policy p) f = tt
 printable-form ts s (st.an_until end) f = tt
 printable-form ts s (st.an_input n first) f = (f.1.0, f.1.1.1.0)
 printable-form ts s (st.an_event n) f = f.1.0

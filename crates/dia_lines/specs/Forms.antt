@@ -1,7 +1,6 @@
 -- The form of a line's tokens, before an expression is read.
 use Rattle.std.specs.Prelude.{◌≡◌, ℕ, ℤ, pos, List, [], ◌∷◌, Option, Some, None}
 use Rattle.std.specs.Option.{option_and_then, option_map}
-use Rattle.dbp_plan.specs.declared.diagram.Policy.TheVariants.{Fp, Edf}
 use Rattle.dbp_plan.specs.Tree.{Tree, number}
 use Rattle.dia_tokens.specs.declared.token.Token.{Token}
 use Rattle.dia_tokens.specs.declared.token.Token.TheVariants.{Name, Number, Symbol, Word}
@@ -12,6 +11,7 @@ use Rattle.dia_exprs.specs.declared.level.Level.TheVariants.{Whole}
 use Rattle.dia_exprs.specs.Grammar.{Spells}
 use Rattle.dia_lines.specs.Delays.{delay_at}
 use Rattle.dia_lines.specs.Places.{version_of}
+use Rattle.dia_lines.specs.PolicyWords.{policy_of}
 use Rattle.dia_lines.specs.Statements.{Statement, Clock, every, on, nothing, header, policy, until, input, event, task, state, sense, read, a_let, a_next, out, trace, script, done}
 
 -- a statement, except for the tokens of its expression
@@ -113,8 +113,7 @@ unfoldable pub header_at : List Token → Option Shape
 header_at ts = option_map (λ version. plain (header version)) (option_and_then version_of (number_alone ts))
 
 abbrev pub policy_at : List Token → Option Shape
-policy_at (Word word.Fp ∷ []) = Some (plain (policy Fp))
-policy_at (Word word.Edf ∷ []) = Some (plain (policy Edf))
+policy_at (Word w ∷ []) = option_map (λ p. plain (policy p)) (policy_of w)
 policy_at _ = None
 
 unfoldable pub until_at : List Token → Option Shape

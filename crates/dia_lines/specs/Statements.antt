@@ -2,15 +2,15 @@
 use Rattle.std.specs.Prelude.{ℕ, ℤ, pos, List, [], ◌∷◌, ◌++◌, Option, Some, None}
 use Rattle.dbp_plan.specs.Tree.{Tree}
 use Rattle.dbp_plan.specs.declared.diagram.Policy.{Policy}
-use Rattle.dbp_plan.specs.declared.diagram.Policy.TheVariants.{Fp, Edf}
 use Rattle.dia_tokens.specs.declared.token.Token.{Token}
 use Rattle.dia_tokens.specs.declared.token.Token.TheVariants.{Name, Number, Symbol, Word}
 use Rattle.dia_tokens.specs.declared.token.Symbol.TheVariants.{Assign, Point}
 use Rattle.dia_tokens.specs.declared.token.Word as words
-use Rattle.dia_tokens.specs.declared.token.Word.TheVariants.{Dbp, Policy as PolicyWord, Fp as FpWord, Edf as EdfWord, Until, Input, Event, Task, Every, From, On, When, Prio, Deadline, Cost, Cpu, State, Sense, Let, Next, Read, At, Out, Then, Trace, Script, Done}
+use Rattle.dia_tokens.specs.declared.token.Word.TheVariants.{Dbp, Policy as PolicyWord, Until, Input, Event, Task, Every, From, On, When, Prio, Deadline, Cost, Cpu, State, Sense, Let, Next, Read, At, Out, Then, Trace, Script, Done}
 use Rattle.dia_exprs.specs.declared.level.Level.TheVariants.{Whole}
 use Rattle.dia_exprs.specs.Grammar.{Spells}
 use Rattle.dia_lines.specs.Delays.{SpellsDelay}
+use Rattle.dia_lines.specs.PolicyWords.{word_of}
 
 -- when a task occurs: from an offset on with a period, or with an event
 pub data Clock : Type 0 where
@@ -76,8 +76,7 @@ pub data IsStatement : List Token → Statement → Type 0 where
   a_blank_line : IsStatement [] nothing
   in_version_1 : IsStatement (Word Dbp ∷ Number (pos 1) ∷ []) (header 1)
   in_version_2 : IsStatement (Word Dbp ∷ Number (pos 2) ∷ []) (header 2)
-  fixed_priorities : IsStatement (Word PolicyWord ∷ Word FpWord ∷ []) (policy Fp)
-  earliest_deadline : IsStatement (Word PolicyWord ∷ Word EdfWord ∷ []) (policy Edf)
+  a_policy : (p : Policy) → IsStatement (Word PolicyWord ∷ Word (word_of p) ∷ []) (policy p)
   an_until : (end : ℤ) → IsStatement (Word Until ∷ Number end ∷ []) (until end)
   an_input : (name : List ℕ) (first : ℤ) → IsStatement (Word Input ∷ Name name ∷ Symbol Assign ∷ Number first ∷ []) (input name first)
   an_event : (name : List ℕ) → IsStatement (Word Event ∷ Name name ∷ []) (event name)

@@ -10,7 +10,8 @@ use crate::fronts::{
     assigned, clock, cost_end, deadline, delay_at, first_value, name_alone, number_alone, port,
     prio, tick_alone, version, when_name,
 };
-use dbp_plan::{Name, Policy};
+use crate::policy_words::policy_of;
+use dbp_plan::Name;
 use dia_tokens::{Token, Word};
 
 #[tactic(auto, unfolding(crate::specs::Forms::header_at))]
@@ -25,8 +26,7 @@ fn policy<'t>(tokens: &'t [Token]) -> Option<Form<'t>>
     ensures { option_map shape_of result ≡ policy_at tokens.now }
 {
     match tokens {
-        [Token::Word(Word::Fp)] => Some(Form::Policy(Policy::Fp)),
-        [Token::Word(Word::Edf)] => Some(Form::Policy(Policy::Edf)),
+        [Token::Word(word)] => Some(Form::Policy(policy_of(*word)?)),
         _ => None,
     }
 }

@@ -7,7 +7,6 @@ use Rattle.std.proofs.lemmas.Bool.Decides.{nat_tests}
 use Rattle.std.proofs.lemmas.List.{append-nil}
 use Rattle.std.proofs.lemmas.List.Elements.{All-from_recursion, recursion_from_All}
 use Rattle.dbp_plan.specs.declared.diagram.Policy.{Policy}
-use Rattle.dbp_plan.specs.declared.diagram.Policy.TheVariants.{Fp, Edf}
 use Rattle.dbp_plan.specs.declared.expr.Expr.{Expr}
 use Rattle.dbp_plan.specs.declared.limits.TheConstants.{MAX_NODES, MAX_TIME, MAX_PRIO, MAX_CPU}
 use Rattle.dbp_plan.specs.Expr.{tree_of}
@@ -41,7 +40,7 @@ use Rattle.dia_lines.specs.Delays.{delay_tokens}
 use Rattle.dia_lines.proofs.DelayLaws.{given_delay, longer-tokens, delay-spelled, each-delay-token}
 use Rattle.dia_lines.proofs.FormLaws.{in_five}
 use Rattle.dia_lines.specs.Lines.{token_fault, lacks_header, expression_of}
-use Rattle.dia_lines.specs.Statements.{Statement, header, policy, until, trace, script, done, state, sense, fixed_priorities, earliest_deadline, an_until, a_trace, a_script, an_end, in_version_1, in_version_2, SpellsClock, from_offset, with_event, SpellsWhen, always, guarded, SpellsOption, left_out, given, at_tick, IsStatement, an_input, an_event, a_task, a_state, a_sense, a_read, a_let_line, a_next_line, an_out}
+use Rattle.dia_lines.specs.Statements.{Statement, header, policy, until, trace, script, done, state, sense, a_policy, an_until, a_trace, a_script, an_end, in_version_1, in_version_2, SpellsClock, from_offset, with_event, SpellsWhen, always, guarded, SpellsOption, left_out, given, at_tick, IsStatement, an_input, an_event, a_task, a_state, a_sense, a_read, a_let_line, a_next_line, an_out}
 use Rattle.dia_print.specs.ExpressionTokens.{tokens_of}
 use Rattle.dia_print.specs.ItemTokens.{assigned, decl_tokens, clock_tokens, option_tokens, when_tokens, named_cpu, task_tokens, source_tokens, part_tokens, policy_tokens, until_tokens, header_tokens}
 use Rattle.dia_print.proofs.ItemStatements.{decl_statement, clock_of, header_of, task_statement, part_statement}
@@ -299,8 +298,7 @@ module _ (place : Place) (after : IsAfterHeader place) where
       record { form = form; printable = All-from_recursion IsPrintableToken ts printable; signs = signs; faultless = plain-faultless place ts (after ts) e p }
 
   pub policy-line : (p : Policy) → IsLine place (policy_tokens p) (policy p)
-  policy-line Fp = plain-line (policy_tokens Fp) (policy Fp) refl (λ k. refl, (λ k. refl, tt)) fixed_priorities (tt, (tt, tt)) (λ e. tt, (λ e. tt, tt))
-  policy-line Edf = plain-line (policy_tokens Edf) (policy Edf) refl (λ k. refl, (λ k. refl, tt)) earliest_deadline (tt, (tt, tt)) (λ e. tt, (λ e. tt, tt))
+  policy-line p = plain-line (policy_tokens p) (policy p) refl (λ k. refl, (λ k. refl, tt)) (a_policy p) (tt, (tt, tt)) (λ e. tt, (λ e. tt, tt))
 
   pub until-line : (n : ℕ) → n ≤ MAX_TIME → IsLine place (until_tokens n) (until (pos n))
   until-line n h = plain-line (until_tokens n) (until (pos n)) refl (λ k. refl, (λ k. refl, tt)) (an_until (pos n)) (tt, (small n h, tt)) (λ e. tt, (λ e. tt, tt))

@@ -1,7 +1,6 @@
 -- The tokens of the lines of a document in canonical form.
 use Rattle.std.specs.Prelude.{ℕ, pos, ◌==◌, List, [], ◌∷◌, ◌++◌, Option, Some, None, if◌then◌else◌}
 use Rattle.dbp_plan.specs.declared.diagram.Policy.{Policy}
-use Rattle.dbp_plan.specs.declared.diagram.Policy.TheVariants.{Fp, Edf}
 use Rattle.dbp_plan.specs.Expr.{tree_of}
 use Rattle.dia_tokens.specs.declared.token.Token.{Token}
 use Rattle.dia_tokens.specs.declared.token.Token.TheVariants.{Word, Name, Number, Symbol}
@@ -9,6 +8,7 @@ use Rattle.dia_tokens.specs.declared.token.Word as words
 use Rattle.dia_tokens.specs.declared.token.Word.TheVariants as word
 use Rattle.dia_tokens.specs.declared.token.Symbol.TheVariants.{Assign, Point}
 use Rattle.dia_lines.specs.Delays.{delay_tokens}
+use Rattle.dia_lines.specs.PolicyWords.{word_of}
 use Rattle.dia_lines.specs.declared.item.Decl.{Decl}
 use Rattle.dia_lines.specs.declared.item.Decl.TheVariants.{Input, Event}
 use Rattle.dia_lines.specs.declared.item.Part.{Part}
@@ -22,8 +22,7 @@ abbrev pub header_tokens : ℕ → List Token
 header_tokens version = Word word.Dbp ∷ Number (pos version) ∷ []
 
 abbrev pub policy_tokens : Policy → List Token
-policy_tokens Fp = Word word.Policy ∷ Word word.Fp ∷ []
-policy_tokens Edf = Word word.Policy ∷ Word word.Edf ∷ []
+policy_tokens p = Word word.Policy ∷ Word (word_of p) ∷ []
 
 abbrev pub until_tokens : ℕ → List Token
 until_tokens end = Word word.Until ∷ Number (pos end) ∷ []

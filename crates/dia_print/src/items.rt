@@ -9,7 +9,7 @@ ghost use Rattle.dia_print.specs.Printed.{with_tokens};
 use crate::Printer;
 use crate::expression::push_expression;
 use dbp_plan::{Name, NoMemory, Policy};
-use dia_lines::{Decl, Part, RawClock, TaskLine};
+use dia_lines::{Decl, Part, RawClock, TaskLine, policy_word};
 use dia_tokens::{Symbol, Token, Word};
 
 /// The word and a number, if it is there.
@@ -111,10 +111,7 @@ impl Printer {
         ensures { OnOk result (self.new ≡ with_tokens self.old (policy_tokens policy)) }
     {
         self.push(Token::Word(Word::Policy))?;
-        self.push(Token::Word(match policy {
-            Policy::Fp => Word::Fp,
-            Policy::Edf => Word::Edf,
-        }))
+        self.push(Token::Word(policy_word(policy)))
     }
 
     /// Adds the line of the tick before which tasks occur.

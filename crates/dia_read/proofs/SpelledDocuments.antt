@@ -5,7 +5,6 @@ use Rattle.std.specs.Option.{option_map}
 use Rattle.std.proofs.lemmas.Bool.{and_parts}
 use Rattle.std.proofs.lemmas.Bool.Decides.{nat_tests}
 use Rattle.dbp_plan.proofs.FirstFaults.{test-none}
-use Rattle.dbp_plan.specs.declared.diagram.Policy.TheVariants.{Fp, Edf}
 use Rattle.dbp_plan.specs.declared.expr.Expr.{Expr}
 use Rattle.dbp_plan.specs.declared.limits.TheConstants.{MAX_NODES, MAX_TIME, MAX_PRIO, MAX_CPU}
 use Rattle.dbp_plan.specs.Expr.{IsExprOf}
@@ -33,7 +32,7 @@ use Rattle.dia_lines.specs.FirstLine.{cut_line}
 use Rattle.dia_lines.specs.Held.{IsClock, cpu_of, IsKept, IsHeld}
 use Rattle.dia_lines.specs.Limits.{lies_within, option_lies_within, clock_fits, delay_fits, numbers_fit}
 use Rattle.dia_lines.specs.Lines.{Said, expression_of, lacks_header, token_fault, place_after, statements, Reads, of_the_diagram, of_the_trace, of_the_script, an_empty_row, trace_ends, script_begins, a_row, no_step, script_ends, a_step}
-use Rattle.dia_lines.specs.Statements.{Statement, Clock, every, on, IsStatement, a_blank_line, in_version_1, in_version_2, fixed_priorities, earliest_deadline, an_until, an_input, an_event, a_task, a_state, a_sense, a_read, a_let_line, a_next_line, an_out, a_trace, a_script, an_end}
+use Rattle.dia_lines.specs.Statements.{Statement, Clock, every, on, IsStatement, a_blank_line, in_version_1, in_version_2, a_policy, an_until, an_input, an_event, a_task, a_state, a_sense, a_read, a_let_line, a_next_line, an_out, a_trace, a_script, an_end}
 use Rattle.dia_lines.specs.Text.{lines_of}
 use Rattle.dia_lines.proofs.TextLaws.{lines_of-nil, lines_of-cut_line, cut_line-shorter, cut_line-within}
 use Rattle.dia_read.specs.declared.document.Doc.{Doc}
@@ -87,8 +86,7 @@ held-form : (ts : List Token) (s : Statement) → IsStatement ts s → numbers_f
 held-form ts s a_blank_line f few = (line.Nothing, tt)
 held-form ts s in_version_1 f few = (line.Header 1, refl)
 held-form ts s in_version_2 f few = (line.Header 2, refl)
-held-form ts s fixed_priorities f few = (line.Policy Fp, refl)
-held-form ts s earliest_deadline f few = (line.Policy Edf, refl)
+held-form ts s (a_policy p) f few = (line.Policy p, refl)
 held-form ts s (an_until end) f few = let n = natural end 0 MAX_TIME f in (line.Until n.0, n.1)
 held-form ts s (an_input name first) f few = (line.Decl (Input name first), (refl, refl))
 held-form ts s (an_event name) f few = (line.Decl (Event name), refl)

@@ -7,7 +7,6 @@ use Rattle.std.proofs.lemmas.Fmt.{length_signed_le}
 use Rattle.std.proofs.lemmas.List.{length-append}
 use Rattle.std.proofs.lemmas.List.Elements.{All-from_recursion, recursion_from_All}
 use Rattle.dbp_plan.specs.declared.diagram.Policy.{Policy}
-use Rattle.dbp_plan.specs.declared.diagram.Policy.TheVariants.{Fp, Edf}
 use Rattle.dbp_plan.specs.declared.expr.Expr.{Expr}
 use Rattle.dbp_plan.specs.declared.node.BinOp.{BinOp}
 use Rattle.dbp_plan.specs.Expr.{tree_of}
@@ -36,7 +35,7 @@ use Rattle.dia_lines.specs.declared.item.TaskLine.{TaskLine}
 use Rattle.dia_lines.specs.declared.place.Place.TheVariants as place
 use Rattle.dia_print.specs.ExpressionTokens.{call_tokens, enclosed, is_call, is_compound, operand_tokens, operator_token, tokens_of}
 use Rattle.dia_print.specs.ItemTokens.{clock_tokens, decl_tokens, header_tokens, named_cpu, option_tokens, part_tokens, policy_tokens, source_tokens, task_tokens, until_tokens, when_tokens}
-use Rattle.dia_print.proofs.ItemLaws.{IsAfterHeader, decl-line, done-line, header-line, part-line, size-fits, task-line, until-line}
+use Rattle.dia_print.proofs.ItemLaws.{IsAfterHeader, decl-line, done-line, header-line, part-line, policy-line, size-fits, task-line, until-line}
 use Rattle.dia_print.specs.Printable.{IsPrintableDecl, IsPrintablePart}
 use Rattle.dia_read.specs.Canonical.{canonical_text, decl_text, part_text, section_lines, task_text}
 use Rattle.dia_read.specs.Documents.{first_line}
@@ -256,8 +255,7 @@ task-short version t prints =
     )
 
 policy-short : (p : Policy) → length (line_of (policy_tokens p)) ≤ 51
-policy-short Fp = omega arith
-policy-short Edf = omega arith
+policy-short p = omega (arith, line-short (policy_tokens p) (policy-line place.Ended after-end p).printable)
 
 -- how many bytes a section keeps
 abbrev pub kept_bytes : Option (List ℕ) → ℕ

@@ -1,9 +1,10 @@
--- Busy periods under fixed priorities: from the last time on at which the tasks above a task have been served all that they asked for, each tick serves one of them.
+-- Busy periods under service by rank: from the last time on at which the tasks above a task have been served all that they asked for, each tick serves one of them.
 use Rattle.std.proofs.Common.{◌≡◌, ℕ, zero, suc, ◌+◌, ◌-◌, ◌<◌, ◌≤◌, ◌⊎◌, ◌&&◌, true, ltb, eqb, Option, ap, subst, inl, inr, arith, slice_index}
 use Rattle.std.proofs.lemmas.Bool.{and_parts, cases_lt, eqb-true, lt-ltb, ltb-true, or_cases}
-use Rattle.dbp_plan.specs.declared.diagram.Policy.{Policy}
-use Rattle.dbp_plan.specs.declared.diagram.Policy.TheVariants.{Fp}
+use Rattle.dbp_plan.specs.declared.diagram.ServedBy.{ServedBy}
+use Rattle.dbp_plan.specs.declared.diagram.ServedBy.TheVariants.{Rank}
 use Rattle.dbp_plan.specs.declared.plan.Plan.{Plan}
+use Rattle.dbp_plan.specs.Policies.{served_by}
 use Rattle.rank_order.specs.Instances.{Instance, release_of}
 use Rattle.rank_order.specs.Order.{is_before, key_by}
 use Rattle.rank_order.specs.Service.{GoesBefore, IsService, Waits, left_of}
@@ -16,11 +17,11 @@ abbrev pub IsEarlier : Plan → Instance → Instance → Type 0
 IsEarlier p z x = (slice_index p.diagram.ranks z.task < slice_index p.diagram.ranks x.task)
     ⊎ ((slice_index p.diagram.ranks z.task ≡ slice_index p.diagram.ranks x.task) × (release_of p z < release_of p x))
 
-pub by_rank : (p : Plan) → p.diagram.policy ≡ Fp → (z x : Instance) → GoesBefore p z x → IsEarlier p z x
-by_rank p fp z x before =
+pub by_rank : (p : Plan) → served_by p.diagram.policy ≡ Rank → (z x : Instance) → GoesBefore p z x → IsEarlier p z x
+by_rank p ranked z x before =
     let ranks = p.diagram.ranks in
-    let keys : is_before (key_by Fp p.diagram z.task (release_of p z)) (key_by Fp p.diagram x.task (release_of p x)) ≡ true =
-    subst (λ (policy : Policy). is_before (key_by policy p.diagram z.task (release_of p z)) (key_by policy p.diagram x.task (release_of p x)) ≡ true) fp before in
+    let keys : is_before (key_by Rank p.diagram z.task (release_of p z)) (key_by Rank p.diagram x.task (release_of p x)) ≡ true =
+    subst (λ (by : ServedBy). is_before (key_by by p.diagram z.task (release_of p z)) (key_by by p.diagram x.task (release_of p x)) ≡ true) ranked before in
     ordered (slice_index ranks z.task) (release_of p z) (slice_index ranks x.task) (release_of p x) keys
   where
     ordered : (a s b t : ℕ) → is_before (record { first = a; second = s }) (record { first = b; second = t }) ≡ true → (a < b) ⊎ ((a ≡ b) × (s < t))
@@ -35,12 +36,12 @@ pub record IsBusyPeriod (p : Plan) (serve : ℕ → Option Instance) (i b s : �
   pub quiet : work p serve i b ≡ demand p i b
   pub busy : (u : ℕ) → b ≤ u → u ≤ s → work p serve i b + (u - b) ≤ work p serve i u
 
-module _ (p : Plan) (serve : ℕ → Option Instance) (service : IsService p serve) (fp : p.diagram.policy ≡ Fp) (i : ℕ) where
+module _ (p : Plan) (serve : ℕ → Option Instance) (service : IsService p serve) (ranked : served_by p.diagram.policy ≡ Rank) (i : ℕ) where
   higher_first : (x z : Instance) → is_above p x.task i ≡ true → (x ≡ z) ⊎ GoesBefore p z x → is_above p z.task i ≡ true
   higher_first x z higher (inl same) = subst (λ (y : Instance). is_above p y.task i ≡ true) same higher
   higher_first x z higher (inr before) =
       let above : slice_index p.diagram.ranks x.task < slice_index p.diagram.ranks i = ltb-true (slice_index p.diagram.ranks x.task) (slice_index p.diagram.ranks i) higher in
-      lt-ltb (slice_index p.diagram.ranks z.task) (slice_index p.diagram.ranks i) (elim (by_rank p fp z x before) [
+      lt-ltb (slice_index p.diagram.ranks z.task) (slice_index p.diagram.ranks i) (elim (by_rank p ranked z x before) [
         | inl rank ↦ omega (arith, rank, above)
         | inr tie ↦ omega (arith, tie.0, above)
       ])

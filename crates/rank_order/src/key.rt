@@ -5,7 +5,7 @@ ghost use Rattle.dbp_plan.specs.Ranked.{IsRanked};
 ghost use Rattle.dbp_plan.specs.declared.limits.TheConstants.{MAX_TIME};
 ghost use Rattle.rank_order.specs.Order.{is_before, key_of};
 
-use dbp_plan::{Diagram, Policy};
+use dbp_plan::{Diagram, ServedBy};
 
 // Two numbers that a policy compares: the first one decides, and at a tie the second. The smaller goes first.
 #[derive(Clone, Copy)]
@@ -22,12 +22,12 @@ pub(crate) fn key_of(diagram: &Diagram, task: u32, release: u64) -> Key
     ensures { result ≡ key_of diagram.now task release }
 {
     let rank = diagram.ranks.items()[task as usize];
-    match diagram.policy {
-        Policy::Fp => Key {
+    match diagram.policy.served_by() {
+        ServedBy::Rank => Key {
             first: rank,
             second: release as u32,
         },
-        Policy::Edf => Key {
+        ServedBy::Deadline => Key {
             first: (release + relative_deadline(diagram, task)) as u32,
             second: rank,
         },

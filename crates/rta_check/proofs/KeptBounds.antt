@@ -1,8 +1,9 @@
 -- A plan of periodic tasks under fixed priorities keeps each response time.
 use Rattle.std.proofs.Common.{◌≡◌, ℕ, zero, suc, ◌+◌, ◌-◌, ◌<◌, ◌≤◌, length, Option, sym, ap, subst, inl, inr, arith}
 use Rattle.std.proofs.lemmas.Bool.{cases_lt}
-use Rattle.dbp_plan.specs.declared.diagram.Policy.TheVariants.{Fp}
+use Rattle.dbp_plan.specs.declared.diagram.ServedBy.TheVariants.{Rank}
 use Rattle.dbp_plan.specs.declared.plan.Plan.{Plan}
+use Rattle.dbp_plan.specs.Policies.{served_by}
 use Rattle.dbp_plan.specs.Lookups.{declared_task, no_declared_task}
 use Rattle.dbp_plan.specs.Occurrences.{time_of}
 use Rattle.dbp_plan.proofs.ClockTimes.{a_period_apart}
@@ -21,7 +22,7 @@ use Rattle.rta_check.specs.Responses.{KeepsBound, SolvesEquation}
 use Rattle.rta_check.proofs.Demands.{clock_of, demand_within}
 use Rattle.rta_check.proofs.Progress.{progress_at}
 
-module _ (p : Plan) (serve : ℕ → Option Instance) (serving : IsService p serve) (fp : p.diagram.policy ≡ Fp) (periodic : IsPeriodic p.diagram) (i r : ℕ) (solves : SolvesEquation p.diagram i r) where
+module _ (p : Plan) (serve : ℕ → Option Instance) (serving : IsService p serve) (ranked : served_by p.diagram.policy ≡ Rank) (periodic : IsPeriodic p.diagram) (i r : ℕ) (solves : SolvesEquation p.diagram i r) where
   abbrev at : ℕ → Instance
   at n = record { task = i; number = n }
 
@@ -64,10 +65,10 @@ module _ (p : Plan) (serve : ℕ → Option Instance) (serving : IsService p ser
   in_time : (n : ℕ) → IsInstance p (at n) → ((m : ℕ) → 1 ≤ m → m < n → left m (release n) ≡ 0) → left n (release n + r) ≡ 0
   in_time n is earlier =
       let s = release n in
-      let (b, period) = busy_period p serve serving fp i s in
+      let (b, period) = busy_period p serve serving ranked i s in
       let end : s ≤ b + r = over b s is.task period in
       let later = left_falls p serve (at n) (b + r) (s + r) (omega (arith, period.from)) in
-      elim (progress_at p serve serving fp i n is earlier (b + r) end) [
+      elim (progress_at p serve serving ranked i n is earlier (b + r) end) [
         | inl done ↦ omega (arith, done, later)
         | inr served ↦
             let window = demand_within p periodic i b r solves in
@@ -92,24 +93,24 @@ module _ (p : Plan) (serve : ℕ → Option Instance) (serving : IsService p ser
       omega (arith, done, left_falls p serve (at m) (release m + r) (release n) (apart m n is from_one less)))
 
 -- each instance of a task with a response time
-module _ (p : Plan) (fp : p.diagram.policy ≡ Fp) (periodic : IsPeriodic p.diagram) (x : Instance) (r : ℕ) (solves : SolvesEquation p.diagram x.task r) where
+module _ (p : Plan) (ranked : served_by p.diagram.policy ≡ Rank) (periodic : IsPeriodic p.diagram) (x : Instance) (r : ℕ) (solves : SolvesEquation p.diagram x.task r) where
   -- is finished in time
   finished_in_time : IsInstance p x → left_of p (service p) x (release_of p x + r) ≡ 0
-  finished_in_time is = finished p (service p) (service_is p) fp periodic x.task r solves x.number x.number (omega arith) is
+  finished_in_time is = finished p (service p) (service_is p) ranked periodic x.task r solves x.number x.number (omega arith) is
 
   -- and ends in time
   ends_in_time : IsInstance p x → (e : ℕ) × IsEnd (service p) x e × (e ≤ release_of p x + r)
   ends_in_time is = ended_by p (service p) (service_is p) x is (release_of p x + r) (finished_in_time is)
 
-pub keeps_bound : (p : Plan) → p.diagram.policy ≡ Fp → IsPeriodic p.diagram → (i r : ℕ) → SolvesEquation p.diagram i r → KeepsBound p i r
-keeps_bound p fp periodic i r solves = record {
+pub keeps_bound : (p : Plan) → served_by p.diagram.policy ≡ Rank → IsPeriodic p.diagram → (i r : ℕ) → SolvesEquation p.diagram i r → KeepsBound p i r
+keeps_bound p ranked periodic i r solves = record {
   none_late = λ t x same late.
       let solves_here : SolvesEquation p.diagram x.task r = subst (λ (j : ℕ). SolvesEquation p.diagram j r) (sym same) solves in
       let from_one : 1 ≤ x.number - 1 = omega (arith, late.not_first) in
       let before_is : IsInstance p (before_it x) = record { task = late.instance.task; from_one = from_one; within = omega (arith, late.instance.within) } in
-      let done = finished_in_time p fp periodic (before_it x) r solves_here before_is in
-      let gap = apart p (service p) (service_is p) fp periodic x.task r solves_here (x.number - 1) x.number late.instance from_one (omega (arith, late.not_first)) in
+      let done = finished_in_time p ranked periodic (before_it x) r solves_here before_is in
+      let gap = apart p (service p) (service_is p) ranked periodic x.task r solves_here (x.number - 1) x.number late.instance from_one (omega (arith, late.not_first)) in
       let falls = left_falls p (service p) (before_it x) (release_of p (before_it x) + r) t (omega (arith, gap, late.at)) in
       omega (arith, done, falls, late.unfinished);
-  ends = λ x same is. ends_in_time p fp periodic x r (subst (λ (j : ℕ). SolvesEquation p.diagram j r) (sym same) solves) is;
+  ends = λ x same is. ends_in_time p ranked periodic x r (subst (λ (j : ℕ). SolvesEquation p.diagram j r) (sym same) solves) is;
 }

@@ -1,8 +1,9 @@
 -- If the earlier instances of its task are finished at its release, each later tick serves an instance or a task above its own, as long as something is left of it.
 use Rattle.std.proofs.Common.{◌≡◌, ℕ, zero, suc, ◌+◌, ◌-◌, ◌<◌, ◌≤◌, ◌⊎◌, Option, Some, refl, ap, ◌∙◌, subst, inl, inr, arith, slice_index}
 use Rattle.std.proofs.lemmas.Bool.{cases_lt, lt-ltb}
-use Rattle.dbp_plan.specs.declared.diagram.Policy.TheVariants.{Fp}
+use Rattle.dbp_plan.specs.declared.diagram.ServedBy.TheVariants.{Rank}
 use Rattle.dbp_plan.specs.declared.plan.Plan.{Plan}
+use Rattle.dbp_plan.specs.Policies.{served_by}
 use Rattle.dbp_plan.specs.Occurrences.{time_of}
 use Rattle.rank_order.specs.Instances.{Instance, IsInstance, release_of}
 use Rattle.rank_order.specs.Service.{GoesBefore, IsService, Waits, left_of, served_ticks}
@@ -24,7 +25,7 @@ earlier_number p i m n first second before = elim (cases_lt m n) [
   ]
 ]
 
-module _ (p : Plan) (serve : ℕ → Option Instance) (service : IsService p serve) (fp : p.diagram.policy ≡ Fp) (i n : ℕ)
+module _ (p : Plan) (serve : ℕ → Option Instance) (service : IsService p serve) (ranked : served_by p.diagram.policy ≡ Rank) (i n : ℕ)
     (is : IsInstance p (record { task = i; number = n }))
     (earlier : (m : ℕ) → 1 ≤ m → m < n → left_of p serve (record { task = i; number = m }) (time_of p.batches i n) ≡ 0) where
   abbrev own : Instance
@@ -64,7 +65,7 @@ module _ (p : Plan) (serve : ℕ → Option Instance) (service : IsService p ser
       by_first u late served z now (inl same) =
           let tick : tick_of own (serve u) ≡ 1 = rw (now, ← same) (tick_own own) in
           inr (omega (arith, late, served, served_next serve own u, tick, work_grows p serve service i u))
-      by_first u late served z now (inr before) = elim (by_rank p fp z own before) [
+      by_first u late served z now (inr before) = elim (by_rank p ranked z own before) [
         | inl rank ↦
             let more = work_next p serve service i u z now (lt-ltb (slice_index p.diagram.ranks z.task) (slice_index p.diagram.ranks i) rank) in
             inr (omega (arith, late, served, more, served_next serve own u))

@@ -3,10 +3,11 @@ use Rattle.std.specs.Prelude.{◌≡◌, ◌≢◌, ℕ, Bool, not, ◌||◌, is
 use Rattle.std.specs.List.{position}
 use Rattle.std.specs.Option.{option_map}
 use Rattle.dbp_plan.specs.declared.diagram.Diagram.{Diagram}
-use Rattle.dbp_plan.specs.declared.diagram.Policy.{Policy}
-use Rattle.dbp_plan.specs.declared.diagram.Policy.TheVariants.{Edf, Fp}
+use Rattle.dbp_plan.specs.declared.diagram.ServedBy.{ServedBy}
+use Rattle.dbp_plan.specs.declared.diagram.ServedBy.TheVariants.{Rank, Deadline}
 use Rattle.dbp_plan.specs.declared.diagram.Task.{Task}
 use Rattle.dbp_plan.specs.declared.plan.Plan.{Plan}
+use Rattle.dbp_plan.specs.Policies.{served_by}
 use Rattle.rank_order.specs.Ends.{NoOverrun}
 use Rattle.rank_order.specs.Service.{left_of}
 use Rattle.rank_order.specs.ServiceOf.{service}
@@ -31,14 +32,14 @@ pub record KeepsBounds (bounds : List Bound) (p : Plan) : Type 0 where
 abbrev pub is_aperiodic : Task → Bool
 is_aperiodic t = not (is_periodic t.clock) || is_some t.when
 
--- why a diagram of this policy has no bounds, if this is the first of its tasks that is aperiodic
-abbrev pub fault_under : Policy → Option ℕ → Option RtaFail
-fault_under Edf task = Some NotFixed
-fault_under Fp task = option_map NotPeriodic task
+-- why a diagram served in this way has no bounds, if this is the first of its tasks that is aperiodic
+abbrev pub fault_under : ServedBy → Option ℕ → Option RtaFail
+fault_under Deadline task = Some NotFixed
+fault_under Rank task = option_map NotPeriodic task
 
--- why the diagram has no bounds: earliest deadline first comes before tasks that are aperiodic
+-- why the diagram has no bounds: service by deadline comes before tasks that are aperiodic
 abbrev pub rta_fault : Diagram → Option RtaFail
-rta_fault d = fault_under d.policy (position is_aperiodic d.tasks)
+rta_fault d = fault_under (served_by d.policy) (position is_aperiodic d.tasks)
 
 -- this is why it has none; out of memory says nothing
 abbrev pub IsRtaFail : Diagram → RtaFail → Type 0

@@ -10,7 +10,7 @@ ghost use Rattle.rta_check.specs.Phases.{DiffersInPhase};
 
 use crate::level::Level;
 use crate::{Bound, RtaFail};
-use dbp_plan::{Clock, Diagram, List, Policy, Task};
+use dbp_plan::{Clock, Diagram, List, ServedBy, Task};
 use std::alloc::Global;
 
 /// Whether the task is on an event, or occurs only where an input isn't 0.
@@ -32,16 +32,16 @@ fn fault(diagram: &Diagram) -> Option<RtaFail>
     requires { IsRanked diagram.now }
     ensures { result ≡ rta_fault diagram.now }
 {
-    match diagram.policy {
-        Policy::Edf => Some(RtaFail::NotFixed),
-        Policy::Fp => {
+    match diagram.policy.served_by() {
+        ServedBy::Deadline => Some(RtaFail::NotFixed),
+        ServedBy::Rank => {
             let task = first_aperiodic(diagram.tasks.items())?;
             Some(RtaFail::NotPeriodic { task: task as u32 })
         }
     }
 }
 
-/// The bounds of a diagram's tasks under fixed priorities, by number of the task: each is the task's least response time,
+/// The bounds of a diagram's tasks, which are served by rank, by number of the task: each is the task's least response time,
 /// or says that it has none within its period. A task's bound depends on the costs and the periods of the task and of
 /// those ranked above it; a deadline and a processor aren't looked at. The time taken may be in proportion to the
 /// periods' ratio where the tasks above leave almost nothing.

@@ -5,7 +5,7 @@ use dbp_plan::NoMemory;
 /// Why the response times of a diagram's tasks aren't found.
 #[derive(Clone, Copy, Debug, PartialEq, Eq)]
 pub enum RtaFail {
-    /// Its tasks aren't served under fixed priorities.
+    /// Its policy serves by deadline.
     NotFixed,
     /// The task is on an event, or occurs only where an input isn't 0. It is the first such task, numbered from 0.
     NotPeriodic { task: u32 },

@@ -2,8 +2,9 @@
 
 ghost use Rattle.std.specs.Prelude.{◌≡◌, ◌<◌, ℕ, List as Items, length};
 ghost use Rattle.dbp_plan.specs.declared.diagram.Diagram.{Diagram};
-ghost use Rattle.dbp_plan.specs.declared.diagram.Policy.TheVariants.{Fp};
+ghost use Rattle.dbp_plan.specs.declared.diagram.ServedBy.TheVariants.{Rank};
 ghost use Rattle.dbp_plan.specs.declared.plan.Plan.{Plan};
+ghost use Rattle.dbp_plan.specs.Policies.{served_by};
 ghost use Rattle.rank_order.specs.Ends.{NoOverrun};
 ghost use Rattle.rank_order.specs.Service.{left_of};
 ghost use Rattle.rank_order.specs.ServiceOf.{service};
@@ -20,17 +21,17 @@ pub fn one_bound()
         → b ≡ c }
 {}
 
-/// Under fixed priorities, if no task is on an event, each least response time holds by itself: in each plan of the
+/// Under service by rank, if no task is on an event, each least response time holds by itself: in each plan of the
 /// diagram with any offsets, any end and any samples, whatever the other tasks' bounds are.
 pub fn each_bound_holds_by_itself()
-    ensures { (d : Diagram) (p : Plan) (task r : ℕ) → d.policy ≡ Fp → IsPeriodic d
+    ensures { (d : Diagram) (p : Plan) (task r : ℕ) → served_by d.policy ≡ Rank → IsPeriodic d
         → IsResponse d task r → DiffersInPhase d p.diagram → KeepsBound p task r }
 {}
 
-/// Under fixed priorities, if no task is on an event and each has a least response time, no plan of the diagram with any
+/// Under service by rank, if no task is on an event and each has a least response time, no plan of the diagram with any
 /// offsets, any end and any samples has an overrun.
 pub fn bounded_tasks_do_not_overrun()
-    ensures { (d : Diagram) (p : Plan) → d.policy ≡ Fp → IsPeriodic d
+    ensures { (d : Diagram) (p : Plan) → served_by d.policy ≡ Rank → IsPeriodic d
         → ((task : ℕ) → task < length d.tasks → (r : ℕ) × IsResponse d task r)
         → DiffersInPhase d p.diagram → NoOverrun p (left_of p (service p)) }
 {}
@@ -42,9 +43,9 @@ pub fn one_list_of_bounds()
         → bounds ≡ others }
 {}
 
-/// Under fixed priorities, if no task is on an event, each plan of the diagram with any offsets, any end and any samples
+/// Under service by rank, if no task is on an event, each plan of the diagram with any offsets, any end and any samples
 /// keeps the diagram's bounds.
 pub fn bounds_are_kept()
-    ensures { (d : Diagram) (bounds : Items Bound) (p : Plan) → d.policy ≡ Fp → IsPeriodic d
+    ensures { (d : Diagram) (bounds : Items Bound) (p : Plan) → served_by d.policy ≡ Rank → IsPeriodic d
         → AreBounds d bounds → DiffersInPhase d p.diagram → KeepsBounds bounds p }
 {}

@@ -53,7 +53,7 @@ use Rattle.slot_need.specs.Scenarios.{firing_count, firing_of_event, firing_of_f
 use Rattle.slot_need.proofs.ColumnNames.{all_columns, columns-apart, columns-named, known-event, name-at, no-input}
 use Rattle.slot_need.proofs.Columns.{all-names, distinct-names, known-names, marks-of-events, name_of}
 use Rattle.slot_need.proofs.LiveRows.{live-rows}
-use Rattle.slot_need.proofs.NeedFaults.{IsOnEvent, first-on-event, on-event, short-scenario, under-fixed}
+use Rattle.slot_need.proofs.NeedFaults.{IsOnEvent, by-rank, first-on-event, on-event, short-scenario}
 use Rattle.slot_need.proofs.Readers.{few-firings}
 use Rattle.slot_need.proofs.Served.{no-overrun}
 use Rattle.slot_need.proofs.ScenarioTimes.{event-times, no-samples, times_of_event}
@@ -231,7 +231,7 @@ module _ (spells : (body : Body) → IsPrintable body → SpellsBody (canonical_
   accepted serves =
       let (p, planned) = plan in
       let is = scenario p planned in
-      let fixed = under-fixed d w none in (
+      let fixed = by-rank d w none in (
         p,
         record { doc = new; diagram = longer; spelled = spelled.spelled; checked = checked; planned = planned },
         is,

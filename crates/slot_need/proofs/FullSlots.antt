@@ -40,7 +40,7 @@ use Rattle.slot_need.proofs.Accepted.{accepted, ranked-diagram}
 use Rattle.slot_need.proofs.KeptItems.{stays, stood}
 use Rattle.slot_need.proofs.KnownEnds.{none-known}
 use Rattle.slot_need.proofs.LiveRows.{firing-at}
-use Rattle.slot_need.proofs.NeedFaults.{under-fixed}
+use Rattle.slot_need.proofs.NeedFaults.{by-rank}
 use Rattle.slot_need.proofs.Readers.{some-firings}
 use Rattle.slot_need.proofs.UsedSlots.{in-use}
 
@@ -70,7 +70,7 @@ pub record Laws : Type 0 where
 module _ (laws : Laws) (body : Body) (d : Diagram) (w : ℕ) (of : IsCheckedDiagramOf body d) (printable : IsPrintable body) (there : w < length d.tasks) (none : need_fault d w ≡ None) where
   uses-all : (p : Plan) → IsScenario d w p → (script : List Step) → IsRecord p script → UsesAllSlots p script w (last_firing d w)
   uses-all p is script record_is =
-      let fixed = under-fixed d w none in
+      let fixed = by-rank d w none in
       let ranked = ranked-diagram body d of printable in
       let serves = laws.serves p in
       let last = firing-at d w there fixed ranked p is serves (firing_count d w - 1) (omega (arith, some-firings d w)) in

@@ -8,12 +8,13 @@ use Rattle.std.proofs.lemmas.Option.{get_or_from_slice_get, none-some, same_Some
 use Rattle.dbp_plan.specs.declared.diagram.Clock.{Clock}
 use Rattle.dbp_plan.specs.declared.diagram.Clock.TheVariants.{Every, On}
 use Rattle.dbp_plan.specs.declared.diagram.Diagram.{Diagram}
-use Rattle.dbp_plan.specs.declared.diagram.Policy.{Policy}
-use Rattle.dbp_plan.specs.declared.diagram.Policy.TheVariants.{Edf, Fp}
+use Rattle.dbp_plan.specs.declared.diagram.ServedBy.{ServedBy}
+use Rattle.dbp_plan.specs.declared.diagram.ServedBy.TheVariants.{Rank, Deadline}
 use Rattle.dbp_plan.specs.declared.diagram.Task.{Task}
 use Rattle.dbp_plan.specs.declared.limits.TheConstants.{MAX_TIME}
 use Rattle.dbp_plan.specs.ListItems.{take_place}
 use Rattle.dbp_plan.specs.Lookups.{no_declared_task, task_at}
+use Rattle.dbp_plan.specs.Policies.{served_by}
 use Rattle.dia_check.proofs.LinkLists.{any-at}
 use Rattle.dia_check.proofs.PortLaws.{position-there}
 use Rattle.slot_need.specs.declared.fail.NeedFail.{NeedFail}
@@ -30,17 +31,17 @@ short-enough end none = elim (cases_lt MAX_TIME end) [
   | inr within ↦ within
 ]
 
-record IsFaultless (policy : Policy) (off shared : Option ℕ) (end : ℕ) : Type 0 where
-  pub fixed : policy ≡ Fp
+record IsFaultless (by : ServedBy) (off shared : Option ℕ) (end : ℕ) : Type 0 where
+  pub fixed : by ≡ Rank
   pub on_events : off ≡ None
   pub apart : shared ≡ None
   pub short : end ≤ MAX_TIME
 
-no-fault : (policy : Policy) (off shared : Option ℕ) (end : ℕ) → fault_under policy off shared end ≡ None → IsFaultless policy off shared end
-no-fault Edf off shared end none = absurd (cc)
-no-fault Fp (Some task) shared end none = absurd (cc)
-no-fault Fp None (Some task) end none = absurd (cc)
-no-fault Fp None None end none = record { fixed = refl; on_events = refl; apart = refl; short = short-enough end none }
+no-fault : (by : ServedBy) (off shared : Option ℕ) (end : ℕ) → fault_under by off shared end ≡ None → IsFaultless by off shared end
+no-fault Deadline off shared end none = absurd (cc)
+no-fault Rank (Some task) shared end none = absurd (cc)
+no-fault Rank None (Some task) end none = absurd (cc)
+no-fault Rank None None end none = record { fixed = refl; on_events = refl; apart = refl; short = short-enough end none }
 
 -- ---- what a fault says
 
@@ -57,18 +58,18 @@ too-long end past = rw past refl
 not-too-long : (end : ℕ) → nat_lt MAX_TIME end ≡ false → length_fault end ≡ None
 not-too-long end within = rw within refl
 
-fault-names : (policy : Policy) (off shared : Option ℕ) (end : ℕ) (fault : NeedFail) → fault_under policy off shared end ≡ Some fault → FaultNames off shared fault
-fault-names Edf off shared end fault is = subst (FaultNames off shared) (same_Some NotFixed fault is) tt
-fault-names Fp (Some task) shared end fault is = subst (FaultNames (Some task) shared) (same_Some (NotOnEvents task) fault is) refl
-fault-names Fp None (Some task) end fault is = subst (FaultNames None (Some task)) (same_Some (SharedEvent task) fault is) refl
-fault-names Fp None None end fault is = elim (cases_Bool (nat_lt MAX_TIME end)) [
+fault-names : (by : ServedBy) (off shared : Option ℕ) (end : ℕ) (fault : NeedFail) → fault_under by off shared end ≡ Some fault → FaultNames off shared fault
+fault-names Deadline off shared end fault is = subst (FaultNames off shared) (same_Some NotFixed fault is) tt
+fault-names Rank (Some task) shared end fault is = subst (FaultNames (Some task) shared) (same_Some (NotOnEvents task) fault is) refl
+fault-names Rank None (Some task) end fault is = subst (FaultNames None (Some task)) (same_Some (SharedEvent task) fault is) refl
+fault-names Rank None None end fault is = elim (cases_Bool (nat_lt MAX_TIME end)) [
   | inl past ↦ subst (FaultNames None None) (same_Some (TooLong end) fault (sym (too-long end past) ∙ is)) tt
   | inr within ↦ absurd (none-some fault (sym (not-too-long end within) ∙ is))
 ]
 
 module _ (d : Diagram) (w : ℕ) where
   names-of-fault : (fault : NeedFail) → need_fault d w ≡ Some fault → FaultNames (position is_off_events d.tasks) (find (is_sharing d) (range_with_len 0 (length d.tasks))) fault
-  names-of-fault fault is = fault-names d.policy (position is_off_events d.tasks) (find (is_sharing d) (range_with_len 0 (length d.tasks))) (scenario_end d w) fault is
+  names-of-fault fault is = fault-names (served_by d.policy) (position is_off_events d.tasks) (find (is_sharing d) (range_with_len 0 (length d.tasks))) (scenario_end d w) fault is
 
   pub no-memory-fault : need_fault d w ≡ Some NoMemory → ⊥
   no-memory-fault = names-of-fault NoMemory
@@ -123,11 +124,11 @@ same-event a b e f is_a is_b not same =
     both_ways (e == f) here (eq-eqb e f same)
 
 module _ (d : Diagram) (w : ℕ) (none : need_fault d w ≡ None) where
-  faultless : IsFaultless d.policy (position is_off_events d.tasks) (find (is_sharing d) (range_with_len 0 (length d.tasks))) (scenario_end d w)
-  faultless = no-fault d.policy (position is_off_events d.tasks) (find (is_sharing d) (range_with_len 0 (length d.tasks))) (scenario_end d w) none
+  faultless : IsFaultless (served_by d.policy) (position is_off_events d.tasks) (find (is_sharing d) (range_with_len 0 (length d.tasks))) (scenario_end d w)
+  faultless = no-fault (served_by d.policy) (position is_off_events d.tasks) (find (is_sharing d) (range_with_len 0 (length d.tasks))) (scenario_end d w) none
 
-  pub under-fixed : d.policy ≡ Fp
-  under-fixed = faultless.fixed
+  pub by-rank : served_by d.policy ≡ Rank
+  by-rank = faultless.fixed
 
   pub short-scenario : scenario_end d w ≤ MAX_TIME
   short-scenario = faultless.short

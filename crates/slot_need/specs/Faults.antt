@@ -4,11 +4,12 @@ use Rattle.std.specs.List.{find, list_any, position, range_with_len}
 use Rattle.dbp_plan.specs.declared.diagram.Clock.{Clock}
 use Rattle.dbp_plan.specs.declared.diagram.Clock.TheVariants.{Every, On}
 use Rattle.dbp_plan.specs.declared.diagram.Diagram.{Diagram}
-use Rattle.dbp_plan.specs.declared.diagram.Policy.{Policy}
-use Rattle.dbp_plan.specs.declared.diagram.Policy.TheVariants.{Edf, Fp}
+use Rattle.dbp_plan.specs.declared.diagram.ServedBy.{ServedBy}
+use Rattle.dbp_plan.specs.declared.diagram.ServedBy.TheVariants.{Rank, Deadline}
 use Rattle.dbp_plan.specs.declared.diagram.Task.{Task}
 use Rattle.dbp_plan.specs.declared.limits.TheConstants.{MAX_TIME}
 use Rattle.dbp_plan.specs.Lookups.{task_at}
+use Rattle.dbp_plan.specs.Policies.{served_by}
 use Rattle.slot_need.specs.declared.fail.NeedFail.{NeedFail}
 use Rattle.slot_need.specs.declared.fail.NeedFail.TheVariants.{NotFixed, NotOnEvents, SharedEvent, TooLong, NoMemory}
 use Rattle.slot_need.specs.Scenarios.{scenario_end}
@@ -43,13 +44,13 @@ abbrev pub event_fault : Option ℕ → Option ℕ → ℕ → Option NeedFail
 event_fault (Some task) shared end = Some (NotOnEvents task)
 event_fault None shared end = sharing_fault shared end
 
-abbrev pub fault_under : Policy → Option ℕ → Option ℕ → ℕ → Option NeedFail
-fault_under Edf off shared end = Some NotFixed
-fault_under Fp off shared end = event_fault off shared end
+abbrev pub fault_under : ServedBy → Option ℕ → Option ℕ → ℕ → Option NeedFail
+fault_under Deadline off shared end = Some NotFixed
+fault_under Rank off shared end = event_fault off shared end
 
--- why task w has no scenario: the policy comes before tasks off events, these before events that are shared, and these before the end
+-- why task w has no scenario: service by deadline comes before tasks off events, these before events that are shared, and these before the end
 abbrev pub need_fault : Diagram → ℕ → Option NeedFail
-need_fault d w = fault_under d.policy (position is_off_events d.tasks) (find (is_sharing d) (range_with_len 0 (length d.tasks))) (scenario_end d w)
+need_fault d w = fault_under (served_by d.policy) (position is_off_events d.tasks) (find (is_sharing d) (range_with_len 0 (length d.tasks))) (scenario_end d w)
 
 -- this is why it has none; out of memory says nothing
 abbrev pub IsNeedFail : Diagram → ℕ → NeedFail → Type 0

@@ -7,7 +7,7 @@ ghost use Rattle.slot_need.specs.Faults.{is_off_events, is_same_event, is_sharin
 
 use crate::NeedFail;
 use crate::firings::scenario_end;
-use dbp_plan::{Clock, Diagram, MAX_TIME, Policy, Task};
+use dbp_plan::{Clock, Diagram, MAX_TIME, ServedBy, Task};
 
 /// Whether the task is periodic, or occurs only where an input isn't 0.
 fn is_off_events(task: &Task) -> bool
@@ -68,7 +68,7 @@ pub(crate) fn fault(diagram: &Diagram, task: u32) -> Option<NeedFail>
     requires task { task < length diagram.now.tasks }
     ensures { result ≡ need_fault diagram.now task }
 {
-    if diagram.policy == Policy::Edf {
+    if diagram.policy.served_by() == ServedBy::Deadline {
         return Some(NeedFail::NotFixed);
     }
     if let Some(off) = first_off_events(diagram.tasks.items()) {
