@@ -2,7 +2,7 @@
 -- their list.
 use Rattle.std.proofs.Common.{◌≡◌, ℕ, ◌<◌, ◌≤◌, Bool, true, List, [], ◌∷◌, ◌∙◌, Some, None, IfSome, refl, sym, ap, arith, length, filter, inl, inr}
 use Rattle.std.specs.Prelude.{◌⊎◌, nat_le}
-use Rattle.std.specs.List.{list_all}
+use Rattle.std.specs.List.{find, list_all}
 use Rattle.std.proofs.lemmas.Bool.{cases_Bool, and_parts}
 use Rattle.std.proofs.lemmas.Bool.Decides.{nat_tests}
 use Rattle.std.proofs.lemmas.Bool.Decides.{Decides-eqb}
@@ -36,18 +36,19 @@ pub listed : (w : Word) → word_among all_words (word_text w) ≡ Some w
 listed keyword.Dbp = refl
 listed _ = refl
 
-among-holds : (p : Word → Bool) (words : List Word) (text : List ℕ) → list_all p words ≡ true → IfSome (word_among words text) (λ w. p w ≡ true)
-among-holds p [] text e = tt
-among-holds p (w ∷ ws) text e =
-    let both = and_parts (p w) (list_all p ws) e in
-    elim (cases_Bool (bytes_eq (word_text w) text)) [
+-- a test that all elements pass is passed by one that is found
+pub found-passes : {X : Type 0} (p test : X → Bool) (xs : List X) → list_all p xs ≡ true → IfSome (find test xs) (λ x. p x ≡ true)
+found-passes p test [] e = tt
+found-passes p test (x ∷ xs) e =
+    let both = and_parts (p x) (list_all p xs) e in
+    elim (cases_Bool (test x)) [
       | inl y ↦ rw y both.0
-      | inr n ↦ rw n (among-holds p ws text both.1)
+      | inr n ↦ rw n (found-passes p test xs both.1)
     ]
 
 -- a test that the listed words pass is passed by each
 pub each : (p : Word → Bool) → list_all p all_words ≡ true → (w : Word) → p w ≡ true
-each p e w = rw (listed w) at (among-holds p all_words (word_text w) e)
+each p e w = rw (listed w) at (found-passes p (λ v. bytes_eq (word_text v) (word_text w)) all_words e)
 
 pub word-again : (w : Word) → word_of (word_text w) ≡ word w
 unfolding word_of
