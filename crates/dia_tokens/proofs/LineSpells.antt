@@ -10,8 +10,6 @@ use Rattle.dia_tokens.specs.declared.token.Symbol.{Symbol}
 use Rattle.dia_tokens.specs.declared.token.Symbol.TheVariants as symbols
 use Rattle.dia_tokens.specs.declared.token.Token.{Token}
 use Rattle.dia_tokens.specs.declared.token.Token.TheVariants as token
-use Rattle.dia_tokens.specs.declared.token.Word.{Word}
-use Rattle.dia_tokens.specs.declared.token.Word.TheVariants as words
 use Rattle.dia_tokens.specs.Kinds.{kind_of, symbol_kind_of, is_allowed, is_name, is_digit, is_equals}
 use Rattle.dia_tokens.specs.Lexes.{signs, Passes, Stops, Lexes, ends, a_blank, a_name, a_number, a_signed_number, a_minus, an_unequal, a_short, a_long, a_plain}
 use Rattle.dia_tokens.specs.Line.{Spells}
@@ -20,9 +18,9 @@ use Rattle.dia_tokens.specs.Printable.{IsPrintableNumber, IsPrintableToken}
 use Rattle.dia_tokens.specs.Shapes.{IsNameText, letters}
 use Rattle.dia_tokens.specs.Spelling.{symbol_text}
 use Rattle.dia_tokens.specs.Values.{HaveValues, none, another}
-use Rattle.dia_tokens.specs.Words.{word_text, word_of}
+use Rattle.dia_tokens.specs.Words.{begins_call, word_text, word_of}
 use Rattle.dia_tokens.proofs.LexLaws.{digit_is}
-use Rattle.dia_tokens.proofs.SpellingLaws.{word-again}
+use Rattle.dia_tokens.proofs.WordLaws.{word-again}
 use Rattle.dia_tokens.specs.declared.edge.Edge.{Edge}
 use Rattle.dia_tokens.specs.declared.edge.Edge.TheVariants.{Tight, Call, Loose}
 use Rattle.dia_tokens.specs.TokenText.{piece_of, token_text, edge_of, is_apart, gap, text_after, line_text}
@@ -128,47 +126,14 @@ symbol-lexes s symbols.Close rest ps b d = a_plain s 41 symbols.Close rest ps re
 symbol-lexes s symbols.Comma rest ps b d = a_plain s 44 symbols.Comma rest ps refl d
 symbol-lexes s symbols.Point rest ps b d = a_plain s 46 symbols.Point rest ps refl d
 
--- a word's edge breaks it
-word-breaks : (w : Word) (rest : List ℕ) → Ends (edge_of (token.Word w)) rest → Breaks rest
-word-breaks words.Dbp rest b = b
-word-breaks words.Policy rest b = b
-word-breaks words.Fp rest b = b
-word-breaks words.Edf rest b = b
-word-breaks words.Until rest b = b
-word-breaks words.Input rest b = b
-word-breaks words.Event rest b = b
-word-breaks words.Task rest b = b
-word-breaks words.Every rest b = b
-word-breaks words.From rest b = b
-word-breaks words.On rest b = b
-word-breaks words.Prio rest b = b
-word-breaks words.Deadline rest b = b
-word-breaks words.Cost rest b = b
-word-breaks words.State rest b = b
-word-breaks words.Sense rest b = b
-word-breaks words.Let rest b = b
-word-breaks words.Next rest b = b
-word-breaks words.Read rest b = b
-word-breaks words.Pre rest b = b
-word-breaks words.At rest b = b
-word-breaks words.Out rest b = b
-word-breaks words.Then rest b = b
-word-breaks words.If rest b = b
-word-breaks words.Else rest b = b
-word-breaks words.And rest b = b
-word-breaks words.Or rest b = b
-word-breaks words.Not rest b = b
-word-breaks words.Min rest b = b
-word-breaks words.Max rest b = b
-word-breaks words.Trace rest b = b
-word-breaks words.Script rest b = b
-word-breaks words.Done rest b = b
-word-breaks words.When rest b = b
-word-breaks words.Cpu rest b = b
+-- what stands after a word, whether it begins a call or not
+word-breaks : (calls : Bool) (rest : List ℕ) → Ends (cond calls Call Loose) rest → Breaks rest
+word-breaks true rest b = b
+word-breaks false rest b = b
 
 token-lexes : (s : Bool) (t : Token) (rest : List ℕ) (ps : List Piece) → IsPrintableToken t → (s ≡ false → IsUnsigned t) → Ends (edge_of t) rest → Lexes (signs (piece_of t)) rest ps
     → Lexes s (token_text t ++ rest) (piece_of t ∷ ps)
-token-lexes s (token.Word w) rest ps h u b d = name-lexes s (word_text w) rest (word w) ps (word-shape w) (word-again w) (word-breaks w rest b).names d
+token-lexes s (token.Word w) rest ps h u b d = name-lexes s (word_text w) rest (word w) ps (word-shape w) (word-again w) (word-breaks (begins_call w) rest b).names d
 token-lexes s (token.Name n) rest ps h u b d = name-lexes s n rest (name n) ps (name-shape n h.0) h.1 b.names d
 token-lexes s (token.Number z) rest ps h u b d = number-lexes s z rest ps h u b.names d
 token-lexes s (token.Symbol x) rest ps h u b d = symbol-lexes s x rest ps b d

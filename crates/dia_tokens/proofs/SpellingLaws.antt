@@ -13,13 +13,12 @@ use Rattle.dia_tokens.specs.declared.token.Symbol.{Symbol}
 use Rattle.dia_tokens.specs.declared.token.Symbol.TheVariants.{Assign, Equal, Unequal, Less, AtMost, Greater, AtLeast, Plus, Minus, Star, Slash, Percent, Open, Close, Comma, Point}
 use Rattle.dia_tokens.specs.declared.token.Token.{Token}
 use Rattle.dia_tokens.specs.declared.token.Word.{Word}
-use Rattle.dia_tokens.specs.declared.token.Word.TheVariants as spelled
 use Rattle.dia_tokens.specs.declared.kind.Kind.{Kind}
 use Rattle.dia_tokens.specs.declared.kind.Kind.TheVariants.{Blank, Hash, Letter, Digit, Dash, Bang, Pair, Plain, Other}
 use Rattle.dia_tokens.specs.Kinds.{is_allowed, kind_of, symbol_kind_of, is_name, is_digit, is_equals}
 use Rattle.dia_tokens.specs.Lexes.{signs, Stops, Lexes, ends, a_comment, a_blank, a_name, a_number, a_signed_number, a_minus, an_unequal, a_short, a_long, a_plain}
 use Rattle.dia_tokens.specs.Line.{Spells}
-use Rattle.dia_tokens.specs.Pieces.{Piece, word, name, number, symbol}
+use Rattle.dia_tokens.specs.Pieces.{Piece, name, number, symbol}
 use Rattle.dia_tokens.specs.Reading.{nothing, found, token_at}
 use Rattle.dia_tokens.specs.Spelling.{symbol_text, text_of, spaced, joined, IsSpelling}
 use Rattle.dia_tokens.specs.Printable.{IsPrintableNumber, IsPrintableToken}
@@ -48,44 +47,6 @@ word-spelled text = spelled (word_among all_words text) (among-is all_words text
     spelled : (o : Option Word) → IfSome o (λ w. word_text w ≡ text) → text_of (or_else o (name text)) ≡ text
     spelled (Some w) h = h
     spelled None h = refl
-
-pub word-again : (w : Word) → word_of (word_text w) ≡ word w
-unfolding word_of
-word-again spelled.Dbp = refl
-word-again spelled.Policy = refl
-word-again spelled.Fp = refl
-word-again spelled.Edf = refl
-word-again spelled.Until = refl
-word-again spelled.Input = refl
-word-again spelled.Event = refl
-word-again spelled.Task = refl
-word-again spelled.Every = refl
-word-again spelled.From = refl
-word-again spelled.On = refl
-word-again spelled.Prio = refl
-word-again spelled.Deadline = refl
-word-again spelled.Cost = refl
-word-again spelled.State = refl
-word-again spelled.Sense = refl
-word-again spelled.Let = refl
-word-again spelled.Next = refl
-word-again spelled.Read = refl
-word-again spelled.Pre = refl
-word-again spelled.At = refl
-word-again spelled.Out = refl
-word-again spelled.Then = refl
-word-again spelled.If = refl
-word-again spelled.Else = refl
-word-again spelled.And = refl
-word-again spelled.Or = refl
-word-again spelled.Not = refl
-word-again spelled.Min = refl
-word-again spelled.Max = refl
-word-again spelled.Trace = refl
-word-again spelled.Script = refl
-word-again spelled.Done = refl
-word-again spelled.When = refl
-word-again spelled.Cpu = refl
 
 -- ---- the texts of symbols
 

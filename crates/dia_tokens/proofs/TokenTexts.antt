@@ -14,7 +14,6 @@ use Rattle.dia_tokens.specs.declared.token.Symbol.TheVariants as symbols
 use Rattle.dia_tokens.specs.declared.token.Token.{Token}
 use Rattle.dia_tokens.specs.declared.token.Token.TheVariants as token
 use Rattle.dia_tokens.specs.declared.token.Word.{Word}
-use Rattle.dia_tokens.specs.declared.token.Word.TheVariants as words
 use Rattle.dia_tokens.specs.Kinds.{kind_of, symbol_kind_of, is_allowed, is_name, is_name_kind, is_digit}
 use Rattle.dia_tokens.specs.Lexes.{Passes}
 use Rattle.dia_tokens.specs.Printable.{IsPrintableNumber, IsPrintableToken}
@@ -24,6 +23,7 @@ use Rattle.dia_tokens.specs.Values.{digits_value, is_negative, number_of, is_in_
 use Rattle.dia_tokens.specs.Words.{word_text}
 use Rattle.dia_tokens.proofs.ByteLaws.{digit-bounds}
 use Rattle.dia_tokens.proofs.ValueLaws.{own, name-fits}
+use Rattle.dia_tokens.proofs.WordLaws.{each}
 use Rattle.dia_tokens.specs.TokenText.{piece_of, token_text}
 
 -- ---- names
@@ -47,41 +47,7 @@ shape (b ∷ bs) e = let both = and_parts (nat_le 97 b && nat_le b 122) (list_al
 
 pub word-shape : (w : Word) → IsNameText (word_text w)
 unfolding kind_of symbol_kind_of
-word-shape words.Dbp = shape (word_text words.Dbp) refl
-word-shape words.Policy = shape (word_text words.Policy) refl
-word-shape words.Fp = shape (word_text words.Fp) refl
-word-shape words.Edf = shape (word_text words.Edf) refl
-word-shape words.Until = shape (word_text words.Until) refl
-word-shape words.Input = shape (word_text words.Input) refl
-word-shape words.Event = shape (word_text words.Event) refl
-word-shape words.Task = shape (word_text words.Task) refl
-word-shape words.Every = shape (word_text words.Every) refl
-word-shape words.From = shape (word_text words.From) refl
-word-shape words.On = shape (word_text words.On) refl
-word-shape words.Prio = shape (word_text words.Prio) refl
-word-shape words.Deadline = shape (word_text words.Deadline) refl
-word-shape words.Cost = shape (word_text words.Cost) refl
-word-shape words.State = shape (word_text words.State) refl
-word-shape words.Sense = shape (word_text words.Sense) refl
-word-shape words.Let = shape (word_text words.Let) refl
-word-shape words.Next = shape (word_text words.Next) refl
-word-shape words.Read = shape (word_text words.Read) refl
-word-shape words.Pre = shape (word_text words.Pre) refl
-word-shape words.At = shape (word_text words.At) refl
-word-shape words.Out = shape (word_text words.Out) refl
-word-shape words.Then = shape (word_text words.Then) refl
-word-shape words.If = shape (word_text words.If) refl
-word-shape words.Else = shape (word_text words.Else) refl
-word-shape words.And = shape (word_text words.And) refl
-word-shape words.Or = shape (word_text words.Or) refl
-word-shape words.Not = shape (word_text words.Not) refl
-word-shape words.Min = shape (word_text words.Min) refl
-word-shape words.Max = shape (word_text words.Max) refl
-word-shape words.Trace = shape (word_text words.Trace) refl
-word-shape words.Script = shape (word_text words.Script) refl
-word-shape words.Done = shape (word_text words.Done) refl
-word-shape words.When = shape (word_text words.When) refl
-word-shape words.Cpu = shape (word_text words.Cpu) refl
+word-shape w = shape (word_text w) (each (λ w. is_name_text (word_text w)) refl w)
 
 name-at : (b : ℕ) → IsTrue (is_name_byte b) → is_name b ≡ true
 unfolding kind_of symbol_kind_of

@@ -3,10 +3,10 @@ use Rattle.std.specs.Prelude.{ℕ, Bool, true, false, ◌||◌, if◌then◌else
 use Rattle.std.specs.Fmt.{signed_decimal}
 use Rattle.dia_tokens.specs.declared.token.Token.{Token}
 use Rattle.dia_tokens.specs.declared.token.Token.TheVariants.{Word, Name, Number, Symbol}
-use Rattle.dia_tokens.specs.declared.token.Word.TheVariants.{Min, Max}
 use Rattle.dia_tokens.specs.declared.token.Symbol.TheVariants.{Open, Close, Comma, Point}
 use Rattle.dia_tokens.specs.Pieces.{Piece, word, name, number, symbol}
 use Rattle.dia_tokens.specs.Spelling.{text_of}
+use Rattle.dia_tokens.specs.Words.{begins_call}
 use Rattle.dia_tokens.specs.declared.edge.Edge.{Edge}
 use Rattle.dia_tokens.specs.declared.edge.Edge.TheVariants.{Tight, Call, Loose}
 
@@ -20,12 +20,11 @@ piece_of (Symbol s) = symbol s
 abbrev pub token_text : Token → List ℕ
 token_text t = text_of (piece_of t)
 
--- what a line that ends with the token is like: no space stands after `(` and the point, and none between `min` or `max` and its `(`
+-- what a line that ends with the token is like: no space stands after `(` and the point, and none between a word that begins a call and its `(`
 abbrev pub edge_of : Token → Edge
 edge_of (Symbol Open) = Tight
 edge_of (Symbol Point) = Tight
-edge_of (Word Min) = Call
-edge_of (Word Max) = Call
+edge_of (Word w) = if begins_call w then Call else Loose
 edge_of _ = Loose
 
 -- no space stands before `)`, the comma and the point

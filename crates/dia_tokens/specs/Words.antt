@@ -1,50 +1,56 @@
 -- The reserved words.
-use Rattle.std.specs.Prelude.{ℕ, List, [], ◌∷◌, get_or, ◌==◌, codes, Option, Some, None}
+use Rattle.std.specs.Prelude.{ℕ, Bool, true, false, List, [], ◌∷◌, get_or, ◌==◌, codes, Option, Some, None}
 use Rattle.std.specs.List.{find, filter}
 use Rattle.std.specs.Str.{bytes_eq}
 use Rattle.dia_tokens.specs.declared.token.Word.{Word}
-use Rattle.dia_tokens.specs.declared.token.Word.TheVariants.{Dbp, Policy, Fp, Edf, Until, Input, Event, Task, Every, From, On, Prio, Deadline, Cost, State, Sense, Let, Next, Read, Pre, At, Out, Then, If, Else, And, Or, Not, Min, Max, Trace, Script, Done, When, Cpu}
+use Rattle.dia_tokens.specs.declared.token.Word.TheVariants as keyword
 use Rattle.dia_tokens.specs.Pieces.{Piece, name, word}
 
 abbrev pub word_text : Word → List ℕ
-word_text Dbp = codes "dbp"
-word_text Policy = codes "policy"
-word_text Fp = codes "fp"
-word_text Edf = codes "edf"
-word_text Until = codes "until"
-word_text Input = codes "input"
-word_text Event = codes "event"
-word_text Task = codes "task"
-word_text Every = codes "every"
-word_text From = codes "from"
-word_text On = codes "on"
-word_text Prio = codes "prio"
-word_text Deadline = codes "deadline"
-word_text Cost = codes "cost"
-word_text State = codes "state"
-word_text Sense = codes "sense"
-word_text Let = codes "let"
-word_text Next = codes "next"
-word_text Read = codes "read"
-word_text Pre = codes "pre"
-word_text At = codes "at"
-word_text Out = codes "out"
-word_text Then = codes "then"
-word_text If = codes "if"
-word_text Else = codes "else"
-word_text And = codes "and"
-word_text Or = codes "or"
-word_text Not = codes "not"
-word_text Min = codes "min"
-word_text Max = codes "max"
-word_text Trace = codes "trace"
-word_text Script = codes "script"
-word_text Done = codes "done"
-word_text When = codes "when"
-word_text Cpu = codes "cpu"
+word_text keyword.Dbp = codes "dbp"
+word_text keyword.Policy = codes "policy"
+word_text keyword.Fp = codes "fp"
+word_text keyword.Edf = codes "edf"
+word_text keyword.Until = codes "until"
+word_text keyword.Input = codes "input"
+word_text keyword.Event = codes "event"
+word_text keyword.Task = codes "task"
+word_text keyword.Every = codes "every"
+word_text keyword.From = codes "from"
+word_text keyword.On = codes "on"
+word_text keyword.Prio = codes "prio"
+word_text keyword.Deadline = codes "deadline"
+word_text keyword.Cost = codes "cost"
+word_text keyword.State = codes "state"
+word_text keyword.Sense = codes "sense"
+word_text keyword.Let = codes "let"
+word_text keyword.Next = codes "next"
+word_text keyword.Read = codes "read"
+word_text keyword.Pre = codes "pre"
+word_text keyword.At = codes "at"
+word_text keyword.Out = codes "out"
+word_text keyword.Then = codes "then"
+word_text keyword.If = codes "if"
+word_text keyword.Else = codes "else"
+word_text keyword.And = codes "and"
+word_text keyword.Or = codes "or"
+word_text keyword.Not = codes "not"
+word_text keyword.Min = codes "min"
+word_text keyword.Max = codes "max"
+word_text keyword.Trace = codes "trace"
+word_text keyword.Script = codes "script"
+word_text keyword.Done = codes "done"
+word_text keyword.When = codes "when"
+word_text keyword.Cpu = codes "cpu"
 
 abbrev pub all_words : List Word
-all_words = Dbp ∷ Policy ∷ Fp ∷ Edf ∷ Until ∷ Input ∷ Event ∷ Task ∷ Every ∷ From ∷ On ∷ Prio ∷ Deadline ∷ Cost ∷ State ∷ Sense ∷ Let ∷ Next ∷ Read ∷ Pre ∷ At ∷ Out ∷ Then ∷ If ∷ Else ∷ And ∷ Or ∷ Not ∷ Min ∷ Max ∷ Trace ∷ Script ∷ Done ∷ When ∷ Cpu ∷ []
+all_words = keyword.Dbp ∷ keyword.Policy ∷ keyword.Fp ∷ keyword.Edf ∷ keyword.Until ∷ keyword.Input ∷ keyword.Event ∷ keyword.Task ∷ keyword.Every ∷ keyword.From ∷ keyword.On ∷ keyword.Prio ∷ keyword.Deadline ∷ keyword.Cost ∷ keyword.State ∷ keyword.Sense ∷ keyword.Let ∷ keyword.Next ∷ keyword.Read ∷ keyword.Pre ∷ keyword.At ∷ keyword.Out ∷ keyword.Then ∷ keyword.If ∷ keyword.Else ∷ keyword.And ∷ keyword.Or ∷ keyword.Not ∷ keyword.Min ∷ keyword.Max ∷ keyword.Trace ∷ keyword.Script ∷ keyword.Done ∷ keyword.When ∷ keyword.Cpu ∷ []
+
+-- the words that are operators written as calls
+abbrev pub begins_call : Word → Bool
+begins_call keyword.Min = true
+begins_call keyword.Max = true
+begins_call _ = false
 
 -- the first of the words that the text is
 abbrev pub word_among : List Word → List ℕ → Option Word

@@ -2,7 +2,7 @@
 
 ghost use Rattle.std.specs.Prelude.{◌≡◌};
 ghost use Rattle.dia_tokens.specs.Spelling.{symbol_text};
-ghost use Rattle.dia_tokens.specs.Words.{word_text};
+ghost use Rattle.dia_tokens.specs.Words.{begins_call, word_text};
 
 use dbp_plan::Name;
 
@@ -88,6 +88,13 @@ impl Word {
             Word::When => b"when",
             Word::Cpu => b"cpu",
         }
+    }
+
+    /// Whether the word is an operator that is written as a call: no space stands between it and its `(`.
+    pub fn begins_call(self) -> bool
+        ensures { result ≡ begins_call self }
+    {
+        matches!(self, Word::Min | Word::Max)
     }
 }
 
