@@ -22,7 +22,7 @@ use Rattle.dbp_rules.proofs.FreeAims.{some_aim}
 use Rattle.dbp_rules.proofs.Wirings.{wiring-whole}
 use Rattle.release_book.specs.NextStep.{IsNextAt, IsNextAtAim, IsNextStep, end_step, first_unended, step_of}
 use Rattle.release_book.specs.declared.release_step.ReleaseStep.{ReleaseStep}
-use Rattle.release_book.specs.declared.release_step.ReleaseStep.TheVariants.{Seen, Aim, Claim, OpenGate, Finished}
+use Rattle.release_book.specs.declared.release_step.ReleaseStep.TheVariants.{Seen, Aim, Claim, OpenGate}
 use Rattle.release_book.proofs.Searches.{least_below}
 
 -- the step names what is there, and the part allows it
@@ -38,11 +38,6 @@ may_too w r e f a b same is also may = subst (λ (x : Step). MayMake w r x) (sam
 abbrev slot_in : ReleaseStep → ℕ
 slot_in (Aim i slot) = slot
 slot_in _ = 0
-
--- the step after the last action is none only if no task is unended
-none_unended : (o : Option ℕ) → Finished ≡ end_step o → o ≡ None
-none_unended (Some i) is = absurd (cc (is))
-none_unended None is = refl
 
 module _ (p : Plan) (w : Wiring) (whole : IsWired p w) (r : ReleaserPart) (ok : ReleaserShape p w r) where
   pub aim_there : (i : ℕ) → slice_get w.releases r.place ≡ Some (release.Aim i) → i < length w.tasks
@@ -97,26 +92,6 @@ module _ (p : Plan) (w : Wiring) (whole : IsWired p w) (r : ReleaserPart) (ok : 
 
   pub one_next : (e f : ReleaseStep) → IsNextStep w r e → IsNextStep w r f → e ≡ f
   one_next e f next also = one_at e f (slice_get w.releases r.place) refl next also
-
-  -- ---- it has finished
-
-  -- at the end of the list with no task unended, and only there
-  finished_at : (o : Option Release) → slice_get w.releases r.place ≡ o → IsNextAt w r o Finished → (o ≡ None) × (first_unended w r ≡ None)
-  finished_at (Some (release.Aim i)) here next = elim (cases_lt (entry_in r i).known (entry_in r i).aimed) [
-    | inl less ↦ let bad : Finished ≡ Seen i = next.sees less in absurd (cc (bad))
-    | inr more ↦
-        let ended : (entry_in r i).aimed ≡ (entry_in r i).known = omega (arith, ok.known i (aim_there i here)) in
-        let bad = (next.aims ended).1 in absurd (cc (bad))
-  ]
-  finished_at (Some (release.Claim k)) here next = absurd (cc (next))
-  finished_at (Some (release.OpenGate i)) here next = absurd (cc (next))
-  finished_at None here next = (refl, none_unended (first_unended w r) next)
-
-  pub finished : IsNextStep w r Finished → (slice_get w.releases r.place ≡ None) × (first_unended w r ≡ None)
-  finished next = finished_at (slice_get w.releases r.place) refl next
-
-  pub finished_then : slice_get w.releases r.place ≡ None → first_unended w r ≡ None → IsNextStep w r Finished
-  finished_then past none = rw (past, none) refl
 
   -- ---- an aim is at the least slot
 
