@@ -2,6 +2,7 @@
 use Rattle.std.proofs.Common.{◌≡◌, ◌≤◌, ℕ, Bool, true, List, Option, length, sym, subst, String, Global}
 use Rattle.std.proofs.KnownBytes.{Consumes-whole}
 use Rattle.std.specs.Io.KnownBytes.{Appends, Consumes, IsAtEnd}
+use Rattle.dbp_plan.specs.Calls.{one_more}
 use Rattle.dbp_plan.specs.Faults.{Rose}
 use Rattle.dbp_answers.specs.Answer.{Answers, made, overran, refused}
 use Rattle.dbp_answers.specs.Commands.{reads_input}
@@ -16,25 +17,26 @@ use Rattle.dbp_top.specs.declared.top.TheConstants.{MAX_DOCUMENT}
 pub where-read : (command : Command) (A B : Type 0) → reads_input command ≡ true → A → WhereRead (reads_input command) A B
 where-read command A B reads holds = subst (λ (r : Bool). WhereRead r A B) (sym reads) holds
 
-module _ {S K : Type 0} (left : S → Option (List ℕ)) (source_faults : S → ℕ) (written : K → Option (List ℕ)) (sink_faults : K → ℕ) where
+module _ {S K : Type 0} (left : S → Option (List ℕ)) (source_faults source_ends : S → ℕ) (written : K → Option (List ℕ)) (sink_faults : K → ℕ) where
   ends-whole : (command : Command) (source new_source : S) (sink new_sink : K) (input output : List ℕ) (status : Status) → Answers input command status output
-      → WroteWhole left source_faults written sink_faults source new_source sink new_sink command status → EndsAs left source_faults written sink_faults command source new_source sink new_sink status
+      → WroteWhole left source_faults source_ends written sink_faults source new_source sink new_sink command status → EndsAs left source_faults source_ends written sink_faults command source new_source sink new_sink status
   ends-whole command s t k l input written_text status (made made_text makes) wrote = wrote
   ends-whole command s t k l input written_text status (refused why is) wrote = wrote
   ends-whole command s t k l input written_text status (overran line is) wrote = wrote
 
   -- a call that read its input to the end, and wrote its answer whole, ends as its command's
   pub ends-written : (command : Command) (source new_source : S) (sink new_sink : K) (input output : List ℕ) (status : Status) → reads_input command ≡ true
-      → (length input ≤ MAX_DOCUMENT) × Consumes (left source) (left new_source) input → IsAtEnd (left new_source) × (source_faults new_source ≡ source_faults source)
+      → (length input ≤ MAX_DOCUMENT) × Consumes (left source) (left new_source) input → IsAtEnd (left new_source) × (source_faults new_source ≡ source_faults source) × (source_ends new_source ≡ one_more (source_ends source))
       → Answers input command status output → Appends (written sink) (written new_sink) output × (sink_faults new_sink ≡ sink_faults sink)
-      → EndsAs left source_faults written sink_faults command source new_source sink new_sink status
+      → EndsAs left source_faults source_ends written sink_faults command source new_source sink new_sink status
   ends-written command source new_source sink new_sink input output status reads bytes end answered wrote =
       ends-whole command source new_source sink new_sink input output status answered (record {
-        read = where-read command (ReadWhole left source_faults written sink_faults source new_source) (new_source ≡ source) reads (record {
+        read = where-read command (ReadWhole left source_faults source_ends written sink_faults source new_source) (new_source ≡ source) reads (record {
           end = end.0;
           taken = (input, bytes.1, bytes.0);
           fits = Consumes-whole _ _ input (λ l. length l ≤ MAX_DOCUMENT) bytes.1 end.0 bytes.0;
           no_fault = end.1;
+          one_end = end.2;
         });
         wrote = where-read command _ _ reads
             (Consumes-whole _ _ input (λ l. (x : List ℕ) × Answers l command status x × Appends (written sink) (written new_sink) x) bytes.1 end.0 (output, answered, wrote.0));
@@ -43,7 +45,7 @@ module _ {S K : Type 0} (left : S → Option (List ℕ)) (source_faults : S → 
 
   -- the words of a call that ended as its command's
   pub ends-named : (serves : Command → Bool) (words : List (String Global)) (command : Command) (source new_source : S) (sink new_sink : K) (status : Status) → Names words command → serves command ≡ true
-      → EndsAs left source_faults written sink_faults command source new_source sink new_sink status → Ends left source_faults written sink_faults serves words source new_source sink new_sink status
+      → EndsAs left source_faults source_ends written sink_faults command source new_source sink new_sink status → Ends left source_faults source_ends written sink_faults serves words source new_source sink new_sink status
   ends-named serves words command s t k l Ok named served ends = (command, named, served, ends)
   ends-named serves words command s t k l Refused named served ends = (command, named, served, ends)
   ends-named serves words command s t k l Overrun named served ends = (command, named, served, ends)
@@ -55,9 +57,9 @@ module _ {S K : Type 0} (left : S → Option (List ℕ)) (source_faults : S → 
 
   -- if nothing failed, the call was answered
   pub answered-without-faults : (serves : Command → Bool) (words : List (String Global)) (source new_source : S) (sink new_sink : K) (status : Status)
-      → Ends left source_faults written sink_faults serves words source new_source sink new_sink status
+      → Ends left source_faults source_ends written sink_faults serves words source new_source sink new_sink status
       → (Rose (source_faults source) (source_faults new_source) → ⊥) → (Rose (sink_faults sink) (sink_faults new_sink) → ⊥)
-      → Answered left source_faults written sink_faults serves words source new_source sink new_sink status
+      → Answered left source_faults source_ends written sink_faults serves words source new_source sink new_sink status
   answered-without-faults serves words s t k l Ok ends reads writes = whole ends.0 Ok text ends.1 ends.2 ends.3
   answered-without-faults serves words s t k l Refused ends reads writes = whole ends.0 Refused refusal ends.1 ends.2 ends.3
   answered-without-faults serves words s t k l Overrun ends reads writes = whole ends.0 Overrun overrun ends.1 ends.2 ends.3

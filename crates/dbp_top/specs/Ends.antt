@@ -1,8 +1,9 @@
 -- How a call of the program ends.
-use Rattle.std.specs.Prelude.{◌≡◌, ℕ, ◌+◌, ◌≤◌, Bool, true, false, Option, IfSome, List, [], length}
+use Rattle.std.specs.Prelude.{◌≡◌, ◌⊎◌, ℕ, ◌+◌, ◌≤◌, Bool, true, false, Option, IfSome, List, [], length}
 use Rattle.std.specs.Io.KnownBytes.{Appends, IsAtEnd}
 use Rattle.std.specs.declared.alloc.Global.{Global}
 use Rattle.std.specs.declared.string.String.{String}
+use Rattle.dbp_plan.specs.Calls.{one_more}
 use Rattle.dbp_plan.specs.Faults.{Rose}
 use Rattle.dbp_answers.specs.Answer.{Answers}
 use Rattle.dbp_answers.specs.Commands.{reads_input}
@@ -24,13 +25,14 @@ abbrev pub WhereRead : Bool → Type 0 → Type 0 → Type 0
 WhereRead true read unread = read
 WhereRead false read unread = unread
 
-module _ {S K : Type 0} (left : S → Option (List ℕ)) (source_faults : S → ℕ) (written : K → Option (List ℕ)) (sink_faults : K → ℕ) where
-  -- the source was read to its end, which is within the limit, and no read failed
+module _ {S K : Type 0} (left : S → Option (List ℕ)) (source_faults source_ends : S → ℕ) (written : K → Option (List ℕ)) (sink_faults : K → ℕ) where
+  -- the source was read to its end, which is within the limit, once, and no read failed
   pub record ReadWhole (source new_source : S) : Type 0 where
     pub end : IsAtEnd (left new_source)
     pub taken : LosesFront (left source) (left new_source) (λ n. n ≤ MAX_DOCUMENT)
     pub fits : IfSome (left source) (λ input. length input ≤ MAX_DOCUMENT)
     pub no_fault : source_faults new_source ≡ source_faults source
+    pub one_end : source_ends new_source ≡ one_more (source_ends source)
 
   -- the source was read to its end by a command that reads, and is as before after another
   abbrev pub Reads : S → S → Command → Type 0
@@ -53,23 +55,26 @@ module _ {S K : Type 0} (left : S → Option (List ℕ)) (source_faults : S → 
     pub risen : sink_faults sink ≤ sink_faults new_sink
     pub fault : Rose (sink_faults sink) (sink_faults new_sink)
 
-  -- the source failed after at most as many bytes as the limit, and nothing was written
+  -- the source failed before its end, after at most as many bytes as the limit, and nothing was written
   pub record ReadFailed (source new_source : S) (sink new_sink : K) : Type 0 where
     pub taken : LosesFront (left source) (left new_source) (λ n. n ≤ MAX_DOCUMENT)
     pub risen : source_faults source ≤ source_faults new_source
     pub fault : Rose (source_faults source) (source_faults new_source)
+    pub no_end : source_ends new_source ≡ source_ends source
     pub silent : new_sink ≡ sink
 
-  -- one byte more than the limit was taken, no read failed, and nothing was written
+  -- one byte more than the limit was taken before the end, no read failed, and nothing was written
   pub record ReadTooMuch (source new_source : S) (sink new_sink : K) : Type 0 where
     pub taken : LosesFront (left source) (left new_source) (λ n. n ≡ MAX_DOCUMENT + 1)
     pub no_fault : source_faults new_source ≡ source_faults source
+    pub no_end : source_ends new_source ≡ source_ends source
     pub silent : new_sink ≡ sink
 
-  -- memory ran out, at most as many bytes as the limit were taken, no read failed, and nothing was written
+  -- memory ran out, at most as many bytes as the limit were taken, the end at most once, no read failed, and nothing was written
   pub record RanOut (source new_source : S) (sink new_sink : K) (command : Command) : Type 0 where
     pub taken : WhereRead (reads_input command) (LosesFront (left source) (left new_source) (λ n. n ≤ MAX_DOCUMENT)) (new_source ≡ source)
     pub no_fault : source_faults new_source ≡ source_faults source
+    pub ends : (source_ends new_source ≡ source_ends source) ⊎ (source_ends new_source ≡ one_more (source_ends source))
     pub silent : new_sink ≡ sink
 
   -- what each status says of a call with this command

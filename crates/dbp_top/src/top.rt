@@ -42,11 +42,11 @@ pub fn dbp_main<R: Threads + Wait + Sync, S: Source, K: Sink, C: Crew>(
     turns: &mut TurnCrew,
 ) -> Status
     // What each status says.
-    ensures ends { Ends S.left S.faults K.written K.faults serves_all words.now source.old source.new sink.old sink.new result }
+    ensures ends { Ends S.left S.faults S.ends K.written K.faults serves_all words.now source.old source.new sink.old sink.new result }
     // If no read and no write failed, the call was answered.
     ensures answered { (Rose (S.faults source.old) (S.faults source.new) → ⊥)
         → (Rose (K.faults sink.old) (K.faults sink.new) → ⊥)
-        → Answered S.left S.faults K.written K.faults serves_all words.now source.old source.new sink.old sink.new result }
+        → Answered S.left S.faults S.ends K.written K.faults serves_all words.now source.old source.new sink.old sink.new result }
     // What the crews ran.
     ensures crews { Crews C.runs words.now result
         (S.left source.old) crew.old crew.new turns.old turns.new }
@@ -63,11 +63,11 @@ pub fn plain_main<S: Source, K: Sink>(
     sink: &mut K,
 ) -> Status
     // What each status says.
-    ensures ends { Ends S.left S.faults K.written K.faults serves_plain words.now source.old source.new sink.old sink.new result }
+    ensures ends { Ends S.left S.faults S.ends K.written K.faults serves_plain words.now source.old source.new sink.old sink.new result }
     // If no read and no write failed, the call was answered.
     ensures answered { (Rose (S.faults source.old) (S.faults source.new) → ⊥)
         → (Rose (K.faults sink.old) (K.faults sink.new) → ⊥)
-        → Answered S.left S.faults K.written K.faults serves_plain words.now source.old source.new sink.old sink.new result }
+        → Answered S.left S.faults S.ends K.written K.faults serves_plain words.now source.old source.new sink.old sink.new result }
 {
     plain_ending(alloc, words, source, sink)
 }
@@ -82,7 +82,7 @@ fn ending<R: Threads + Wait + Sync, S: Source, K: Sink, C: Crew>(
     crew: &mut C,
     turns: &mut TurnCrew,
 ) -> Status
-    ensures ends { Ends S.left S.faults K.written K.faults serves_all words.now source.old source.new sink.old sink.new result }
+    ensures ends { Ends S.left S.faults S.ends K.written K.faults serves_all words.now source.old source.new sink.old sink.new result }
     ensures crews { Crews C.runs words.now result
         (S.left source.old) crew.old crew.new turns.old turns.new }
 {
@@ -106,7 +106,7 @@ fn plain_ending<S: Source, K: Sink>(
     source: &mut S,
     sink: &mut K,
 ) -> Status
-    ensures { Ends S.left S.faults K.written K.faults serves_plain words.now source.old source.new sink.old sink.new result }
+    ensures { Ends S.left S.faults S.ends K.written K.faults serves_plain words.now source.old source.new sink.old sink.new result }
 {
     match command_of(words) {
         None | Some(Command::Run { .. } | Command::Soak { .. }) => Status::Usage,
@@ -124,7 +124,7 @@ fn command_ending<S: Source, K: Sink>(
 ) -> Status
     requires plain { serves_plain command ≡ true }
     requires reads { reads_input command ≡ true }
-    ensures { EndsAs S.left S.faults K.written K.faults command source.old source.new sink.old sink.new result }
+    ensures { EndsAs S.left S.faults S.ends K.written K.faults command source.old source.new sink.old sink.new result }
 {
     let input = match read_all(alloc, source, MAX_DOCUMENT) {
         Ok(input) => input,
@@ -148,7 +148,7 @@ fn run_ending<R: Threads + Wait + Sync, S: Source, K: Sink, C: Crew>(
     crew: &mut C,
 ) -> Status
     ensures ends { (turns : Maybe ℕ)
-        → EndsAs S.left S.faults K.written K.faults
+        → EndsAs S.left S.faults S.ends K.written K.faults
         (Run turns) source.old source.new sink.old sink.new result }
     ensures runs { RunsAfter result (S.left source.old) (C.runs crew.old) (C.runs crew.new) }
     ensures seed { C.seed crew.new ≡ C.seed crew.old }
@@ -176,7 +176,7 @@ fn gen_ending<S: Source, K: Sink>(
     sink: &mut K,
 ) -> Status
     requires { (1 ≤ size) × (size ≤ 32) }
-    ensures { EndsAs S.left S.faults K.written K.faults
+    ensures { EndsAs S.left S.faults S.ends K.written K.faults
         (Gen seed size) _source.old _source.new sink.old sink.new result }
 {
     let Ok(text) = generate(alloc, seed, size) else {
@@ -199,7 +199,7 @@ fn soak_ending<R: Threads + Wait + Sync, S: Source, K: Sink, C: Crew>(
     crew: &mut C,
 ) -> Status
     requires { (1 ≤ size) × (size ≤ 32) }
-    ensures ends { EndsAs S.left S.faults K.written K.faults
+    ensures ends { EndsAs S.left S.faults S.ends K.written K.faults
         (Soak seed size) _source.old _source.new sink.old sink.new result }
     ensures runs { RunsAfter result (Some (generated_text seed size)) (C.runs crew.old)
         (C.runs crew.new) }

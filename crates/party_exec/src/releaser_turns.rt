@@ -13,7 +13,7 @@ ghost use Rattle.party_exec.specs.declared.turn.Turn.TheVariants.{Finished};
 use crate::releaser_party::ReleaserParty;
 use crate::turn::{Cause, Turn};
 use dbp_rules::ReleaserPart;
-use release_book::ReleaseStep;
+use release_book::{ReleaseStep, has_finished};
 use word_rule::{ReleaserSeat, SlotWords};
 
 // Makes the step on the words, and returns the number that it heard; 0 if it hears none.
@@ -73,6 +73,6 @@ impl ReleaserParty {
         requires { ReleaserSits words.now self.now.seat }
         ensures { IsTrue result ↔ ReleaserHasFinished words.now self.now }
     {
-        matches!(self.book.next(words.plan()), ReleaseStep::Finished)
+        has_finished(words.wiring(), self.seat.part())
     }
 }

@@ -14,4 +14,5 @@ mod release_step;
 
 pub use book::Book;
 pub use laws::{a_book_follows_its_state, a_next_step_is_allowed, a_part_has_one_next_step};
+pub use next::has_finished;
 pub use release_step::ReleaseStep;

@@ -1,10 +1,12 @@
 // The releaser's next step, by its part.
 
-ghost use Rattle.std.specs.Prelude.{◌≡◌, ◌≤◌, ◌<◌, length, slice_get, Some};
+ghost use Rattle.std.specs.Prelude.{◌≡◌, ◌↔◌, IsTrue, length, slice_get, Some};
+ghost use Rattle.dbp_plan.specs.declared.plan.Plan.{Plan as Run};
 ghost use Rattle.dbp_rules.specs.PartyShapes.{ReleaserShape};
 ghost use Rattle.dbp_rules.specs.Wired.{wiring_of};
 ghost use Rattle.dbp_rules.specs.declared.step.Count.TheVariants.{All};
 ghost use Rattle.release_book.specs.NextStep.{IsNextAtAim, IsNextStep, end_step, first_unended};
+ghost use Rattle.release_book.specs.declared.release_step.ReleaseStep.TheVariants.{Finished};
 ghost use Rattle.release_list.specs.declared.release.Release.TheVariants.{Aim as AimOf};
 
 use crate::release_step::ReleaseStep;
@@ -28,6 +30,16 @@ pub(crate) fn next_step(plan: &Plan, wiring: &Wiring, part: &ReleaserPart) -> Re
         },
         None => at_end(wiring, part),
     }
+}
+
+/// Whether the releaser has finished: its part is past the list of actions, and knows of each occurrence of each task that
+/// it has ended. This looks for no slot.
+pub fn has_finished(wiring: &Wiring, part: &ReleaserPart) -> bool
+    requires { length part.now.tasks ≡ length wiring.now.tasks }
+    ensures { (p : Run) → wiring.now ≡ wiring_of p All → ReleaserShape p wiring.now part.now
+        → IsTrue result ↔ IsNextStep wiring.now part.now Finished }
+{
+    wiring.releases.get(part.place).is_none() && first_unended(wiring, part).is_none()
 }
 
 // The step at the task's aim.

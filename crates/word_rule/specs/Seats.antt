@@ -1,8 +1,5 @@
 -- What ties a seat to its table, and a step to its seat.
-use Rattle.std.specs.Prelude.{◌≡◌, ℕ, ◌+◌, None}
-use Rattle.dbp_rules.specs.PartyRules.{task_refusal}
-use Rattle.dbp_rules.specs.Lookups.{wired_task}
-use Rattle.dbp_rules.specs.declared.step.Step.TheVariants.{Start}
+use Rattle.std.specs.Prelude.{◌≡◌, ℕ, ◌+◌}
 use Rattle.word_rule.specs.declared.seats.ReleaserSeat.{ReleaserSeat}
 use Rattle.word_rule.specs.declared.seats.SlotWords.{SlotWords}
 use Rattle.word_rule.specs.declared.seats.TaskSeat.{TaskSeat}
@@ -34,7 +31,3 @@ pub record TaskSteps (old new : TaskSeat) : Type 0 where
   pub plan : new.seat.me.0.plan ≡ old.seat.me.0.plan
   pub task : new.task ≡ old.task
   pub steps : task_steps new ≡ task_steps old + 1
-
--- the task may load its gate
-abbrev pub MayStart : SlotWords → TaskSeat → Type 0
-MayStart w s = TaskSits w s × (task_refusal (wired_task w.wiring s.task) s.part (Start s.task) ≡ None)

@@ -11,7 +11,7 @@ use arrayvec::ArrayVec;
 use atomic_table::Table;
 use dbp_plan::{List, NoMemory, Plan};
 use dbp_rules::{
-    Count, Place, State, TaskPart, Wiring, first_values_have_64_bits, start_state, wire_plan,
+    Count, Place, ReleaserPart, TaskPart, Wiring, first_values_have_64_bits, wire_plan,
 };
 use dbp_slots::layout;
 use std::alloc::Global;
@@ -41,7 +41,7 @@ impl SlotWords {
     {
         let wiring = wire_plan(alloc, &plan, Count::All)?;
         let layout = layout(&plan.diagram);
-        let State { releaser, .. } = start_state(alloc, &plan, &wiring)?;
+        let part = ReleaserPart::start(alloc, &wiring)?;
         first_values_have_64_bits(&plan.diagram);
         let start = first_words(alloc, &plan, &layout)?;
         let (table, seat) = Table::of_words(alloc, start.as_slice(), &plan)?;
@@ -51,10 +51,7 @@ impl SlotWords {
             wiring,
             layout,
         };
-        let seat = ReleaserSeat {
-            seat,
-            part: releaser,
-        };
+        let seat = ReleaserSeat { seat, part };
         Ok((words, seat))
     }
 

@@ -19,7 +19,6 @@ mod laws;
 mod plays;
 mod releaser_calls;
 mod seats;
-mod sharing;
 mod task_calls;
 mod views;
 mod work_calls;

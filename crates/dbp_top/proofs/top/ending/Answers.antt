@@ -13,7 +13,7 @@ use Rattle.dbp_top.proofs.top.ending.Goals as goal
 pub returns-in-Some-Run-None-clause-ends : goal.returns-in-Some-Run-None-clause-ends
 returns-in-Some-Run-None-clause-ends g c =
     let named : Names c.args.words.now (Run None) = (c.command_of.ensures (Run None)).0 (let a = c.in-Some-Run-None.is in let b = c.in-Some-Run-None.field-0-is in let d = c.in-Some-Run-None.field-0-0-is in cc) in
-    ends-named g.S.Source.left g.S.Source.faults g.K.Sink.written g.K.Sink.faults serves_all c.args.words.now (Run None) c.args.source.now c.run_ending.new.source c.args.sink.now c.run_ending.new.sink c.run_ending.result named refl
+    ends-named g.S.Source.left g.S.Source.faults g.S.Source.ends g.K.Sink.written g.K.Sink.faults serves_all c.args.words.now (Run None) c.args.source.now c.run_ending.new.source c.args.sink.now c.run_ending.new.sink c.run_ending.result named refl
     (c.run_ending.ensures.ends None)
 
 pub returns-in-Some-Run-None-clause-crews : goal.returns-in-Some-Run-None-clause-crews
@@ -30,7 +30,7 @@ pub returns-in-Some-Run-Some-clause-ends : goal.returns-in-Some-Run-Some-clause-
 returns-in-Some-Run-Some-clause-ends g c =
     let seed = c.in-Some-Run-Some.seed in
     let named : Names c.args.words.now (Run (Some seed)) = (c.command_of.ensures (Run (Some seed))).0 (let a = c.in-Some-Run-Some.is in let b = c.in-Some-Run-Some.field-0-is in let d = c.in-Some-Run-Some.field-0-0-is in cc) in
-    ends-named g.S.Source.left g.S.Source.faults g.K.Sink.written g.K.Sink.faults serves_all c.args.words.now (Run (Some seed)) c.args.source.now c.run_ending-in-Some-Run-Some.new.source c.args.sink.now
+    ends-named g.S.Source.left g.S.Source.faults g.S.Source.ends g.K.Sink.written g.K.Sink.faults serves_all c.args.words.now (Run (Some seed)) c.args.source.now c.run_ending-in-Some-Run-Some.new.source c.args.sink.now
     c.run_ending-in-Some-Run-Some.new.sink c.run_ending-in-Some-Run-Some.result named refl (c.run_ending-in-Some-Run-Some.ensures.ends (Some seed))
 
 pub returns-in-Some-Run-Some-clause-crews : goal.returns-in-Some-Run-Some-clause-crews
@@ -62,7 +62,7 @@ pub returns-in-Some-Soak-clause-ends : goal.returns-in-Some-Soak-clause-ends
 returns-in-Some-Soak-clause-ends g c =
     let command = Soak c.in-Some-Soak.seed c.in-Some-Soak.size in
     let named : Names c.args.words.now command = (c.command_of.ensures command).0 (let a = c.in-Some-Soak.is in let b = c.in-Some-Soak.field-0-is in cc) in
-    ends-named g.S.Source.left g.S.Source.faults g.K.Sink.written g.K.Sink.faults serves_all c.args.words.now command c.args.source.now c.soak_ending.new._source c.args.sink.now c.soak_ending.new.sink c.soak_ending.result named refl
+    ends-named g.S.Source.left g.S.Source.faults g.S.Source.ends g.K.Sink.written g.K.Sink.faults serves_all c.args.words.now command c.args.source.now c.soak_ending.new._source c.args.sink.now c.soak_ending.new.sink c.soak_ending.result named refl
     c.soak_ending.ensures.ends
 
 pub returns-in-Some-Soak-clause-crews : goal.returns-in-Some-Soak-clause-crews

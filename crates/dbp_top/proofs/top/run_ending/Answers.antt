@@ -26,7 +26,7 @@ returns-in-Ok-write_all-clause-ends g c = λ turns.
     let answered : Answers input (Run turns) status text = subst (λ (l : List ℕ). Answers l (Run turns) status text) c.deref.ensures.value (c.in-Ok-run_answer.ensures.answer turns) in
     let wrote = c.in-Ok-write_all.ensures.ok in
     let written : Appends (g.K.Sink.written c.args.sink.now) (g.K.Sink.written c.write_all.new.sink) text = subst (λ (l : List ℕ). Appends (g.K.Sink.written c.args.sink.now) (g.K.Sink.written c.write_all.new.sink) l) c.deref-2.ensures.value wrote.0 in
-    ends-written g.S.Source.left g.S.Source.faults g.K.Sink.written g.K.Sink.faults (Run turns) c.args.source.now c.read_all.new.source c.args.sink.now c.write_all.new.sink input text status refl
+    ends-written g.S.Source.left g.S.Source.faults g.S.Source.ends g.K.Sink.written g.K.Sink.faults (Run turns) c.args.source.now c.read_all.new.source c.args.sink.now c.write_all.new.sink input text status refl
     c.in-Ok.ensures.bytes c.in-Ok.ensures.end answered (written, wrote.1)
 
 pub returns-in-Ok-write_all-clause-runs : goal.returns-in-Ok-write_all-clause-runs

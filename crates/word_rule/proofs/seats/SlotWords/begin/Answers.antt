@@ -1,7 +1,5 @@
 use Rattle.std.proofs.Common.{sym, ap, ◌∙◌, subst}
-use Rattle.dbp_rules.specs.Start.{start_of}
-use Rattle.dbp_rules.specs.declared.state.State.{State}
-use Rattle.dbp_rules.specs.declared.wiring.Wiring.{Wiring}
+use Rattle.dbp_rules.specs.Start.{start_releaser}
 use Rattle.word_rule.specs.Showing.{HasFirstNumbers}
 use Rattle.word_rule.proofs.Begins.{begins, first_seat}
 use Rattle.word_rule.proofs.seats.SlotWords.begin.Goals as goal
@@ -11,6 +9,6 @@ of_words-requires c = begins c.args.plan c.as_slice.result.now c.first_values_ha
 
 pub invariant_of-seat : goal.invariant_of-seat
 invariant_of-seat c = record {
-  same = first_seat c.args.plan c.in_ok-table.seat.me c.in_ok-releaser.field-0.releaser c.in_ok-table.ensures.4
-      (ap (λ (s : State). s.releaser) c.in_ok-releaser.ensures ∙ ap (λ (w : Wiring). (start_of c.args.plan w).releaser) c.in_ok-wiring.ensures.wiring);
+  same = first_seat c.args.plan c.in_ok-table.seat.me c.in_ok-part.part c.in_ok-table.ensures.4
+      (c.in_ok-part.ensures ∙ ap start_releaser c.in_ok-wiring.ensures.wiring);
 }
