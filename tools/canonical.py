@@ -5,17 +5,11 @@ Only text that the program wrote is read here, so a text that isn't canonical ha
 
 from bisect import bisect_left
 from dataclasses import dataclass
-from enum import Enum
 from functools import cached_property
 from itertools import chain
 from typing import Optional, Tuple, Union
 
-
-class Policy(Enum):
-    """How tasks are ranked and served: by fixed priorities, or by earliest deadline first."""
-
-    FIXED_PRIORITIES = "fp"
-    EARLIEST_DEADLINE = "edf"
+from policies import POLICIES, Policy
 
 
 @dataclass(frozen=True)
@@ -168,6 +162,10 @@ class Document:
         """Returns the task of this name."""
         return next(task for task in self.tasks if task.name == name)
 
+    def ranking_number(self, task):
+        """Returns the number by which the policy ranks a task."""
+        return getattr(task, self.policy.number)
+
     def cells_under(self, name):
         """Returns the time and the cell of each row in which something stands under an input or an event."""
         return self.trace.filled_cells.get(name, []) if self.trace else []
@@ -292,7 +290,7 @@ def read_document(text):
     declared = [line.split() for line in diagram[3:first_task]]
     return Document(
         version=int(diagram[0].split()[1]),
-        policy=Policy(diagram[1].split()[1]),
+        policy=POLICIES[diagram[1].split()[1]],
         until=int(diagram[2].split()[1]),
         inputs=tuple(Input(words[1], int(words[3])) for words in declared if words[0] == "input"),
         events=tuple(words[1] for words in declared if words[0] == "event"),

@@ -11,7 +11,7 @@ from pathlib import Path
 
 sys.path[:0] = [str(Path(__file__).resolve().parents[2] / it) for it in (".ci", "tools")]
 
-from canonical import Policy, read_document  # noqa: E402
+from canonical import read_document  # noqa: E402
 from rankings import OK, order_of, ranked, readers_of  # noqa: E402
 
 DOCUMENTS = 300
@@ -89,7 +89,7 @@ class Drawing:
 
 def is_accepted(document):
     """Whether a document's tasks have their numbers, and no task is read directly by one that is ranked above."""
-    is_fixed = document.policy is Policy.FIXED_PRIORITIES
+    is_fixed = document.policy.word == "fp"
     numbers = [task.prio if is_fixed else task.deadline for task in document.tasks]
     if None in numbers:
         return False

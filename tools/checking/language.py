@@ -6,6 +6,8 @@ both with the list in the docs.
 
 from dataclasses import dataclass
 
+from policies import POLICIES
+
 RESERVED = frozenset(
     "and at cost cpu dbp deadline done edf else event every fp from if input let max min next not on or out policy pre "
     "prio read script sense state task then trace until when".split()
@@ -68,7 +70,7 @@ COUNTED = {
 
 FORMS = {
     "dbp": "` or `".join(f"dbp {version}" for version in VERSIONS),
-    "policy": "policy fp` or `policy edf",
+    "policy": "` or `".join(f"policy {word}" for word in POLICIES),
     "until": "until N",
     "input": "input NAME = V",
     "event": "event NAME",

@@ -1,8 +1,8 @@
 """Ranks of tasks, and the faults of them: a number that is missing, and a read upward without a delay."""
 
 from checking.messages import Note, error_at
+from policies import POLICIES
 
-CODES = {"fp": (14, "prio"), "edf": (15, "deadline")}
 BY_LINKS = "`dbp rank` writes the document with priorities by its links"
 
 
@@ -17,15 +17,16 @@ def rank_faults(document):
 
 def missing_number(document, task):
     """Returns the message of a task without the number that ranks it, or nothing."""
-    code, word = CODES[document.policy]
+    policy = POLICIES[document.policy]
+    word = policy.number
     if not task.is_whole or word in task.head.numbers:
         return None
-    other = "deadline" if word == "prio" else "prio"
+    others = [it.number for it in POLICIES.values() if it.number != word and it.number in task.head.numbers]
     text = f"the task `{task.name}` has no `{word}`, by which `policy {document.policy}` ranks"
-    if other in task.head.numbers:
-        text += f"; its `{other}` ranks under the other policy alone"
+    if others:
+        text += f"; its `{others[0]}` ranks under the other policy alone"
     cost = next(token for token in task.head.tokens if token.says("cost"))
-    return error_at(cost, task.head.line, code, f"{text}; `{word} N` stands before `{before(task, word)}`; {BY_LINKS}")
+    return error_at(cost, task.head.line, policy.missing, f"{text}; `{word} N` stands before `{before(task, word)}`; {BY_LINKS}")
 
 
 def before(task, word):
@@ -35,11 +36,11 @@ def before(task, word):
 
 def key_of(document, task):
     """Returns what ranks a task, the least first, or nothing if it has no such number."""
-    word = CODES[document.policy][1]
-    number = task.head.number(word) if task.is_whole else None
+    policy = POLICIES[document.policy]
+    number = task.head.number(policy.number) if task.is_whole else None
     if number is None:
         return None
-    return (-number if word == "prio" else number, task.head.line)
+    return (policy.urgency(number), task.head.line)
 
 
 def ranks_of(document):
@@ -55,7 +56,7 @@ def upward_read(document, task, read):
     own, other = key_of(document, task), key_of(document, writer)
     if own is None or other is None or own > other:
         return None
-    word = CODES[document.policy][1]
+    word = POLICIES[document.policy].number
     numbers = f"{word} {task.head.number(word)}", f"{word} {writer.head.number(word)}"
     why = "which is declared later" if numbers[0] == numbers[1] else f"which has `{numbers[1]}`"
     text = f"the task `{task.name}` with `{numbers[0]}` is ranked above `{writer.name}`, {why}, and reads it without a "
@@ -66,7 +67,7 @@ def upward_read(document, task, read):
 
 def rank_note(document, task):
     """Returns the rank of a task as a note."""
-    word = CODES[document.policy][1]
+    word = POLICIES[document.policy].number
     text = f"`{task.name}` with `{word} {task.head.number(word)}`"
     if any(key_of(document, it) is None for it in document.tasks):
         return text

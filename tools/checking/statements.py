@@ -8,6 +8,7 @@ from checking.expressions import whole
 from checking.language import GREATEST_DELAY, VERSIONS, part_form, parts_after, task_form
 from checking.text import listed
 from checking.tokens import Kind, Token
+from policies import POLICIES
 
 NO_EXPRESSION = "`when` has the name of an input and no expression: the task occurs if the input isn't 0"
 
@@ -59,7 +60,7 @@ def header(cursor, statement):
 
 def policy(cursor, statement):
     """Takes the word of a policy."""
-    statement.value = cursor.word("fp", "edf")
+    statement.value = cursor.word(*POLICIES)
     cursor.end()
 
 

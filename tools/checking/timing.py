@@ -15,6 +15,7 @@ from ending import Status
 from pictures.asking import cut_text
 from pictures.record import Disagreement, must_record
 from pictures.service import Command, serve
+from policies import POLICIES
 from responses.bounds import BEYOND, Demand, least_response, told_bounds
 from responses.lateness import first_late, least_distance
 
@@ -70,7 +71,7 @@ def is_in_time_by_sums(document):
     tasks, events = ranks_of(document), times_of_events(document)
     demands = [Demand(task.head.number("cost"), least_period(task, events)) for task in tasks]
     lengths = [min(it.distance, task.head.number("deadline", it.distance)) for task, it in zip(tasks, demands)]
-    if document.policy == "fp":
+    if not POLICIES[document.policy].serves_by_deadline:
         cases = enumerate(zip(demands, lengths))
         return all(least_response(it.cost, demands[:at], length) is not None for at, (it, length) in cases)
     is_short = all(task.head.number("deadline") == length for task, length in zip(tasks, lengths))

@@ -5,11 +5,12 @@ from itertools import accumulate
 
 from checking.formulas import formula_warnings
 from checking.messages import Note, Severity, warning, warning_over
-from checking.ranks import CODES, key_of
+from checking.ranks import key_of
 from checking.tabled import table_warnings
 from checking.timing import late_warnings, response_warnings, responses_by_program, simulating
 from checking.trace import row_of
 from pictures.service import Command
+from policies import POLICIES
 from program import read_as_answer
 from responses.numbers import decimal
 
@@ -118,7 +119,7 @@ def needed_names(task):
 
 def equal_ranks(document):
     """Yields a warning of each task that only the order of declaration ranks below another."""
-    word = CODES[document.policy][1]
+    word = POLICIES[document.policy].number
     first = {}
     for task in document.tasks:
         number = task.head.number(word)

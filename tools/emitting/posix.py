@@ -3,7 +3,6 @@
 from argparse import ArgumentTypeError
 from re import fullmatch
 
-from canonical import Policy
 from emitting.plan import is_periodic
 from emitting.source import C_END, C_START, MARK, c_array, pointer
 from emitting.trace import strings
@@ -50,7 +49,7 @@ def tick_length(text):
 
 def fault_of_deadlines(document, tick):
     """Returns why the tasks of a document can't be served by SCHED_DEADLINE, or nothing."""
-    if document.policy is not Policy.EARLIEST_DEADLINE:
+    if not document.policy.serves_by_deadline:
         return "the document's policy isn't `edf`"
     if tick < SHORTEST_PERIOD:
         return "a tick is shorter than 100us, the shortest period that Linux allows"

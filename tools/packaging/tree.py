@@ -24,7 +24,7 @@ from verifying.record import FILE, INSTALLED, LINK, Record, checksum, checksums_
 HOME, DOC = "lib/dbp", "share/doc/dbp"
 MODULES = ("checking", "emitting", "pictures", "reports", "responses", "serving", "studios", "testing", "tracing",
            "verifying", "waveforms")
-SCRIPTS = ("canonical.py", "command_line.py", "ending.py", "layout.py", "program.py")
+SCRIPTS = ("canonical.py", "command_line.py", "ending.py", "layout.py", "policies.py", "program.py")
 FOLDERS = ("editors", "examples")
 PAGES = ("README.md", "CHANGELOG.md", "CONTRIBUTING.md")
 LEFT_OUT = {"__pycache__", "out"}

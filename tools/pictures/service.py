@@ -8,8 +8,6 @@ from dataclasses import dataclass
 from enum import Enum
 from typing import NamedTuple, Optional, Tuple
 
-from canonical import Policy
-
 
 class Command(Enum):
     """The commands that simulate a document: with one processor for all tasks, or with their own ones."""
@@ -115,18 +113,16 @@ class Service:
 
 def rank_order(document):
     """Returns the places of the tasks in the order of their ranks, the highest first."""
-    is_fixed = document.policy is Policy.FIXED_PRIORITIES
-    tasks = document.tasks
-    return sorted(range(len(tasks)), key=lambda at: -tasks[at].prio if is_fixed else tasks[at].deadline)
+    urgencies = [document.policy.urgency(document.ranking_number(task)) for task in document.tasks]
+    return sorted(range(len(urgencies)), key=urgencies.__getitem__)
 
 
 def batches(document):
     """Returns the time and the instances of each batch, in the order of time and of declaration."""
     found = {}
-    is_fixed = document.policy is Policy.FIXED_PRIORITIES
     for at, task in enumerate(document.tasks):
         for number, time in enumerate(document.times(task), 1):
-            deadline = None if is_fixed else time + task.deadline
+            deadline = time + task.deadline if document.policy.serves_by_deadline else None
             found.setdefault(time, []).append(Instance(at, number, time, deadline))
     return sorted(found.items())
 

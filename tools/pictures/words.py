@@ -1,13 +1,11 @@
 """What pictures say of a document and of its tasks."""
 
-from canonical import Every, Policy
-
-NAMES = {Policy.FIXED_PRIORITIES: "fixed priorities", Policy.EARLIEST_DEADLINE: "earliest deadline first"}
+from canonical import Every
 
 
 def about_policy(document):
     """Returns the policy of a document."""
-    return f"policy {document.policy.value}, {NAMES[document.policy]}"
+    return f"policy {document.policy.word}, {document.policy.name}"
 
 
 def about_clock(task):
@@ -20,8 +18,7 @@ def about_clock(task):
 def about_task(document, task):
     """Returns the lines below the name of a task: its clock, its condition if it has one, and its numbers: that of its
     rank, its cost and, in version 2, its processor."""
-    is_fixed = document.policy is Policy.FIXED_PRIORITIES
-    rank = f"prio {task.prio}" if is_fixed else f"deadline {task.deadline}"
+    rank = f"{document.policy.number} {document.ranking_number(task)}"
     condition = [] if task.when is None else [f"when {task.when}"]
     processor = f", cpu {task.cpu}" if document.version > 1 else ""
     return [about_clock(task), *condition, f"{rank}, cost {task.cost}{processor}"]

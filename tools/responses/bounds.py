@@ -8,7 +8,7 @@ from fractions import Fraction
 from itertools import accumulate, takewhile
 from typing import NamedTuple, Optional, Tuple, Union
 
-from canonical import Every, Policy
+from canonical import Every
 from ending import Status
 from pictures.asking import Refused
 from pictures.service import rank_order
@@ -172,13 +172,13 @@ def bounds_of(program, text, document, assumed):
     no_command = "the program has no command `rta`"
     reason = ran.stdout.decode(errors="replace").strip() if ran.status == Status.REFUSED else no_command
     none = (None,) * len(document.tasks)
-    if not assumed or document.policy is not Policy.FIXED_PRIORITIES:
+    if not assumed or document.policy.serves_by_deadline:
         return Bounds(none, None, reason)
     return Bounds(own_bounds(document, demands_of(document, assumed)), BY_TOOL, reason)
 
 
 def several_bounds(document, assumed):
     """Returns this tool's bounds of tasks on several processors, if it has one."""
-    is_fixed = document.policy is Policy.FIXED_PRIORITIES
-    found = own_bounds(document, demands_of(document, assumed)) if is_fixed else (None,) * len(document.tasks)
+    none = (None,) * len(document.tasks)
+    found = none if document.policy.serves_by_deadline else own_bounds(document, demands_of(document, assumed))
     return Bounds(found, BY_TOOL if any(found) else None, ONE_PROCESSOR)

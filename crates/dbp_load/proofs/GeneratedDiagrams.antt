@@ -1,5 +1,5 @@
 -- The diagram of a generated document, and its ranks.
-use Rattle.std.proofs.Common.{◌≡◌, ℕ, suc, ◌+◌, ◌-◌, ◌<◌, ◌≤◌, Bool, true, false, All, List, [], ◌∷◌, length, map, slice_get, Some, None, refl, sym, ap, ◌∙◌, subst, arith}
+use Rattle.std.proofs.Common.{◌≡◌, ℕ, suc, ◌+◌, ◌-◌, ◌^◌, ◌<◌, ◌≤◌, Bool, true, false, All, List, [], ◌∷◌, length, map, slice_get, Some, None, refl, sym, ap, ◌∙◌, subst, arith}
 use Rattle.std.specs.Prelude.{codes, nat_lt, slice_index}
 use Rattle.std.specs.List.{flat_map}
 use Rattle.std.specs.Str.{bytes_eq}
@@ -166,7 +166,7 @@ module _ (body : Body) (draws : ℕ → ℕ) (size : ℕ) (few_tasks : size ≤ 
       let tasks : List Task = first_items (λ k. task_of body k (at k) []) size in
       let upper : slice_get tasks x ≡ Some (task_of body x (at x) []) = listed-at (λ k. task_of body k (at k) []) size x (omega arith) in
       let lower : slice_get tasks i ≡ Some (task_of body i (at i) []) = listed-at (λ k. task_of body k (at k) []) size i inside in
-      let urgent : nat_lt (size - i) (size - x) ≡ true = lt-ltb (size - i) (size - x) (omega arith) in
+      let urgent : nat_lt ((2 ^ 32 - 1) - (size - x)) ((2 ^ 32 - 1) - (size - i)) ≡ true = lt-ltb _ _ (omega (arith, few_tasks)) in
       let is : is_above Fp (x, task_of body x (at x) []) (i, task_of body i (at i) []) ≡ true = rw urgent refl in
       let fewer = above-fewer Fp tasks x i (task_of body x (at x) []) (task_of body i (at i) []) upper is in
       omega (arith, fewer, rank-index Fp tasks x (task_of body x (at x) []) upper, rank-index Fp tasks i (task_of body i (at i) []) lower)

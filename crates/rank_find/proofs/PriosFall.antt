@@ -1,11 +1,12 @@
 -- Ranks of tasks whose priorities fall along an order.
-use Rattle.std.proofs.Common.{◌≡◌, ℕ, zero, suc, ◌+◌, ◌-◌, ◌<◌, ◌≤◌, true, List, length, get_or, slice_get, Some, refl, sym, ◌∙◌, ap, arith}
+use Rattle.std.proofs.Common.{◌≡◌, ℕ, zero, suc, ◌+◌, ◌-◌, ◌^◌, ◌<◌, ◌≤◌, true, List, length, get_or, slice_get, Some, refl, sym, ◌∙◌, ap, arith}
 use Rattle.std.specs.Prelude.{unwrap_or}
 use Rattle.std.proofs.lemmas.Bool.{lt-ltb}
 use Rattle.std.proofs.lemmas.Option.{get_or_from_slice_get, same_Some, slice_get-get_or, slice_get_within}
 use Rattle.dbp_plan.specs.declared.diagram.Policy.TheVariants.{Fp}
 use Rattle.dbp_plan.specs.declared.diagram.Task.{Task}
 use Rattle.dbp_plan.specs.ListItems.{all_place, at_place}
+use Rattle.dbp_plan.specs.Policies.{urgency}
 use Rattle.dbp_plan.specs.Ranking.{IsByRank}
 use Rattle.dbp_plan.specs.Ranks.{is_above, rank_among, ranks_of}
 use Rattle.dbp_plan.proofs.Listed.{listed_all, place_of}
@@ -25,7 +26,10 @@ module _ (f : ℕ → ℕ) (count : ℕ) (rises : (k m : ℕ) → k < m → m < 
   itself : (k : ℕ) → k < count → f k ≡ k
   itself k inside = omega (arith, at_least k inside, at_most (count - (k + 1)) k (omega arith))
 
-module _ (tasks : List Task) (order : List ℕ) (once : HoldsEachOnce (length tasks) order) (falls : (k i : ℕ) (t : Task) → slice_get order k ≡ Some i → slice_get tasks i ≡ Some t → t.prio ≡ Some (length order - (k + 1))) where
+module _ (tasks : List Task) (order : List ℕ) (few : length tasks < 2 ^ 32) (once : HoldsEachOnce (length tasks) order) (falls : (k i : ℕ) (t : Task) → slice_get order k ≡ Some i → slice_get tasks i ≡ Some t → t.prio ≡ Some (length order - (k + 1))) where
+  by_prio : (t : Task) (prio : ℕ) → t.prio ≡ Some prio → unwrap_or (urgency Fp t) 0 ≡ (2 ^ 32 - 1) - prio
+  by_prio t prio is = rw is refl
+
   abbrev ranked : ℕ → ℕ
   ranked k = get_or (ranks_of Fp tasks) (get_or order k 0) 0
 
@@ -41,11 +45,9 @@ module _ (tasks : List Task) (order : List ℕ) (once : HoldsEachOnce (length ta
   ranks_rise k m less inside =
       let upper = placed k (omega arith) in
       let lower = placed m inside in
-      let one = falls k (get_or order k 0) upper.0 upper.1 upper.2 in
-      let other = falls m (get_or order m 0) lower.0 lower.1 lower.2 in
-      let high : unwrap_or upper.0.prio 0 ≡ length order - (k + 1) = ap (λ o. unwrap_or o 0) one in
-      let low : unwrap_or lower.0.prio 0 ≡ length order - (m + 1) = ap (λ o. unwrap_or o 0) other in
-      let urgent : unwrap_or lower.0.prio 0 < unwrap_or upper.0.prio 0 = omega (arith, high, low, once.size) in
+      let high = by_prio upper.0 (length order - (k + 1)) (falls k (get_or order k 0) upper.0 upper.1 upper.2) in
+      let low = by_prio lower.0 (length order - (m + 1)) (falls m (get_or order m 0) lower.0 lower.1 lower.2) in
+      let urgent : unwrap_or (urgency Fp upper.0) 0 < unwrap_or (urgency Fp lower.0) 0 = omega (arith, high, low, once.size, few) in
       let above : is_above Fp (get_or order k 0, upper.0) (get_or order m 0, lower.0) ≡ true = rw (lt-ltb _ _ urgent) refl in
       omega (arith, upper.3, lower.3, above-fewer Fp tasks (get_or order k 0) (get_or order m 0) upper.0 lower.0 upper.2 above)
 

@@ -1,5 +1,5 @@
 -- Bodies with priorities by an order of their tasks.
-use Rattle.std.proofs.Common.{◌≡◌, ℕ, ◌+◌, ◌-◌, ◌<◌, ◌≤◌, All, List, [], ◌∷◌, length, map, get_or, set, slice_get, option_map, Some, refl, sym, ◌∙◌, ap, subst, arith, inl, inr, eqb}
+use Rattle.std.proofs.Common.{◌≡◌, ℕ, ◌+◌, ◌-◌, ◌^◌, ◌<◌, ◌≤◌, All, List, [], ◌∷◌, length, map, get_or, set, slice_get, option_map, Some, refl, sym, ◌∙◌, ap, subst, arith, inl, inr, eqb}
 use Rattle.std.specs.Prelude.{count_by, sum_by}
 use Rattle.std.specs.List.{enumerate_from}
 use Rattle.std.proofs.lemmas.Bool.{cases_Bool, cases_eq, eq-eqb, eqb-true}
@@ -135,12 +135,12 @@ still_printable body order once is =
 
 -- ---- its tasks are ranked by the order
 
-pub ranked_by_order : (body : Body) (order : List ℕ) (d : Diagram) → HoldsEachOnce (length body.tasks) order → IsDiagramOf (ranked_body body order) d → IsByRank (ranks_of d.policy d.tasks) order
-ranked_by_order body order d once is =
+pub ranked_by_order : (body : Body) (order : List ℕ) (d : Diagram) → length body.tasks < 2 ^ 32 → HoldsEachOnce (length body.tasks) order → IsDiagramOf (ranked_body body order) d → IsByRank (ranks_of d.policy d.tasks) order
+ranked_by_order body order d few once is =
     let count : length d.tasks ≡ length body.tasks = is.count ∙ ranked_count order body.tasks in
     let each : HoldsEachOnce (length d.tasks) order = subst (λ (n : ℕ). HoldsEachOnce n order) (sym count) once in
     let falls : (k i : ℕ) (t : Task) → slice_get order k ≡ Some i → slice_get d.tasks i ≡ Some t → t.prio ≡ Some (length order - (k + 1)) = λ k i t at there.
     let raw = at_place body.tasks i (omega (arith, slice_get_within d.tasks i t there, count)) in
     let prio : t.prio ≡ Some (length order - (place_in order i + 1)) = ap (λ (u : Task). u.prio) ((is.tasks i (ranked_task order (i, raw.0)) t (ranked_at order body.tasks i raw.0 raw.1) there).is) in
     prio ∙ ap (λ (p : ℕ). Some (length order - (p + 1))) (place_is (length body.tasks) order k i once at) in
-    subst (λ (p : Policy). IsByRank (ranks_of p d.tasks) order) (sym is.policy) (by_rank d.tasks order each falls)
+    subst (λ (p : Policy). IsByRank (ranks_of p d.tasks) order) (sym is.policy) (by_rank d.tasks order (omega (arith, few, count)) each falls)

@@ -172,8 +172,8 @@ module _ (doc : Doc) (order : List ℕ) (s t : Shaped) (one : IsShapeOf doc s) (
   once : HoldsEachOnce (length doc.body.tasks) order
   once = subst (λ (n : ℕ). HoldsEachOnce n order) one.diagram.count (order_once s.diagram order ordered)
 
-  pub by-rank : IsByRank ranks order
-  by-rank = ranked_by_order doc.body order t.diagram once other.diagram
+  pub by-rank : IsClosed s.diagram → IsByRank ranks order
+  by-rank is_closed = ranked_by_order doc.body order t.diagram (omega (arith, is_closed.tasks, one.diagram.count)) once other.diagram
 
   link-fine : IsClosed s.diagram → (k : ℕ) (l : Link) → slice_get t.diagram.links k ≡ Some l → link_rank_fault ranks l ≡ None
   link-fine is_closed k l at = elim (cases_Bool (l.delay == 0 && nat_lt (slice_index ranks l.reader) (slice_index ranks l.writer))) [
@@ -183,7 +183,7 @@ module _ (doc : Doc) (order : List ℕ) (s t : Shaped) (one : IsShapeOf doc s) (
         let there : slice_get s.diagram.links k ≡ Some l = ap (λ (d : Diagram). slice_get d.links k) bare ∙ at in
         let among : Contains s.diagram.links l = (k, slice_get_within s.diagram.links k l there, get_or_from_slice_get s.diagram.links k l l there) in
         let writes : WritesTo s.diagram l.writer l.reader = subst (λ (m : Link). Contains s.diagram.links m) (link-is l direct) among in
-        let before = writer-before s.diagram order ranks l.writer l.reader ordered by-rank (reader_below s.diagram l.writer l.reader is_closed writes) writes in
+        let before = writer-before s.diagram order ranks l.writer l.reader ordered (by-rank is_closed) (reader_below s.diagram l.writer l.reader is_closed writes) writes in
         let above = both.1 in
         absurd (grind (arith, nat_tests))
     | inr isnt ↦ rw isnt refl

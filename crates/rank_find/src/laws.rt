@@ -1,6 +1,6 @@
 // Laws of orders and of cycles.
 
-ghost use Rattle.std.specs.Prelude.{◌≡◌, ℕ, List as Items, length};
+ghost use Rattle.std.specs.Prelude.{◌≡◌, ◌<◌, ◌^◌, ℕ, List as Items, length};
 ghost use Rattle.dbp_plan.specs.Closed.{IsClosed};
 ghost use Rattle.dbp_plan.specs.Cycles.{IsCycle};
 ghost use Rattle.dbp_plan.specs.declared.diagram.Diagram.{Diagram};
@@ -32,10 +32,11 @@ pub fn no_order_of_a_cycle()
     ensures { (d : Diagram) (order cycle : Items ℕ) → IsClosed d → IsOrder d order → IsCycle (WritesTo d) cycle → ⊥ }
 {}
 
-/// The tasks of a body with priorities by an order are ranked in this order.
+/// The tasks of a body with priorities by an order are ranked in this order. There are fewer than 2^32, so that each has
+/// a priority of its own.
 pub fn ranked_bodies_are_ranked_by_their_order()
-    ensures { (body : Body) (order : Items ℕ) (d : Diagram) → HoldsEachOnce (length body.tasks) order
-        → IsDiagramOf (ranked_body body order) d → IsByRank (ranks_of d.policy d.tasks) order }
+    ensures { (body : Body) (order : Items ℕ) (d : Diagram) → length body.tasks < 2 ^ 32
+        → HoldsEachOnce (length body.tasks) order → IsDiagramOf (ranked_body body order) d → IsByRank (ranks_of d.policy d.tasks) order }
 {}
 
 /// A closed diagram whose direct links form no cycle has an order.
