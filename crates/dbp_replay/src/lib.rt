@@ -25,5 +25,5 @@ pub use fail::{ReplayFail, ScriptCode, ScriptFail};
 pub use laws::{allowed_steps_are_printable, one_replay, one_script, printed_script_again};
 pub use naming::task_named;
 pub use printed::print_script;
-pub use replaying::{replay, replay_owned};
+pub use replaying::{replay, replay_in, replay_owned};
 pub use script::read_script;

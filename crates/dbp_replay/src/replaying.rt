@@ -50,8 +50,8 @@ pub fn replay_owned(
     replay_in(alloc, core, steps, room)
 }
 
-/// The text of steps that a core takes from its start on, if there is room for what they hear.
-fn replay_in(
+/// As `replay_owned`, from a core at its start, with room for what the steps hear.
+pub fn replay_in(
     alloc: Global,
     core: Core,
     steps: &[Step],

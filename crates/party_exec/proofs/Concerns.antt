@@ -1,6 +1,7 @@
 -- The parties of a run, and those whom their steps concern, are among those for which there are bells.
-use Rattle.std.proofs.Common.{◌≡◌, ℕ, ◌<◌, ◌≤◌, List, length, get_or, sym, ◌∙◌, subst, arith}
+use Rattle.std.proofs.Common.{◌≡◌, ℕ, ◌<◌, ◌≤◌, List, length, get_or, slice_get, Some, sym, ◌∙◌, subst, arith}
 use Rattle.dbp_plan.specs.declared.limits.TheConstants.{MAX_TASKS}
+use Rattle.release_list.specs.declared.release.Release.TheVariants.{OpenGate}
 use Rattle.dbp_rules.specs.Lookups.{wired_task}
 use Rattle.dbp_rules.specs.Shapes.{IsWired}
 use Rattle.dbp_rules.specs.declared.step.Count.TheVariants.{All}
@@ -18,6 +19,10 @@ module _ (w : SlotWords) where
 
   pub task_wired : (i : ℕ) → i < length w.plan.diagram.tasks → i < length w.wiring.tasks
   task_wired i inside = omega (arith, inside, whole.tasks)
+
+  -- an action of the list opens the gate of one of the parties
+  pub opened_few : (k i : ℕ) → slice_get w.wiring.releases k ≡ Some (OpenGate i) → i ≤ MAX_TASKS
+  opened_few k i here = omega (arith, (whole.releases.at_open k i here).named, few_tasks w)
 
   -- a link that leaves the task is one of the wiring's
   pub leaving_there : (i n : ℕ) (ks : List ℕ) → i < length w.plan.diagram.tasks → ks ≡ (wired_task w.wiring i).leaving → n < length ks → get_or ks n 0 < length w.wiring.links

@@ -10,6 +10,7 @@ use crate::party::Party;
 use crate::round::Round;
 use dbp_rules::Place;
 use release_book::ReleaseStep;
+use release_list::Release;
 use word_rule::SlotWords;
 
 // The number of the releaser's party.
@@ -56,15 +57,22 @@ pub(crate) fn concerned(words: &SlotWords, party: &Party) -> Concern
     ensures { IsConcernIn words.now result }
 {
     match party {
-        Party::Releaser(party) => match party.book.next(words.plan()) {
-            ReleaseStep::OpenGate { task } => Concern::Party(task),
-            _ => Concern::Nobody,
-        },
+        Party::Releaser(party) => opened_next(words, party.seat.part().place),
         Party::Task(party) => match party.seat.part().place {
             Place::Done => Concern::Readers(party.seat.task()),
             Place::End => Concern::Party(releaser_number(words)),
             _ => Concern::Nobody,
         },
+    }
+}
+
+// The party whose gate is opened by the action at the place.
+fn opened_next(words: &SlotWords, place: u32) -> Concern
+    ensures { IsConcernIn words.now result }
+{
+    match words.wiring().releases.get(place) {
+        Some(Release::OpenGate { task }) => Concern::Party(u32::from(*task)),
+        _ => Concern::Nobody,
     }
 }
 
