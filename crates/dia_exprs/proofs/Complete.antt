@@ -1,8 +1,12 @@
 -- What is spelled is read.
 use Rattle.std.proofs.Common.{◌≡◌, ℕ, zero, suc, ◌≤◌, Bool, true, false, List, [], ◌∷◌, ◌++◌, length, Option, Some, None, refl, sym, ap, subst, ◌∙◌, append_assoc, arith, lit≤}
+use Rattle.std.specs.Prelude.{not, ◌||◌}
 use Rattle.std.proofs.lemmas.List.{length-append}
 use Rattle.dbp_plan.specs.declared.node.BinOp.{BinOp}
+use Rattle.dbp_plan.specs.declared.node.Notation.{Notation}
+use Rattle.dbp_plan.specs.declared.node.Notation.TheVariants as notation
 use Rattle.dbp_plan.specs.declared.node.UnOp.{UnOp}
+use Rattle.dbp_plan.specs.Operators.{notation_of}
 use Rattle.dbp_plan.specs.Tree.{unary, binary, choice}
 use Rattle.dia_tokens.specs.declared.token.Token.{Token}
 use Rattle.dia_tokens.specs.declared.token.Token.TheVariants as token
@@ -10,27 +14,28 @@ use Rattle.dia_tokens.specs.declared.token.Word.TheVariants as word
 use Rattle.dia_tokens.specs.declared.token.Symbol.TheVariants as symbol
 use Rattle.dia_exprs.specs.declared.level.Level.{Level}
 use Rattle.dia_exprs.specs.declared.level.Level.TheVariants.{Whole, Disjunction, Conjunction, Comparison, Sum, Product, Prefixed, Factor}
-use Rattle.dia_exprs.specs.Grammar.{Expression, tighter, operator, comparison, prefix, called, Spells, a_number, a_name, in_parentheses, a_call, as_tighter, prefixed, joined, compared, a_choice}
+use Rattle.dia_exprs.specs.Grammar.{Expression, tighter, operator_token, operator_of, is_joined, is_comparison, is_call, if_written, operator, comparison, prefix, called, Spells, a_number, a_name, in_parentheses, a_call, as_tighter, prefixed, joined, compared, a_choice}
+use Rattle.dia_exprs.proofs.OperatorLaws.{each, token-is, written-is}
 use Rattle.dia_exprs.specs.Reading.{◌>>=◌, Place, Reader, more, level_at, compare_rest, compared_at, prefixed_at, inside_at, call_at, factor_of, disjunction_in, choice_at, whole_at, reader}
 
 -- ---- what follows, and what begins
 
--- how tight an operator between two operands binds; 0 for any other token
+-- how tight an operator of the notation binds between two operands; 0 for a call
+abbrev pub tightness : Notation → ℕ
+tightness notation.Call = 0
+tightness notation.Disjunction = 1
+tightness notation.Conjunction = 2
+tightness notation.Comparison = 3
+tightness notation.Sum = 4
+tightness notation.Product = 5
+
+-- how tight the operator binds, if there is one
+abbrev pub strength_of : Option BinOp → ℕ
+strength_of None = 0
+strength_of (Some o) = tightness (notation_of o)
+
 abbrev pub strength : Token → ℕ
-strength (token.Word word.Or) = 1
-strength (token.Word word.And) = 2
-strength (token.Symbol symbol.Equal) = 3
-strength (token.Symbol symbol.Unequal) = 3
-strength (token.Symbol symbol.Less) = 3
-strength (token.Symbol symbol.AtMost) = 3
-strength (token.Symbol symbol.Greater) = 3
-strength (token.Symbol symbol.AtLeast) = 3
-strength (token.Symbol symbol.Plus) = 4
-strength (token.Symbol symbol.Minus) = 4
-strength (token.Symbol symbol.Star) = 5
-strength (token.Symbol symbol.Slash) = 5
-strength (token.Symbol symbol.Percent) = 5
-strength _ = 0
+strength t = strength_of (operator_of t)
 
 -- the tightest operator that may come after an expression of the level
 abbrev pub limit : Level → ℕ
@@ -83,9 +88,10 @@ starts-prefix (token.Word word.Not) o e = refl
 starts-prefix _ o e = absurd cc
 
 starts-call : (t : Token) (o : BinOp) → called t ≡ Some o → starts Factor t ≡ true
-starts-call (token.Word word.Min) o e = refl
-starts-call (token.Word word.Max) o e = refl
-starts-call _ o e = absurd cc
+starts-call t o e =
+    let w = written-is is_call (operator_of t) o e in
+    let all = each (λ u. not (is_call (notation_of u)) || starts Factor (operator_token u)) refl o in
+    subst (λ (u : Token). starts Factor u ≡ true) (token-is t o w.0) (rw w.1 at all)
 
 pub first : (l : Level) (ts : List Token) (x : Expression) → Spells l ts x → (t : Token) × (us : List Token) × (ts ≡ t ∷ us) × (starts l t ≡ true)
 first l ts x (a_number value) = (token.Number value, [], refl, refl)
@@ -123,15 +129,16 @@ pub more-some : (l : Level) (r : Reader) (n : ℕ) (x : Expression) (t : Token) 
 unfolding more
 more-some l r n x t o ts e = rw (e, more) refl
 
-no_operator : (l : Level) (t : Token) → strength t ≤ limit l → operator (tighter l) t ≡ None
-no_operator Whole (token.Word word.Or) h = absurd (omega arith)
-no_operator Disjunction (token.Word word.And) h = absurd (omega arith)
-no_operator Comparison (token.Symbol symbol.Plus) h = absurd (omega arith)
-no_operator Comparison (token.Symbol symbol.Minus) h = absurd (omega arith)
-no_operator Sum (token.Symbol symbol.Star) h = absurd (omega arith)
-no_operator Sum (token.Symbol symbol.Slash) h = absurd (omega arith)
-no_operator Sum (token.Symbol symbol.Percent) h = absurd (omega arith)
-no_operator _ _ h = refl
+too-tight : (l : Level) (n : Notation) → tightness n ≤ limit l → is_joined (tighter l) n ≡ false
+too-tight Whole notation.Disjunction h = absurd (omega arith)
+too-tight Disjunction notation.Conjunction h = absurd (omega arith)
+too-tight Comparison notation.Sum h = absurd (omega arith)
+too-tight Sum notation.Product h = absurd (omega arith)
+too-tight _ _ h = refl
+
+no_operator : (l : Level) (r : Option BinOp) → strength_of r ≤ limit l → if_written (is_joined (tighter l)) r ≡ None
+no_operator l None h = refl
+no_operator l (Some o) h = rw (too-tight l (notation_of o) h) refl
 
 -- a level is done if no operator of it comes
 abbrev pub Ends : Level → List Token → Type 0
@@ -151,19 +158,18 @@ ended n _ x rest r f c = c
 
 Ends-tighter : (l : Level) (rest : List Token) → Follows l rest → Ends (tighter l) rest
 Ends-tighter l [] f = tt
-Ends-tighter l (t ∷ ts) f = no_operator l t f
+Ends-tighter l (t ∷ ts) f = no_operator l (operator_of t) f
 
 pub done : (n : ℕ) (l : Level) (x : Expression) (rest : List Token) (r : Option Place) → Follows l rest → Continues n (tighter l) x rest r → r ≡ Some (x, rest)
 done n l x rest r f c = ended n (tighter l) x rest r (Ends-tighter l rest f) c
 
-no_comparison : (t : Token) → strength t ≤ 2 → comparison t ≡ None
-no_comparison (token.Symbol symbol.Equal) h = absurd (omega arith)
-no_comparison (token.Symbol symbol.Unequal) h = absurd (omega arith)
-no_comparison (token.Symbol symbol.Less) h = absurd (omega arith)
-no_comparison (token.Symbol symbol.AtMost) h = absurd (omega arith)
-no_comparison (token.Symbol symbol.Greater) h = absurd (omega arith)
-no_comparison (token.Symbol symbol.AtLeast) h = absurd (omega arith)
-no_comparison _ h = refl
+loose : (n : Notation) → tightness n ≤ 2 → is_comparison n ≡ false
+loose notation.Comparison h = absurd (omega arith)
+loose _ h = refl
+
+no_comparison : (r : Option BinOp) → strength_of r ≤ 2 → if_written is_comparison r ≡ None
+no_comparison None h = refl
+no_comparison (Some o) h = rw (loose (notation_of o) h) refl
 
 pub compare-none : (operand : Reader) (x : Expression) (t : Token) (ts : List Token) → comparison t ≡ None → compare_rest operand x (t ∷ ts) ≡ Some (x, t ∷ ts)
 unfolding compare_rest
@@ -172,7 +178,7 @@ compare-none operand x t ts e = rw (e, compare_rest) refl
 not_compared : (operand : Reader) (x : Expression) (rest : List Token) → Follows Comparison rest → compare_rest operand x rest ≡ Some (x, rest)
 unfolding compare_rest
 not_compared operand x [] f = refl
-not_compared operand x (t ∷ ts) f = compare-none operand x t ts (no_comparison t f)
+not_compared operand x (t ∷ ts) f = compare-none operand x t ts (no_comparison (operator_of t) f)
 
 no_prefix : (t : Token) → starts Factor t ≡ true → prefix t ≡ None
 no_prefix (token.Symbol symbol.Minus) e = absurd cc
@@ -215,34 +221,36 @@ next n Sum x t o ts y rest r e h le (zero, g, c) = absurd (omega arith)
 next n Sum x t o ts y rest r e h le (suc k, g, c) = (k, omega arith, c ∙ more-read Sum (reader n Product) k x t o ts y rest e h)
 next n Product x t o ts y rest r e h le (zero, g, c) = absurd (omega arith)
 next n Product x t o ts y rest r e h le (suc k, g, c) = (k, omega arith, c ∙ more-read Product (reader n Prefixed) k x t o ts y rest e h)
-next n _ x t o ts y rest r e h le c = absurd cc
+next n l x t o ts y rest r e h le c = let w = written-is (is_joined l) (operator_of t) o e in absurd cc
+
+joined-limit : (l : Level) (n : Notation) → is_joined l n ≡ true → tightness n ≤ limit l
+joined-limit Disjunction notation.Disjunction e = lit≤ tt
+joined-limit Conjunction notation.Conjunction e = lit≤ tt
+joined-limit Sum notation.Sum e = lit≤ tt
+joined-limit Product notation.Product e = lit≤ tt
+joined-limit _ _ e = absurd cc
 
 operator-follows : (l : Level) (t : Token) (o : BinOp) → operator l t ≡ Some o → strength t ≤ limit l
-operator-follows Disjunction (token.Word word.Or) o e = lit≤ tt
-operator-follows Conjunction (token.Word word.And) o e = lit≤ tt
-operator-follows Sum (token.Symbol symbol.Plus) o e = lit≤ tt
-operator-follows Sum (token.Symbol symbol.Minus) o e = lit≤ tt
-operator-follows Product (token.Symbol symbol.Star) o e = lit≤ tt
-operator-follows Product (token.Symbol symbol.Slash) o e = lit≤ tt
-operator-follows Product (token.Symbol symbol.Percent) o e = lit≤ tt
-operator-follows _ _ o e = absurd cc
+operator-follows l t o e = let w = written-is (is_joined l) (operator_of t) o e in rw w.0 (joined-limit l (notation_of o) w.1)
+
+comparison-limit : (n : Notation) → is_comparison n ≡ true → (tightness n ≤ 4) × (is_joined Sum n ≡ false)
+comparison-limit notation.Comparison e = (lit≤ tt, refl)
+comparison-limit _ e = absurd cc
 
 comparison-follows : (t : Token) (o : BinOp) → comparison t ≡ Some o → (strength t ≤ 4) × (operator Sum t ≡ None)
-comparison-follows (token.Symbol symbol.Equal) o e = (lit≤ tt, refl)
-comparison-follows (token.Symbol symbol.Unequal) o e = (lit≤ tt, refl)
-comparison-follows (token.Symbol symbol.Less) o e = (lit≤ tt, refl)
-comparison-follows (token.Symbol symbol.AtMost) o e = (lit≤ tt, refl)
-comparison-follows (token.Symbol symbol.Greater) o e = (lit≤ tt, refl)
-comparison-follows (token.Symbol symbol.AtLeast) o e = (lit≤ tt, refl)
-comparison-follows _ o e = absurd cc
+comparison-follows t o e =
+    let w = written-is is_comparison (operator_of t) o e in
+    let c = comparison-limit (notation_of o) w.1 in
+    (rw w.0 c.0, rw (w.0, c.1) refl)
 
 closed : (n : ℕ) (ts rest : List Token) (x : Expression) → whole_at n ts ≡ Some (x, token.Symbol symbol.Close ∷ rest) → factor_of (whole_at n) (token.Symbol symbol.Open ∷ ts) ≡ Some (x, rest)
 unfolding factor_of inside_at
 closed n ts rest x e = rw (e, inside_at) refl
 
 pub calling : (whole : Reader) (t : Token) (o : BinOp) (ts : List Token) → called t ≡ Some o → factor_of whole (t ∷ ts) ≡ call_at o whole ts
-unfolding factor_of
+unfolding factor_of operator_of
 calling whole (token.Word w) o ts e = rw (e, factor_of) refl
+calling whole (token.Symbol symbol.Open) o ts e = absurd cc
 calling whole _ o ts e = absurd cc
 
 call-read : (whole : Reader) (o : BinOp) (ts us rest : List Token) (x y : Expression) → whole ts ≡ Some (x, token.Symbol symbol.Comma ∷ us) → whole us ≡ Some (y, token.Symbol symbol.Close ∷ rest)
@@ -272,7 +280,7 @@ as_level n l ts x rest s f e =
     subst (λ (us : List Token). Continues n l x rest (reader n l us)) (sym same) (begins n l b.0 (b.1 ++ rest) x rest b.3 f (ap (reader n (tighter l)) (sym same) ∙ e))
 
 pub complete : (l : Level) (ts : List Token) (x : Expression) → Spells l ts x → (n : ℕ) (rest : List Token) → Follows l rest → length (ts ++ rest) ≤ n → Continues n l x rest (reader n l (ts ++ rest))
-unfolding factor_of
+unfolding factor_of operator_of
 complete l ts x (a_number value) n rest f h = refl
 complete l ts x (a_name name) n rest f h = refl
 complete l ts x (in_parentheses us y s) zero rest f h = absurd (omega arith)

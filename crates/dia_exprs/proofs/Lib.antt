@@ -1,3 +1,4 @@
+pub mod OperatorLaws
 pub mod Complete
 pub mod Sound
 pub mod AllTokens

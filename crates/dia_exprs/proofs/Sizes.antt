@@ -11,9 +11,10 @@ use Rattle.dia_tokens.specs.declared.token.Token.TheVariants as token
 use Rattle.dia_tokens.specs.declared.token.Word.TheVariants as word
 use Rattle.dia_tokens.specs.declared.token.Symbol.TheVariants as symbol
 use Rattle.dia_exprs.specs.declared.level.Level.{Level}
-use Rattle.dia_exprs.specs.declared.level.Level.TheVariants.{Whole, Disjunction, Conjunction, Sum, Product, Prefixed}
+use Rattle.dia_exprs.specs.declared.level.Level.TheVariants.{Whole, Sum, Prefixed}
 use Rattle.dia_exprs.specs.Counts.{has_node, node_count}
-use Rattle.dia_exprs.specs.Grammar.{Expression, operator, comparison, prefix, called, Spells, a_number, a_name, in_parentheses, a_call, as_tighter, prefixed, joined, compared, a_choice}
+use Rattle.dia_exprs.specs.Grammar.{Expression, operator_of, is_joined, is_comparison, is_call, prefix, Spells, a_number, a_name, in_parentheses, a_call, as_tighter, prefixed, joined, compared, a_choice}
+use Rattle.dia_exprs.proofs.OperatorLaws.{each-token, written-is}
 
 count-append : (a b : List Token) → node_count (a ++ b) ≡ node_count a + node_count b
 count-append a b = ap length (filter-append has_node a b) ∙ length-append (filter has_node a) (filter has_node b)
@@ -22,34 +23,13 @@ count-append a b = ap length (filter-append has_node a b) ∙ length-append (fil
 counts-one : (t : Token) (ts : List Token) → has_node t ≡ true → node_count (t ∷ ts) ≡ node_count ts + 1
 counts-one t ts e = rw e (omega arith)
 
-operator-node : (l : Level) (t : Token) (o : BinOp) → operator l t ≡ Some o → has_node t ≡ true
-operator-node Disjunction (token.Word word.Or) o e = refl
-operator-node Conjunction (token.Word word.And) o e = refl
-operator-node Sum (token.Symbol symbol.Plus) o e = refl
-operator-node Sum (token.Symbol symbol.Minus) o e = refl
-operator-node Product (token.Symbol symbol.Star) o e = refl
-operator-node Product (token.Symbol symbol.Slash) o e = refl
-operator-node Product (token.Symbol symbol.Percent) o e = refl
-operator-node _ _ o e = absurd cc
-
-comparison-node : (t : Token) (o : BinOp) → comparison t ≡ Some o → has_node t ≡ true
-comparison-node (token.Symbol symbol.Equal) o e = refl
-comparison-node (token.Symbol symbol.Unequal) o e = refl
-comparison-node (token.Symbol symbol.Less) o e = refl
-comparison-node (token.Symbol symbol.AtMost) o e = refl
-comparison-node (token.Symbol symbol.Greater) o e = refl
-comparison-node (token.Symbol symbol.AtLeast) o e = refl
-comparison-node _ o e = absurd cc
+operator-node : (t : Token) (o : BinOp) → operator_of t ≡ Some o → has_node t ≡ true
+operator-node = each-token has_node refl
 
 prefix-node : (t : Token) (o : UnOp) → prefix t ≡ Some o → has_node t ≡ true
 prefix-node (token.Symbol symbol.Minus) o e = refl
 prefix-node (token.Word word.Not) o e = refl
 prefix-node _ o e = absurd cc
-
-called-node : (t : Token) (o : BinOp) → called t ≡ Some o → has_node t ≡ true
-called-node (token.Word word.Min) o e = refl
-called-node (token.Word word.Max) o e = refl
-called-node _ o e = absurd cc
 
 -- each node comes from one token
 pub one-node-a-token : (l : Level) (ts : List Token) (x : Expression) → Spells l ts x → size_of x ≡ node_count ts
@@ -58,15 +38,15 @@ one-node-a-token l ts x (a_name name) = refl
 one-node-a-token l ts x (in_parentheses us y s) = omega (arith, one-node-a-token Whole us y s, count-append us (token.Symbol symbol.Close ∷ []))
 one-node-a-token l ts x (a_call t o a b y z e s u) =
     let after = token.Symbol symbol.Comma ∷ (b ++ token.Symbol symbol.Close ∷ []) in
-    let first : node_count (t ∷ token.Symbol symbol.Open ∷ (a ++ after)) ≡ node_count (a ++ after) + 1 = counts-one t (token.Symbol symbol.Open ∷ (a ++ after)) (called-node t o e) in
+    let first : node_count (t ∷ token.Symbol symbol.Open ∷ (a ++ after)) ≡ node_count (a ++ after) + 1 = counts-one t (token.Symbol symbol.Open ∷ (a ++ after)) (operator-node t o (written-is is_call (operator_of t) o e).0) in
     let last : node_count after ≡ node_count b + 0 = count-append b (token.Symbol symbol.Close ∷ []) in
     omega (arith, first, last, one-node-a-token Whole a y s, one-node-a-token Whole b z u, count-append a after)
 one-node-a-token l ts x (as_tighter l' ts' x' s) = one-node-a-token _ ts' x' s
 one-node-a-token l ts x (prefixed t o us y e s) = omega (arith, counts-one t us (prefix-node t o e), one-node-a-token Prefixed us y s)
 one-node-a-token l ts x (joined l' a t b o y z s e u) =
-    omega (arith, count-append a (t ∷ b), counts-one t b (operator-node l' t o e), one-node-a-token l' a y s, one-node-a-token _ b z u)
+    omega (arith, count-append a (t ∷ b), counts-one t b (operator-node t o (written-is (is_joined l') (operator_of t) o e).0), one-node-a-token l' a y s, one-node-a-token _ b z u)
 one-node-a-token l ts x (compared a t b o y z s e u) =
-    omega (arith, count-append a (t ∷ b), counts-one t b (comparison-node t o e), one-node-a-token Sum a y s, one-node-a-token Sum b z u)
+    omega (arith, count-append a (t ∷ b), counts-one t b (operator-node t o (written-is is_comparison (operator_of t) o e).0), one-node-a-token Sum a y s, one-node-a-token Sum b z u)
 one-node-a-token l ts x (a_choice a b c u v w s d e) =
     let after = token.Word word.Else ∷ c in
     let one : node_count (a ++ token.Word word.Then ∷ (b ++ after)) ≡ node_count a + node_count (b ++ after) = count-append a (token.Word word.Then ∷ (b ++ after)) in

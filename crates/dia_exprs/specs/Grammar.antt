@@ -1,14 +1,21 @@
 -- Which tokens spell which expression.
-use Rattle.std.specs.Prelude.{◌≡◌, ℕ, ℤ, List, [], ◌∷◌, ◌++◌, Option, Some, None}
+use Rattle.std.specs.Prelude.{◌≡◌, ℕ, ℤ, Bool, true, false, if◌then◌else◌, List, [], ◌∷◌, ◌++◌, Option, Some, None}
+use Rattle.std.specs.List.{find}
+use Rattle.std.specs.Str.{bytes_eq}
 use Rattle.dbp_plan.specs.declared.node.BinOp.{BinOp}
 use Rattle.dbp_plan.specs.declared.node.BinOp.TheVariants as op
+use Rattle.dbp_plan.specs.declared.node.Notation.{Notation}
+use Rattle.dbp_plan.specs.declared.node.Notation.TheVariants as notation
 use Rattle.dbp_plan.specs.declared.node.UnOp.{UnOp}
 use Rattle.dbp_plan.specs.declared.node.UnOp.TheVariants as prefix_op
+use Rattle.dbp_plan.specs.Operators.{all_operators, notation_of}
 use Rattle.dbp_plan.specs.Tree.{Tree, number, variable, unary, binary, choice}
 use Rattle.dia_tokens.specs.declared.token.Token.{Token}
 use Rattle.dia_tokens.specs.declared.token.Token.TheVariants as token
 use Rattle.dia_tokens.specs.declared.token.Word.TheVariants as word
 use Rattle.dia_tokens.specs.declared.token.Symbol.TheVariants as symbol
+use Rattle.dia_tokens.specs.Spelling.{symbol_text}
+use Rattle.dia_tokens.specs.Words.{word_text}
 use Rattle.dia_exprs.specs.declared.level.Level.{Level}
 use Rattle.dia_exprs.specs.declared.level.Level.TheVariants.{Whole, Disjunction, Conjunction, Comparison, Sum, Product, Prefixed, Factor}
 
@@ -27,26 +34,62 @@ tighter Product = Prefixed
 tighter Prefixed = Factor
 tighter Factor = Factor
 
--- the operator that a token is between two operands, at a level whose operators associate to the left
+-- the token that an operator is written with
+abbrev pub operator_token : BinOp → Token
+operator_token op.Add = token.Symbol symbol.Plus
+operator_token op.Sub = token.Symbol symbol.Minus
+operator_token op.Mul = token.Symbol symbol.Star
+operator_token op.Div = token.Symbol symbol.Slash
+operator_token op.Rem = token.Symbol symbol.Percent
+operator_token op.Eq = token.Symbol symbol.Equal
+operator_token op.Ne = token.Symbol symbol.Unequal
+operator_token op.Lt = token.Symbol symbol.Less
+operator_token op.Le = token.Symbol symbol.AtMost
+operator_token op.Gt = token.Symbol symbol.Greater
+operator_token op.Ge = token.Symbol symbol.AtLeast
+operator_token op.And = token.Word word.And
+operator_token op.Or = token.Word word.Or
+operator_token op.Min = token.Word word.Min
+operator_token op.Max = token.Word word.Max
+
+-- whether two tokens are the same word or the same symbol
+abbrev pub is_same_mark : Token → Token → Bool
+is_same_mark (token.Word v) (token.Word w) = bytes_eq (word_text v) (word_text w)
+is_same_mark (token.Symbol s) (token.Symbol u) = bytes_eq (symbol_text s) (symbol_text u)
+is_same_mark _ _ = false
+
+-- the operator that is written with the token
+unfoldable pub operator_of : Token → Option BinOp
+operator_of t = find (λ o. is_same_mark t (operator_token o)) all_operators
+
+-- whether operators of the notation are joined at the level, and associate to the left there
+abbrev pub is_joined : Level → Notation → Bool
+is_joined Disjunction notation.Disjunction = true
+is_joined Conjunction notation.Conjunction = true
+is_joined Sum notation.Sum = true
+is_joined Product notation.Product = true
+is_joined _ _ = false
+
+abbrev pub is_comparison : Notation → Bool
+is_comparison notation.Comparison = true
+is_comparison _ = false
+
+abbrev pub is_call : Notation → Bool
+is_call notation.Call = true
+is_call _ = false
+
+-- the operator, if it is written so
+abbrev pub if_written : (Notation → Bool) → Option BinOp → Option BinOp
+if_written so None = None
+if_written so (Some o) = if so (notation_of o) then Some o else None
+
+-- the operator of the level that a token is between two operands
 abbrev pub operator : Level → Token → Option BinOp
-operator Disjunction (token.Word word.Or) = Some op.Or
-operator Conjunction (token.Word word.And) = Some op.And
-operator Sum (token.Symbol symbol.Plus) = Some op.Add
-operator Sum (token.Symbol symbol.Minus) = Some op.Sub
-operator Product (token.Symbol symbol.Star) = Some op.Mul
-operator Product (token.Symbol symbol.Slash) = Some op.Div
-operator Product (token.Symbol symbol.Percent) = Some op.Rem
-operator _ _ = None
+operator l t = if_written (is_joined l) (operator_of t)
 
 -- the comparison that a token is
 abbrev pub comparison : Token → Option BinOp
-comparison (token.Symbol symbol.Equal) = Some op.Eq
-comparison (token.Symbol symbol.Unequal) = Some op.Ne
-comparison (token.Symbol symbol.Less) = Some op.Lt
-comparison (token.Symbol symbol.AtMost) = Some op.Le
-comparison (token.Symbol symbol.Greater) = Some op.Gt
-comparison (token.Symbol symbol.AtLeast) = Some op.Ge
-comparison _ = None
+comparison t = if_written is_comparison (operator_of t)
 
 -- the operator that a token is before an operand
 abbrev pub prefix : Token → Option UnOp
@@ -56,9 +99,7 @@ prefix _ = None
 
 -- the operator that a token is before two arguments in parentheses
 abbrev pub called : Token → Option BinOp
-called (token.Word word.Min) = Some op.Min
-called (token.Word word.Max) = Some op.Max
-called _ = None
+called t = if_written is_call (operator_of t)
 
 -- The tokens spell the expression, as one that stands at the level.
 pub data Spells : Level → List Token → Expression → Type 0 where

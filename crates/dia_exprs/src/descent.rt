@@ -174,6 +174,7 @@ fn prefixed<'t>(
 }
 
 /// A number, a name, a call or an expression in parentheses.
+#[tactic(auto, unfolding(crate::specs::Grammar::operator_of))]
 #[cycle(expression)]
 fn factor<'t>(
     out: &mut List<Node<Name>>,

@@ -16,6 +16,7 @@ mod parse;
 
 pub use counts::{MAX_DEPTH, depth, node_tokens};
 pub use fail::ExpressionFail;
-pub use laws::{one_expression, one_node_a_token};
+pub use laws::{calls_are_listed, one_expression, one_node_a_token, read_operator};
 pub use level::Level;
+pub use operators::operator_token;
 pub use parse::expression;

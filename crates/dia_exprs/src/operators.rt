@@ -3,7 +3,7 @@
 ghost use Rattle.std.specs.Prelude.{◌≡◌, ◌+◌, [], ◌∷◌, IfSome, IsNone, length};
 ghost use Rattle.std.specs.Option.{option_map};
 ghost use Rattle.dia_exprs.specs.Counts.{node_count};
-ghost use Rattle.dia_exprs.specs.Grammar.{tighter, operator, comparison as compared, prefix as prefixed, called as is_called};
+ghost use Rattle.dia_exprs.specs.Grammar.{tighter, operator, comparison as compared, prefix as prefixed, called as is_called, operator_token as token_of};
 ghost use Rattle.dia_exprs.specs.Reading.{if_at, then_at, else_at, open_at, comma_at, close_at};
 ghost use Rattle.dia_exprs.specs.Parsing.{is_lone, operator_at, comparison_at, prefix_at};
 
@@ -25,6 +25,7 @@ pub(crate) fn next_level(level: Level) -> Level
     }
 }
 
+#[tactic(auto, unfolding(crate::specs::Grammar::operator_of))]
 fn operator_of(level: Level, token: &Token) -> Option<BinOp>
     ensures { result ≡ operator level token.now }
 {
@@ -40,6 +41,7 @@ fn operator_of(level: Level, token: &Token) -> Option<BinOp>
     }
 }
 
+#[tactic(auto, unfolding(crate::specs::Grammar::operator_of))]
 fn comparison(token: &Token) -> Option<BinOp>
     ensures { result ≡ compared token.now }
 {
@@ -65,6 +67,7 @@ fn prefix(token: &Token) -> Option<UnOp>
 }
 
 /// The operator that a token is before two arguments.
+#[tactic(auto, unfolding(crate::specs::Grammar::operator_of))]
 pub(crate) fn called(token: &Token) -> Option<BinOp>
     ensures { result ≡ is_called token.now }
 {
@@ -75,7 +78,31 @@ pub(crate) fn called(token: &Token) -> Option<BinOp>
     }
 }
 
+/// The token that the operator is written with.
+pub fn operator_token(op: BinOp) -> Token
+    ensures { result ≡ token_of op }
+{
+    match op {
+        BinOp::Add => Token::Symbol(Symbol::Plus),
+        BinOp::Sub => Token::Symbol(Symbol::Minus),
+        BinOp::Mul => Token::Symbol(Symbol::Star),
+        BinOp::Div => Token::Symbol(Symbol::Slash),
+        BinOp::Rem => Token::Symbol(Symbol::Percent),
+        BinOp::Eq => Token::Symbol(Symbol::Equal),
+        BinOp::Ne => Token::Symbol(Symbol::Unequal),
+        BinOp::Lt => Token::Symbol(Symbol::Less),
+        BinOp::Le => Token::Symbol(Symbol::AtMost),
+        BinOp::Gt => Token::Symbol(Symbol::Greater),
+        BinOp::Ge => Token::Symbol(Symbol::AtLeast),
+        BinOp::And => Token::Word(Word::And),
+        BinOp::Or => Token::Word(Word::Or),
+        BinOp::Min => Token::Word(Word::Min),
+        BinOp::Max => Token::Word(Word::Max),
+    }
+}
+
 /// The operator of the level at the front, and the tokens after it.
+#[tactic(auto, unfolding(crate::specs::Grammar::operator_of))]
 pub(crate) fn split_operator(level: Level, tokens: &[Token]) -> Option<(BinOp, &[Token])>
     ensures value { option_map (λ x. (x.0, x.1.now)) result ≡ operator_at level tokens.now }
     ensures shorter { IfSome result (λ x. length x.1.now + 1 ≡ length tokens.now) }
@@ -104,6 +131,7 @@ pub(crate) fn is_lone(tokens: &[Token]) -> bool
 }
 
 /// The comparison at the front, and the tokens after it.
+#[tactic(auto, unfolding(crate::specs::Grammar::operator_of))]
 pub(crate) fn split_comparison(tokens: &[Token]) -> Option<(BinOp, &[Token])>
     ensures value { option_map (λ x. (x.0, x.1.now)) result ≡ comparison_at tokens.now }
     ensures shorter { IfSome result (λ x. length x.1.now + 1 ≡ length tokens.now) }
