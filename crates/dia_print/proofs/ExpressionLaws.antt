@@ -4,13 +4,15 @@ use Rattle.std.specs.Prelude.{max}
 use Rattle.std.specs.List.{AllByRecursion}
 use Rattle.std.proofs.lemmas.Bool.{cases_Bool}
 use Rattle.dbp_plan.specs.declared.node.BinOp.{BinOp}
-use Rattle.dbp_plan.specs.declared.node.BinOp.TheVariants as op
+use Rattle.dbp_plan.specs.declared.node.Notation.{Notation}
+use Rattle.dbp_plan.specs.declared.node.Notation.TheVariants as notation
 use Rattle.dbp_plan.specs.declared.node.UnOp.{UnOp}
 use Rattle.dbp_plan.specs.declared.node.UnOp.TheVariants as prefix_op
+use Rattle.dbp_plan.specs.Operators.{notation_of}
 use Rattle.dbp_plan.specs.Tree.{number, variable, unary, binary, choice, size_of}
 use Rattle.dbp_plan.specs.TreeLaws.{one_node}
 use Rattle.dia_tokens.specs.declared.token.Token.{Token}
-use Rattle.dia_tokens.specs.declared.token.Token.TheVariants.{Word, Symbol}
+use Rattle.dia_tokens.specs.declared.token.Token.TheVariants.{Word, Name, Number, Symbol}
 use Rattle.dia_tokens.specs.declared.token.Word.TheVariants as word
 use Rattle.dia_tokens.specs.declared.token.Symbol.TheVariants as symbol
 use Rattle.dia_tokens.specs.Lexes.{signs}
@@ -19,10 +21,11 @@ use Rattle.dia_tokens.specs.TokenText.{piece_of}
 use Rattle.dia_tokens.specs.KeepsSigns.{IsUnsigned, KeepsSigns}
 use Rattle.dia_exprs.specs.declared.level.Level.{Level}
 use Rattle.dia_exprs.specs.declared.level.Level.TheVariants.{Whole, Disjunction, Conjunction, Comparison, Sum, Product, Prefixed, Factor}
-use Rattle.dia_exprs.specs.Counts.{opened, deepest}
-use Rattle.dia_exprs.specs.Grammar.{Expression, Spells, a_number, a_name, in_parentheses, a_call, as_tighter, prefixed, joined, compared, a_choice}
+use Rattle.dia_exprs.specs.Counts.{has_node, opened, deepest}
+use Rattle.dia_exprs.specs.Grammar.{Expression, tighter, operator_token, is_joined, is_comparison, is_call, Spells, a_number, a_name, in_parentheses, a_call, as_tighter, prefixed, joined, compared, a_choice}
 use Rattle.dia_exprs.specs.Printable.{IsPrintableTree}
-use Rattle.dia_print.specs.ExpressionTokens.{prefix_token, operator_token, is_call, is_compound, enclosed, call_tokens, choice_tokens, tokens_of, operand_tokens}
+use Rattle.dia_exprs.proofs.OperatorLaws.{each, is-written}
+use Rattle.dia_print.specs.ExpressionTokens.{prefix_token, is_compound, enclosed, call_tokens, choice_tokens, tokens_of, operand_tokens}
 
 -- ---- the tokens spell the expression
 
@@ -73,39 +76,18 @@ spells-unary : (o : UnOp) (xs : List Token) (x : Expression) → Spells Factor x
 spells-unary prefix_op.Neg xs x s = whole Prefixed (prefixed (prefix_token prefix_op.Neg) prefix_op.Neg xs x refl (at-level Prefixed s))
 spells-unary prefix_op.Not xs x s = whole Prefixed (prefixed (prefix_token prefix_op.Not) prefix_op.Not xs x refl (at-level Prefixed s))
 
-spells-binary : (o : BinOp) (xs ys : List Token) (x y : Expression) → is_call o ≡ false → Spells Factor xs x → Spells Factor ys y → Spells Whole (xs ++ operator_token o ∷ ys) (binary o x y)
-spells-binary op.Add xs ys x y e s t = whole Sum (joined Sum xs (operator_token op.Add) ys op.Add x y (at-level Sum s) refl (at-level Product t))
-spells-binary op.Sub xs ys x y e s t = whole Sum (joined Sum xs (operator_token op.Sub) ys op.Sub x y (at-level Sum s) refl (at-level Product t))
-spells-binary op.Mul xs ys x y e s t = whole Product (joined Product xs (operator_token op.Mul) ys op.Mul x y (at-level Product s) refl (at-level Prefixed t))
-spells-binary op.Div xs ys x y e s t = whole Product (joined Product xs (operator_token op.Div) ys op.Div x y (at-level Product s) refl (at-level Prefixed t))
-spells-binary op.Rem xs ys x y e s t = whole Product (joined Product xs (operator_token op.Rem) ys op.Rem x y (at-level Product s) refl (at-level Prefixed t))
-spells-binary op.And xs ys x y e s t = whole Conjunction (joined Conjunction xs (operator_token op.And) ys op.And x y (at-level Conjunction s) refl (at-level Comparison t))
-spells-binary op.Or xs ys x y e s t = whole Disjunction (joined Disjunction xs (operator_token op.Or) ys op.Or x y (at-level Disjunction s) refl (at-level Conjunction t))
-spells-binary op.Eq xs ys x y e s t = whole Comparison (compared xs (operator_token op.Eq) ys op.Eq x y (at-level Sum s) refl (at-level Sum t))
-spells-binary op.Ne xs ys x y e s t = whole Comparison (compared xs (operator_token op.Ne) ys op.Ne x y (at-level Sum s) refl (at-level Sum t))
-spells-binary op.Lt xs ys x y e s t = whole Comparison (compared xs (operator_token op.Lt) ys op.Lt x y (at-level Sum s) refl (at-level Sum t))
-spells-binary op.Le xs ys x y e s t = whole Comparison (compared xs (operator_token op.Le) ys op.Le x y (at-level Sum s) refl (at-level Sum t))
-spells-binary op.Gt xs ys x y e s t = whole Comparison (compared xs (operator_token op.Gt) ys op.Gt x y (at-level Sum s) refl (at-level Sum t))
-spells-binary op.Ge xs ys x y e s t = whole Comparison (compared xs (operator_token op.Ge) ys op.Ge x y (at-level Sum s) refl (at-level Sum t))
-spells-binary op.Min xs ys x y e s t = absurd cc
-spells-binary op.Max xs ys x y e s t = absurd cc
+-- an operator that is joined at the level
+spells-joined : (l : Level) (o : BinOp) (xs ys : List Token) (x y : Expression) → is_joined l (notation_of o) ≡ true → Spells Factor xs x → Spells Factor ys y → Spells Whole (xs ++ operator_token o ∷ ys) (binary o x y)
+spells-joined l o xs ys x y e s t = whole l (joined l xs (operator_token o) ys o x y (at-level l s) (is-written (is_joined l) o e) (at-level (tighter l) t))
 
-spells-call : (o : BinOp) (xs ys : List Token) (x y : Expression) → is_call o ≡ true → Spells Whole xs x → Spells Whole ys y → Spells Factor (call_tokens o xs ys) (binary o x y)
-spells-call op.Min xs ys x y e s t = a_call (operator_token op.Min) op.Min xs ys x y refl s t
-spells-call op.Max xs ys x y e s t = a_call (operator_token op.Max) op.Max xs ys x y refl s t
-spells-call op.Add xs ys x y e s t = absurd cc
-spells-call op.Sub xs ys x y e s t = absurd cc
-spells-call op.Mul xs ys x y e s t = absurd cc
-spells-call op.Div xs ys x y e s t = absurd cc
-spells-call op.Rem xs ys x y e s t = absurd cc
-spells-call op.Eq xs ys x y e s t = absurd cc
-spells-call op.Ne xs ys x y e s t = absurd cc
-spells-call op.Lt xs ys x y e s t = absurd cc
-spells-call op.Le xs ys x y e s t = absurd cc
-spells-call op.Gt xs ys x y e s t = absurd cc
-spells-call op.Ge xs ys x y e s t = absurd cc
-spells-call op.And xs ys x y e s t = absurd cc
-spells-call op.Or xs ys x y e s t = absurd cc
+spells-infix : (n : Notation) (o : BinOp) (xs ys : List Token) (x y : Expression) → notation_of o ≡ n → is_call n ≡ false → Spells Factor xs x → Spells Factor ys y
+    → Spells Whole (xs ++ operator_token o ∷ ys) (binary o x y)
+spells-infix notation.Disjunction o xs ys x y is e s t = spells-joined Disjunction o xs ys x y (rw is refl) s t
+spells-infix notation.Conjunction o xs ys x y is e s t = spells-joined Conjunction o xs ys x y (rw is refl) s t
+spells-infix notation.Comparison o xs ys x y is e s t = whole Comparison (compared xs (operator_token o) ys o x y (at-level Sum s) (is-written is_comparison o (rw is refl)) (at-level Sum t))
+spells-infix notation.Sum o xs ys x y is e s t = spells-joined Sum o xs ys x y (rw is refl) s t
+spells-infix notation.Product o xs ys x y is e s t = spells-joined Product o xs ys x y (rw is refl) s t
+spells-infix notation.Call o xs ys x y is e s t = absurd cc
 
 -- as a whole, and as an operand
 record IsWritten (x : Expression) : Type 0 where
@@ -125,9 +107,9 @@ written (unary o x) = compound (unary o x) refl (spells-unary o (operand_tokens 
 written (binary o x y) =
     let left = written x in
     let right = written y in
-    elim (cases_Bool (is_call o)) [
-      | inl e ↦ factor (binary o x y) (rw e refl) (rw e (spells-call o (tokens_of x) (tokens_of y) x y e left.tokens right.tokens))
-      | inr e ↦ compound (binary o x y) (rw e refl) (rw e (spells-binary o (operand_tokens x) (operand_tokens y) x y e left.operand right.operand))
+    elim (cases_Bool (is_call (notation_of o))) [
+      | inl e ↦ factor (binary o x y) (rw e refl) (rw e (a_call (operator_token o) o (tokens_of x) (tokens_of y) x y (is-written is_call o e) left.tokens right.tokens))
+      | inr e ↦ compound (binary o x y) (rw e refl) (rw e (spells-infix (notation_of o) o (operand_tokens x) (operand_tokens y) x y refl e left.operand right.operand))
     ]
 written (choice c x y) =
     compound (choice c x y) refl
@@ -147,48 +129,22 @@ prefix-signs prefix_op.Neg = refl
 prefix-signs prefix_op.Not = refl
 
 operator-signs : (o : BinOp) → signs (piece_of (operator_token o)) ≡ true
-operator-signs op.Add = refl
-operator-signs op.Sub = refl
-operator-signs op.Mul = refl
-operator-signs op.Div = refl
-operator-signs op.Rem = refl
-operator-signs op.Eq = refl
-operator-signs op.Ne = refl
-operator-signs op.Lt = refl
-operator-signs op.Le = refl
-operator-signs op.Gt = refl
-operator-signs op.Ge = refl
-operator-signs op.And = refl
-operator-signs op.Or = refl
-operator-signs op.Min = refl
-operator-signs op.Max = refl
+operator-signs = each (λ o. signs (piece_of (operator_token o))) refl
 
 prefix-unsigned : (o : UnOp) → IsUnsigned (prefix_token o)
 prefix-unsigned prefix_op.Neg = tt
 prefix-unsigned prefix_op.Not = tt
 
-operator-unsigned : (o : BinOp) → IsUnsigned (operator_token o)
-operator-unsigned op.Add = tt
-operator-unsigned op.Sub = tt
-operator-unsigned op.Mul = tt
-operator-unsigned op.Div = tt
-operator-unsigned op.Rem = tt
-operator-unsigned op.Eq = tt
-operator-unsigned op.Ne = tt
-operator-unsigned op.Lt = tt
-operator-unsigned op.Le = tt
-operator-unsigned op.Gt = tt
-operator-unsigned op.Ge = tt
-operator-unsigned op.And = tt
-operator-unsigned op.Or = tt
-operator-unsigned op.Min = tt
-operator-unsigned op.Max = tt
+-- a `-` after a number is no sign
+unsigned : (t : Token) → signs (piece_of t) ≡ true → IsUnsigned t
+unsigned (Number z) e = absurd cc
+unsigned _ e = tt
 
 after-prefix : (o : UnOp) (rest : List Token) → KeepsSigns true rest → Follows (prefix_token o ∷ rest)
 after-prefix o rest k s = (λ e. prefix-unsigned o, subst (λ b. KeepsSigns b rest) (sym (prefix-signs o)) k)
 
 after-operator : (o : BinOp) (rest : List Token) → KeepsSigns true rest → Follows (operator_token o ∷ rest)
-after-operator o rest k s = (λ e. operator-unsigned o, subst (λ b. KeepsSigns b rest) (sym (operator-signs o)) k)
+after-operator o rest k s = (λ e. unsigned (operator_token o) (operator-signs o), subst (λ b. KeepsSigns b rest) (sym (operator-signs o)) k)
 
 abbrev KeepsAt : List Token → Type 0
 KeepsAt ts = (rest : List Token) → Follows rest → KeepsSigns true (ts ++ rest)
@@ -227,7 +183,7 @@ keeps-tokens (number z) rest f = (λ e. absurd cc, f false)
 keeps-tokens (variable n) rest f = (λ e. tt, f false)
 keeps-tokens (unary o x) rest f = after-prefix o (operand_tokens x ++ rest) (enclosed-keeps (is_compound x) (tokens_of x) (keeps-tokens x) rest f) true
 keeps-tokens (binary o x y) rest f =
-    either-keeps (is_call o) (call_tokens o (tokens_of x) (tokens_of y)) (operand_tokens x ++ operator_token o ∷ operand_tokens y)
+    either-keeps (is_call (notation_of o)) (call_tokens o (tokens_of x) (tokens_of y)) (operand_tokens x ++ operator_token o ∷ operand_tokens y)
     (called-keeps o (tokens_of x) (tokens_of y) (keeps-tokens x) (keeps-tokens y))
     (between-keeps o (operand_tokens x) (operand_tokens y) (enclosed-keeps (is_compound x) (tokens_of x) (keeps-tokens x)) (enclosed-keeps (is_compound y) (tokens_of y) (keeps-tokens y)))
     rest f
@@ -252,22 +208,14 @@ enclosed-each : (b : Bool) (ts : List Token) → Each ts → Each (enclosed b ts
 enclosed-each false ts h = h
 enclosed-each true ts h = (tt, each-append ts (Symbol symbol.Close ∷ []) h (tt, tt))
 
+-- a `-` after a name or a number is no sign
+printable : (t : Token) → signs (piece_of t) ≡ true → IsPrintableToken t
+printable (Name text) e = absurd cc
+printable (Number z) e = absurd cc
+printable _ e = tt
+
 operator-each : (o : BinOp) → IsPrintableToken (operator_token o)
-operator-each op.Add = tt
-operator-each op.Sub = tt
-operator-each op.Mul = tt
-operator-each op.Div = tt
-operator-each op.Rem = tt
-operator-each op.Eq = tt
-operator-each op.Ne = tt
-operator-each op.Lt = tt
-operator-each op.Le = tt
-operator-each op.Gt = tt
-operator-each op.Ge = tt
-operator-each op.And = tt
-operator-each op.Or = tt
-operator-each op.Min = tt
-operator-each op.Max = tt
+operator-each o = printable (operator_token o) (operator-signs o)
 
 called-each : (o : BinOp) (xs ys : List Token) → Each xs → Each ys → Each (call_tokens o xs ys)
 called-each o xs ys h k = (operator-each o, (tt, each-append xs _ h (tt, each-append ys (Symbol symbol.Close ∷ []) k (tt, tt))))
@@ -287,7 +235,7 @@ each-printable (unary prefix_op.Not x) h = (tt, enclosed-each (is_compound x) (t
 each-printable (binary o x y) h =
     let left = each-printable x h.0 in
     let right = each-printable y h.1 in
-    either-each (is_call o) (call_tokens o (tokens_of x) (tokens_of y)) (operand_tokens x ++ operator_token o ∷ operand_tokens y) (called-each o (tokens_of x) (tokens_of y) left right)
+    either-each (is_call (notation_of o)) (call_tokens o (tokens_of x) (tokens_of y)) (operand_tokens x ++ operator_token o ∷ operand_tokens y) (called-each o (tokens_of x) (tokens_of y) left right)
     (between-each o (operand_tokens x) (operand_tokens y) (enclosed-each (is_compound x) (tokens_of x) left) (enclosed-each (is_compound y) (tokens_of y) right))
 each-printable (choice c x y) h = (
   tt,
@@ -333,22 +281,13 @@ prefix-level : (o : UnOp) → IsLevel (prefix_token o)
 prefix-level prefix_op.Neg k = refl
 prefix-level prefix_op.Not k = refl
 
+node-level : (t : Token) → has_node t ≡ true → IsLevel t
+node-level (Symbol symbol.Open) e k = absurd cc
+node-level (Symbol symbol.Close) e k = absurd cc
+node-level _ e k = refl
+
 operator-level : (o : BinOp) → IsLevel (operator_token o)
-operator-level op.Add k = refl
-operator-level op.Sub k = refl
-operator-level op.Mul k = refl
-operator-level op.Div k = refl
-operator-level op.Rem k = refl
-operator-level op.Eq k = refl
-operator-level op.Ne k = refl
-operator-level op.Lt k = refl
-operator-level op.Le k = refl
-operator-level op.Gt k = refl
-operator-level op.Ge k = refl
-operator-level op.And k = refl
-operator-level op.Or k = refl
-operator-level op.Min k = refl
-operator-level op.Max k = refl
+operator-level o = node-level (operator_token o) (each (λ u. has_node (operator_token u)) refl o)
 
 called-shallow : (n : ℕ) (o : BinOp) (xs ys : List Token) → 1 ≤ n → Shallow n xs → Shallow n ys → Shallow (n + 1) (call_tokens o xs ys)
 called-shallow n o xs ys some h l =
@@ -371,7 +310,7 @@ shallow-tokens (binary o x y) =
     let some : 1 ≤ n = omega (arith, one_node x) in
     let left : Shallow (n + 1) (operand_tokens x) = shallow-more (size_of x + 1) (n + 1) (operand_tokens x) (omega arith) (enclosed-shallow (is_compound x) (size_of x) (tokens_of x) (one_node x) (shallow-tokens x)) in
     let right : Shallow (n + 1) (operand_tokens y) = shallow-more (size_of y + 1) (n + 1) (operand_tokens y) (omega arith) (enclosed-shallow (is_compound y) (size_of y) (tokens_of y) (one_node y) (shallow-tokens y)) in
-    either-shallow (is_call o) (n + 1) (call_tokens o (tokens_of x) (tokens_of y)) (operand_tokens x ++ operator_token o ∷ operand_tokens y)
+    either-shallow (is_call (notation_of o)) (n + 1) (call_tokens o (tokens_of x) (tokens_of y)) (operand_tokens x ++ operator_token o ∷ operand_tokens y)
     (called-shallow n o (tokens_of x) (tokens_of y) some (shallow-more (size_of x) n (tokens_of x) (omega arith) (shallow-tokens x)) (shallow-more (size_of y) n (tokens_of y) (omega arith) (shallow-tokens y)))
     (shallow-append (n + 1) (operand_tokens x) (operator_token o ∷ operand_tokens y) left (shallow-level (n + 1) (operator_token o) (operand_tokens y) (omega arith) (operator-level o) right))
 shallow-tokens (choice c x y) =

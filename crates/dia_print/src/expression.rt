@@ -3,12 +3,15 @@
 ghost use Rattle.std.specs.Prelude.{◌≡◌, ℕ, List as Items, OnOk};
 ghost use Rattle.dbp_plan.specs.Tree.{Tree};
 ghost use Rattle.dbp_plan.specs.Expr.{tree_of};
-ghost use Rattle.dia_print.specs.ExpressionTokens.{prefix_token, operator_token, is_call, tokens_of, operand_tokens, call_tokens, choice_tokens};
+ghost use Rattle.dbp_plan.specs.Operators.{notation_of};
+ghost use Rattle.dia_exprs.specs.Grammar.{is_call};
+ghost use Rattle.dia_print.specs.ExpressionTokens.{prefix_token, tokens_of, operand_tokens, call_tokens, choice_tokens};
 ghost use Rattle.dia_print.specs.Printed.{with_tokens};
 ghost use Rattle.dia_print.specs.Stands.{Stands, is_compound_node};
 
 use crate::Printer;
-use dbp_plan::{BinOp, Expr, Name, NoMemory, Node, UnOp};
+use dbp_plan::{BinOp, Expr, Name, NoMemory, Node, Notation, UnOp};
+use dia_exprs::operator_token;
 use dia_tokens::{Symbol, Token, Word};
 
 fn prefix_token(op: UnOp) -> Token
@@ -20,35 +23,13 @@ fn prefix_token(op: UnOp) -> Token
     }
 }
 
-fn operator_token(op: BinOp) -> Token
-    ensures { result ≡ operator_token op }
-{
-    match op {
-        BinOp::Add => Token::Symbol(Symbol::Plus),
-        BinOp::Sub => Token::Symbol(Symbol::Minus),
-        BinOp::Mul => Token::Symbol(Symbol::Star),
-        BinOp::Div => Token::Symbol(Symbol::Slash),
-        BinOp::Rem => Token::Symbol(Symbol::Percent),
-        BinOp::Eq => Token::Symbol(Symbol::Equal),
-        BinOp::Ne => Token::Symbol(Symbol::Unequal),
-        BinOp::Lt => Token::Symbol(Symbol::Less),
-        BinOp::Le => Token::Symbol(Symbol::AtMost),
-        BinOp::Gt => Token::Symbol(Symbol::Greater),
-        BinOp::Ge => Token::Symbol(Symbol::AtLeast),
-        BinOp::And => Token::Word(Word::And),
-        BinOp::Or => Token::Word(Word::Or),
-        BinOp::Min => Token::Word(Word::Min),
-        BinOp::Max => Token::Word(Word::Max),
-    }
-}
-
 fn is_call(op: BinOp) -> bool
-    ensures { result ≡ is_call op }
+    ensures { result ≡ is_call (notation_of op) }
 {
-    matches!(op, BinOp::Min | BinOp::Max)
+    matches!(op.notation(), Notation::Call)
 }
 
-/// Whether a node is an operator other than `min` and `max`, or an `if`.
+/// Whether a node is an operator that is written as no call, or an `if`.
 fn is_compound(node: &Node<Name>) -> bool
     ensures { result ≡ is_compound_node node.now }
 {
@@ -103,7 +84,7 @@ fn push_operand(printer: &mut Printer, nodes: &[Node<Name>], place: u32) -> Resu
     printer.push(Token::Symbol(Symbol::Close))
 }
 
-/// `min` or `max` of two arguments.
+/// A call of two arguments.
 #[cycle(tree)]
 fn push_call(
     printer: &mut Printer,

@@ -4,7 +4,7 @@ ghost use Rattle.std.specs.Prelude.{◌≡◌};
 ghost use Rattle.dia_tokens.specs.TokenText.{edge_of, is_apart, clings, is_open};
 
 use dbp_plan::{Name, NoMemory};
-use dia_tokens::{Edge, Symbol, Token, Word};
+use dia_tokens::{Edge, Symbol, Token};
 use itoa::{Buffer, Integer};
 use std::alloc::Global;
 use std::marker::Model;
@@ -55,7 +55,7 @@ fn edge_of(token: &Token) -> Edge
 {
     match token {
         Token::Symbol(Symbol::Open | Symbol::Point) => Edge::Tight,
-        Token::Word(Word::Min | Word::Max) => Edge::Call,
+        Token::Word(word) if word.begins_call() => Edge::Call,
         _ => Edge::Loose,
     }
 }

@@ -10,6 +10,7 @@ use Rattle.dbp_plan.specs.declared.diagram.Policy.{Policy}
 use Rattle.dbp_plan.specs.declared.expr.Expr.{Expr}
 use Rattle.dbp_plan.specs.declared.node.BinOp.{BinOp}
 use Rattle.dbp_plan.specs.Expr.{tree_of}
+use Rattle.dbp_plan.specs.Operators.{notation_of}
 use Rattle.dbp_plan.specs.Tree.{number, variable, unary, binary, choice, size_of}
 use Rattle.dia_tokens.specs.declared.edge.Edge.{Edge}
 use Rattle.dia_tokens.specs.declared.edge.Edge.TheVariants.{Tight}
@@ -22,8 +23,8 @@ use Rattle.dia_tokens.specs.declared.token.Symbol.TheVariants as symbol
 use Rattle.dia_tokens.specs.Printable.{IsPrintableNumber, IsPrintableToken}
 use Rattle.dia_tokens.specs.Spelling.{symbol_text}
 use Rattle.dia_tokens.specs.TokenText.{edge_of, gap, is_apart, line_of, line_text, text_after, token_text}
-use Rattle.dia_tokens.specs.Words.{word_text}
-use Rattle.dia_exprs.specs.Grammar.{Expression}
+use Rattle.dia_tokens.proofs.WordLaws.{word-length}
+use Rattle.dia_exprs.specs.Grammar.{Expression, operator_token, is_call}
 use Rattle.dia_lines.specs.Delays.{delay_tokens}
 use Rattle.dia_lines.specs.declared.item.Decl.{Decl}
 use Rattle.dia_lines.specs.declared.item.Decl.TheVariants.{Input, Event}
@@ -33,7 +34,7 @@ use Rattle.dia_lines.specs.declared.item.RawClock.{RawClock}
 use Rattle.dia_lines.specs.declared.item.RawClock.TheVariants.{Every, On}
 use Rattle.dia_lines.specs.declared.item.TaskLine.{TaskLine}
 use Rattle.dia_lines.specs.declared.place.Place.TheVariants as place
-use Rattle.dia_print.specs.ExpressionTokens.{call_tokens, enclosed, is_call, is_compound, operand_tokens, operator_token, tokens_of}
+use Rattle.dia_print.specs.ExpressionTokens.{call_tokens, enclosed, is_compound, operand_tokens, tokens_of}
 use Rattle.dia_print.specs.ItemTokens.{clock_tokens, decl_tokens, header_tokens, named_cpu, option_tokens, part_tokens, policy_tokens, source_tokens, task_tokens, until_tokens, when_tokens}
 use Rattle.dia_print.proofs.ItemLaws.{IsAfterHeader, decl-line, done-line, header-line, part-line, policy-line, size-fits, task-line, until-line}
 use Rattle.dia_print.specs.Printable.{IsPrintableDecl, IsPrintablePart}
@@ -45,67 +46,16 @@ use Rattle.dia_read.specs.declared.document.RawTask.{RawTask}
 
 -- ---- tokens
 
-word-short : (w : words.Word) → length (word_text w) ≤ 24
-word-short word.Dbp = omega arith
-word-short word.Policy = omega arith
-word-short word.Fp = omega arith
-word-short word.Edf = omega arith
-word-short word.Until = omega arith
-word-short word.Input = omega arith
-word-short word.Event = omega arith
-word-short word.Task = omega arith
-word-short word.Every = omega arith
-word-short word.From = omega arith
-word-short word.On = omega arith
-word-short word.Prio = omega arith
-word-short word.Deadline = omega arith
-word-short word.Cost = omega arith
-word-short word.State = omega arith
-word-short word.Sense = omega arith
-word-short word.Let = omega arith
-word-short word.Next = omega arith
-word-short word.Read = omega arith
-word-short word.Pre = omega arith
-word-short word.At = omega arith
-word-short word.Out = omega arith
-word-short word.Then = omega arith
-word-short word.If = omega arith
-word-short word.Else = omega arith
-word-short word.And = omega arith
-word-short word.Or = omega arith
-word-short word.Not = omega arith
-word-short word.Min = omega arith
-word-short word.Max = omega arith
-word-short word.Trace = omega arith
-word-short word.Script = omega arith
-word-short word.Done = omega arith
-word-short word.When = omega arith
-word-short word.Cpu = omega arith
-
 symbol-short : (s : symbols.Symbol) → length (symbol_text s) ≤ 24
 symbol-short symbol.Assign = omega arith
-symbol-short symbol.Equal = omega arith
-symbol-short symbol.Unequal = omega arith
-symbol-short symbol.Less = omega arith
-symbol-short symbol.AtMost = omega arith
-symbol-short symbol.Greater = omega arith
-symbol-short symbol.AtLeast = omega arith
-symbol-short symbol.Plus = omega arith
-symbol-short symbol.Minus = omega arith
-symbol-short symbol.Star = omega arith
-symbol-short symbol.Slash = omega arith
-symbol-short symbol.Percent = omega arith
-symbol-short symbol.Open = omega arith
-symbol-short symbol.Close = omega arith
-symbol-short symbol.Comma = omega arith
-symbol-short symbol.Point = omega arith
+symbol-short _ = omega arith
 
 number-short : (z : ℤ) → IsPrintableNumber z → length (signed_decimal z) ≤ 24
 number-short (pos n) fits = omega (arith, length_signed_le 20 (pos n) (omega arith) fits)
 number-short (negsuc n) fits = omega (arith, length_signed_le 20 (negsuc n) (omega arith) fits)
 
 token-short : (t : Token) → IsPrintableToken t → length (token_text t) ≤ 24
-token-short (Word w) prints = word-short w
+token-short (Word w) prints = omega (arith, word-length w)
 token-short (Name text) prints = prints.0.fits
 token-short (Number z) prints = number-short z prints
 token-short (Symbol s) prints = symbol-short s
@@ -149,7 +99,7 @@ tokens-few (unary o x) = omega (arith, enclosed-few (is_compound x) (tokens_of x
 tokens-few (binary o x y) =
     let left = tokens-few x in
     let right = tokens-few y in
-    either-few (is_call o) (call_tokens o (tokens_of x) (tokens_of y)) (operand_tokens x ++ operator_token o ∷ operand_tokens y) (9 * (size_of x + size_of y + 1))
+    either-few (is_call (notation_of o)) (call_tokens o (tokens_of x) (tokens_of y)) (operand_tokens x ++ operator_token o ∷ operand_tokens y) (9 * (size_of x + size_of y + 1))
     (omega (arith, called-few o (tokens_of x) (tokens_of y), left, right))
     (omega (arith, length-append (operand_tokens x) (operator_token o ∷ operand_tokens y), enclosed-few (is_compound x) (tokens_of x), enclosed-few (is_compound y) (tokens_of y), left, right))
 tokens-few (choice c x y) =

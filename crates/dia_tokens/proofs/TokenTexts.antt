@@ -116,21 +116,7 @@ number-allowed (negsuc n) h = and_from _ _ refl (all-allowed is_digit digit-allo
 
 symbol-allowed : (s : Symbol) → list_all is_allowed (symbol_text s) ≡ true
 symbol-allowed symbols.Assign = refl
-symbol-allowed symbols.Equal = refl
-symbol-allowed symbols.Unequal = refl
-symbol-allowed symbols.Less = refl
-symbol-allowed symbols.AtMost = refl
-symbol-allowed symbols.Greater = refl
-symbol-allowed symbols.AtLeast = refl
-symbol-allowed symbols.Plus = refl
-symbol-allowed symbols.Minus = refl
-symbol-allowed symbols.Star = refl
-symbol-allowed symbols.Slash = refl
-symbol-allowed symbols.Percent = refl
-symbol-allowed symbols.Open = refl
-symbol-allowed symbols.Close = refl
-symbol-allowed symbols.Comma = refl
-symbol-allowed symbols.Point = refl
+symbol-allowed _ = refl
 
 -- the bytes of a token may stand on a line
 pub token-allowed : (t : Token) → IsPrintableToken t → list_all is_allowed (token_text t) ≡ true

@@ -4,7 +4,8 @@ use Rattle.dbp_plan.specs.ListItems.{read_place}
 use Rattle.dia_tokens.specs.declared.token.Token.TheVariants.{Word, Symbol}
 use Rattle.dia_tokens.specs.declared.token.Word.TheVariants.{If, Then, Else}
 use Rattle.dia_tokens.specs.declared.token.Symbol.TheVariants.{Open, Close, Comma}
-use Rattle.dia_print.specs.ExpressionTokens.{tokens_of, operand_tokens, enclosed, prefix_token, operator_token}
+use Rattle.dia_exprs.specs.Grammar.{operator_token}
+use Rattle.dia_print.specs.ExpressionTokens.{tokens_of, operand_tokens, enclosed, prefix_token}
 use Rattle.dia_print.specs.Printed.{with_tokens}
 use Rattle.dia_print.proofs.PrintedTokens.{after, OnOk-map}
 use Rattle.dia_print.proofs.TreePlaces.{within, found, compound-at, at-number, at-variable, at-unary, at-binary, at-choice}
