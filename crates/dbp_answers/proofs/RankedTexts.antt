@@ -214,7 +214,7 @@ module _ (bare : HaveOneBareDiagram) (spells_itself : HaveCanonicalTexts) where
     by-order d p checked planned =
         let t = checked.shaped in
         let same = bare doc (ranked_doc doc order) ordered.shaped t (same-bare-body doc.body order) ordered.shape checked.shape in
-        subst (λ (e : Diagram). IsByRank e.ranks order) (sym (planned.diagram ∙ checked.is)) (by-rank doc order ordered.shaped t ordered.shape checked.shape ordered.is same)
+        subst (λ (e : Diagram). IsByRank e.ranks order) (sym (planned.diagram ∙ checked.is)) (by-rank doc order ordered.shaped t ordered.shape checked.shape ordered.is same (closed-shape input doc ordered.shaped spelled ordered.shape))
 
     -- a plan of the ranked document makes its text the one that is wanted
     pub ranked-text : (d : Diagram) (p : Plan) → IsCheckedOf (ranked_doc doc order) d → IsPlanOf (ranked_doc doc order) d p → IsRankedText input text

@@ -8,7 +8,7 @@ use std::slice::from_ref;
 /// Why a command refuses a document that others accept. Such a refusal stands at no line.
 #[derive(Drop)]
 pub enum CommandCode {
-    /// Its tasks aren't served under fixed priorities.
+    /// Its policy serves by deadline.
     NotFixed,
     /// A task is on an event, or occurs only where an input isn't 0.
     NotPeriodic {

@@ -101,8 +101,8 @@ fn first_rank_fault(shaped: &Shaped) -> Option<(u32, RankFault)>
 }
 
 /// Gives the tasks of a document's diagram their ranks, by its policy. Refused is the first fault, at its line: of
-/// the tasks in order, `MissingPrio` under fixed priorities and `MissingDeadline` under earliest deadline first, and
-/// then of the `read` lines in order, `UndelayedUpward`. With an error `shaped` is given up.
+/// the tasks in order, that one lacks what the policy ranks by, and then of the `read` lines in order, `UndelayedUpward`.
+/// With an error `shaped` is given up.
 pub fn ranked(alloc: Global, shaped: Shaped) -> Result<Diagram, CheckFail>
     requires closed { IsClosed shaped.diagram }
     requires lines { HasLines shaped }

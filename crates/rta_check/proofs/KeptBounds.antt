@@ -1,4 +1,4 @@
--- A plan of periodic tasks under fixed priorities keeps each response time.
+-- A plan of periodic tasks under service by rank keeps each response time.
 use Rattle.std.proofs.Common.{◌≡◌, ℕ, zero, suc, ◌+◌, ◌-◌, ◌<◌, ◌≤◌, length, Option, sym, ap, subst, inl, inr, arith}
 use Rattle.std.proofs.lemmas.Bool.{cases_lt}
 use Rattle.dbp_plan.specs.declared.diagram.ServedBy.TheVariants.{Rank}

@@ -1,4 +1,4 @@
-//! Response times under fixed priorities: how long after its release each instance of a task ends at the latest, in
+//! Response times under service by rank: how long after its release each instance of a task ends at the latest, in
 //! whatever phase the tasks are.
 //!
 //! A window of r ticks holds at most r over the period, rounded up, releases of a periodic task. So a task and the tasks

@@ -5,7 +5,7 @@ use dbp_plan::NoMemory;
 /// Why the scenario of a task isn't written.
 #[derive(Clone, Copy, Debug, PartialEq, Eq)]
 pub enum NeedFail {
-    /// The diagram's tasks aren't served under fixed priorities.
+    /// The diagram's policy serves by deadline.
     NotFixed,
     /// The task is periodic, or occurs only where an input isn't 0. It is the first such task, numbered from 0.
     NotOnEvents { task: u32 },
