@@ -1,15 +1,12 @@
 // Runs: steps that are made on the core of a document, and what is seen after them.
 
-ghost use Rattle.std.specs.Prelude.{IsTrue};
-ghost use Rattle.dbp_rules.specs.Rules.{IsNamed};
-
 use crate::scripts::Script;
 use dbp_core::{Broken, Core, Count, Heard, Illegal, Step, Wiring};
-use dbp_plan::{Plan, Row};
+use dbp_plan::Row;
 use std::alloc::Global;
 use std::process::Abort;
 use std::test::Fail;
-use test_inputs::{Document, plan_in};
+use test_inputs::{Document, is_named, plan_in};
 
 // Steps from the start of a document's plan, the first so many of a script, and what is seen after them.
 pub(crate) struct Run {
@@ -33,30 +30,9 @@ pub(crate) enum Seen {
     Wiring(&'static [(u32, u32)]),
 }
 
-// Whether the step names a task or a link of the plan.
-fn is_named(plan: &Plan, step: Step) -> bool
-    ensures { IsTrue result → IsNamed plan.now.diagram step }
-{
-    let tasks = plan.diagram.tasks.len();
-    match step {
-        Step::Claim { link } => link < plan.diagram.links.len(),
-        Step::Seen { task } => task < tasks,
-        Step::Aim { task, .. } => task < tasks,
-        Step::OpenGate { task } => task < tasks,
-        Step::Start { task } => task < tasks,
-        Step::Hear { task } => task < tasks,
-        Step::Look { task, .. } => task < tasks,
-        Step::Take { task, .. } => task < tasks,
-        Step::Shut { task } => task < tasks,
-        Step::Put { task, .. } => task < tasks,
-        Step::Done { task } => task < tasks,
-        Step::End { task } => task < tasks,
-    }
-}
-
 // Makes a step, which must be named.
 fn ask(core: &mut Core, step: Step) -> Result<Result<Heard, Illegal>, Fail> {
-    if is_named(core.plan(), step) {
+    if is_named(&core.plan().diagram, step) {
         Ok(core.step(step))
     } else {
         Err(Fail::from("unnamed"))

@@ -1,9 +1,8 @@
 // The calls of the seats, each after asking the part of its seat.
 
-ghost use Rattle.std.specs.Prelude.{◌≡◌, IsTrue, None, OnOk};
+ghost use Rattle.std.specs.Prelude.{◌≡◌, None, OnOk};
 ghost use Rattle.dbp_rules.specs.PartyRules.{task_refusal};
 ghost use Rattle.dbp_rules.specs.Lookups.{wired_task};
-ghost use Rattle.dbp_rules.specs.Rules.{IsNamed};
 ghost use Rattle.sync_meaning.specs.SomeMeaning.{meaning_of};
 ghost use Rattle.word_rule.specs.Seats.{ReleaserSits, TaskSits};
 
@@ -11,27 +10,15 @@ use crate::meant::word_of;
 use dbp_plan::Table;
 use dbp_rules::{Order, Step};
 use std::test::Fail;
+use test_inputs::is_named;
 use word_rule::{Look, Opened, ReleaserSeat, SlotWords, TaskSeat};
-
-// Whether the step names a task or a link of the plan.
-fn is_named(words: &SlotWords, step: Step) -> bool
-    ensures { IsTrue result → IsNamed words.now.plan.diagram step }
-{
-    let tasks = words.plan().diagram.tasks.len();
-    match step {
-        Step::Claim { link } => link < words.plan().diagram.links.len(),
-        Step::Aim { task, .. } => task < tasks,
-        Step::OpenGate { task } => task < tasks,
-        _ => false,
-    }
-}
 
 // Makes the step, which stores a word, if the releaser's part allows it.
 pub(crate) fn release(words: &SlotWords, seat: &mut ReleaserSeat, step: Step) -> Result<(), Fail>
     requires { ReleaserSits words.now seat.old }
     ensures { ReleaserSits words.now seat.new }
 {
-    if !is_named(words, step) {
+    if !is_named(&words.plan().diagram, step) {
         return Err(Fail::from("unnamed"));
     }
     if seat.refusal(words, step).is_some() {
