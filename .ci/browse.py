@@ -10,9 +10,9 @@ import base64
 import json
 import re
 import sys
-import time
 from pathlib import Path
 
+from awaited import SECONDS, wait_for
 from selenium import webdriver
 from selenium.webdriver.common.action_chains import ActionChains
 from selenium.webdriver.common.by import By
@@ -20,7 +20,6 @@ from selenium.webdriver.common.keys import Keys
 from selenium.webdriver.chrome.options import Options
 from selenium.webdriver.chrome.service import Service
 
-SECONDS = 120  # in vain only if the page hangs
 SHEET_WIDTH = 688  # pixels of a sheet A4 within its margins
 WORDS = ("--headless=new", "--no-sandbox", "--disable-gpu", "--disable-dev-shm-usage", "--window-size=1160,1400")
 
@@ -65,18 +64,17 @@ def browser():
     for word in WORDS:
         options.add_argument(word)
     options.set_capability("goog:loggingPrefs", {"browser": "ALL"})
-    return webdriver.Chrome(service=Service("/usr/bin/chromedriver"), options=options)
+    driver = webdriver.Chrome(service=Service("/usr/bin/chromedriver"), options=options)
+    driver.set_script_timeout(SECONDS)
+    return driver
 
 
 def wait_until(driver, script, is_wanted):
     """Waits until a script returns what is wanted, and returns that."""
-    stop = time.monotonic() + SECONDS
-    while time.monotonic() < stop:
-        found = driver.execute_script(script)
-        if is_wanted(found):
-            return found
-        time.sleep(0.05)
-    raise TimeoutError(script)
+    found = wait_for(lambda: driver.execute_script(script), is_wanted)
+    if found is None:
+        raise TimeoutError(script)
+    return found
 
 
 def open_page(driver, file):

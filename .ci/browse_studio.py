@@ -10,13 +10,13 @@ import sys
 import time
 from pathlib import Path
 
+from awaited import wait_for
 from browse import TOLD, browser, wait_until
-from selenium.common.exceptions import NoSuchElementException, NoSuchFrameException, StaleElementReferenceException
+from selenium.common.exceptions import WebDriverException
 from selenium.webdriver.common.action_chains import ActionChains
 from selenium.webdriver.common.by import By
 from selenium.webdriver.common.keys import Keys
 
-GONE = (NoSuchElementException, NoSuchFrameException, StaleElementReferenceException)
 READY = "return document.documentElement.dataset.ready"
 SHOWN = "return document.getElementById('report-view').dataset.shown ?? ''"
 TEXT = """
@@ -62,6 +62,8 @@ TOKENS = """
 const mirror = document.querySelector(".CodeMirror").CodeMirror;
 return Array.from({ length: mirror.lineCount() }, (_, at) => mirror.getLineTokens(at, true).map((it) => [it.string, it.type]));
 """
+SAVED = "return [document.getElementById('saved').textContent, document.getElementById('save').disabled]"
+SAVES = "return performance.getEntriesByType('resource').filter((it) => it.name.includes('/save?')).length"
 COLOUR = """
 return [...document.querySelectorAll(arguments[0])].map((it) => [it.textContent, getComputedStyle(it)[arguments[1]]]);
 """
@@ -79,15 +81,24 @@ EACH_STEP = f"""
 const step = () => {{ {STEP} }}, button = document.getElementById(arguments[0]);
 return Array.from({{ length: arguments[1] }}, () => {{ button.click(); return step(); }});
 """
-# Notes how long after an edit its whole report is shown.
+# Notes by the number of an edit how long after it its first report is shown.
 WATCH = """
 const mirror = document.querySelector(".CodeMirror").CodeMirror, view = document.getElementById("report-view");
-window.times = [];
+window.times = {};
 let start = 0;
 mirror.on("change", () => { start = performance.now(); });
-new MutationObserver(() => { if (start) { times.push(performance.now() - start); start = 0; } })
+new MutationObserver(() => { times[parseInt(view.dataset.shown)] ??= performance.now() - start; })
   .observe(view, { attributeFilter: ["data-shown"] });
 """
+# Clicks what stops a report as soon as it is there, and returns what is told of that report.
+STOP = """
+const stop = document.getElementById("stop"), told = document.getElementById("progress").textContent;
+if (stop.hidden) return "";
+stop.click();
+return told;
+"""
+# Notes where the report says that one is, after the page has heard it.
+LISTEN = "addEventListener('message', ({ data }) => { if (data.kind === 'moved') window.place = data.place; })"
 # Notes the longest time in which the page does nothing else, and how long letters take from their keys to the picture.
 STALLS = """
 window.stalls = [];
@@ -97,6 +108,14 @@ document.addEventListener("keydown", (event) => {
   requestAnimationFrame(() => setTimeout(() => keys.push(performance.now() - start)));
 }, true);
 window.keys = [];
+"""
+
+
+# Shows a part of the report, and waits until it is drawn there.
+SCROLL = """
+const [part, done] = arguments;
+document.querySelector(part).scrollIntoView();
+requestAnimationFrame(() => requestAnimationFrame(done));
 """
 
 
@@ -129,17 +148,34 @@ def edited(driver, line, place, *keys):
     typed(driver, *keys)
 
 
+def is_in_frame(driver):
+    """Whether the driver asks a report: if that is gone, it asks the page around it, or nothing."""
+    try:
+        return driver.execute_script("return parent !== window")
+    except WebDriverException:
+        return False
+
+
+def asked_once(driver, call, *given):
+    """Returns in a list what a call finds in the report that is shown, or nothing if another one took its place meanwhile."""
+    try:
+        driver.switch_to.frame(driver.find_element(By.CSS_SELECTOR, "#report-view iframe:not(.coming)"))
+        found = [call(*given)]
+        return found if is_in_frame(driver) else []
+    except WebDriverException:
+        if is_in_frame(driver):
+            raise
+        return []
+    finally:
+        driver.switch_to.default_content()
+
+
 def in_frame(driver, call, *given):
-    """Returns what a call finds in the report that is shown; another one may take its place meanwhile."""
-    for is_last in (False, False, True):
-        try:
-            driver.switch_to.frame(driver.find_element(By.CSS_SELECTOR, "#report-view iframe:not(.coming)"))
-            return call(*given)
-        except GONE:
-            if is_last:
-                raise
-        finally:
-            driver.switch_to.default_content()
+    """Returns what a call finds in the report that is shown."""
+    found = wait_for(lambda: asked_once(driver, call, *given), bool)
+    if not found:
+        raise TimeoutError("no report stays")
+    return found[0]
 
 
 def told(driver, selector):
@@ -160,11 +196,12 @@ def edits(driver, job):
     wait_until(driver, MARKS, lambda it: not it)
     shown(driver, 2)
     found["mended"] = [driver.execute_script(MARKS), told(driver, "#messages li"), driver.execute_script(TEXT)]
+    driver.execute_script(LISTEN)
     in_frame(driver, placed, driver)
     found["place"] = [in_frame(driver, driver.execute_script, PLACE)]
+    wait_until(driver, "return place ? [place.scroll, ...Object.values(place.values)] : null", lambda it: it == found["place"][0])
     edited(driver, *job["cost"])
     shown(driver, 4)
-    time.sleep(0.2)
     found["place"].append(in_frame(driver, driver.execute_script, PLACE))
     found["bars"] = in_frame(driver, told, driver, "svg[id$='-timeline'] :is(.served, .end, .late) > title")
     edited(driver, *job["overrun"])
@@ -185,14 +222,12 @@ def placed(driver):
     slider.send_keys(Keys.HOME, *[Keys.ARROW_RIGHT] * 5)
     driver.find_element(By.CSS_SELECTOR, ".slot-task").send_keys(Keys.ARROW_DOWN)
     driver.execute_script("scrollTo(0, 700)")
-    time.sleep(0.3)
 
 
 def followed(driver):
     """Clicks the place of the first message in the report, and returns what is selected in the text then."""
     in_frame(driver, driver.execute_script, "document.querySelector('.messages a').click()")
-    time.sleep(0.3)
-    return driver.execute_script(SELECTED)
+    return wait_until(driver, SELECTED, lambda it: it[1])
 
 
 def speed(driver, job):
@@ -202,7 +237,7 @@ def speed(driver, job):
     for number in range(1, job["count"] + 1):
         edited(driver, 1, 5, " ")
         shown(driver, number)
-    return driver.execute_script("return times")
+    return driver.execute_script("return Object.values(times)")
 
 
 def undone(driver, job):
@@ -234,10 +269,9 @@ def saving(driver, job):
     """Saves a text, lets another program write the file, and takes both ways out of that."""
     opened(driver, job)
     file, found = Path(job["file"]), []
-    state = "return [document.getElementById('saved').textContent, document.getElementById('save').disabled]"
 
-    def keep(wanted=None):
-        told = wait_until(driver, state, lambda it: wanted is None or it[0] == wanted)
+    def keep(wanted):
+        told = wait_until(driver, SAVED, lambda it: it[0] == wanted)
         found.append([file.read_text(), driver.execute_script(TEXT), told])
 
     keep("saved")
@@ -248,8 +282,9 @@ def saving(driver, job):
     file.write_text(job["other"])
     found.append(warned(driver))
     edited(driver, 1, 5, " ")
+    driver.execute_script("performance.clearResourceTimings()")
     typed(driver, "s", control=True)
-    time.sleep(0.5)
+    wait_until(driver, SAVES, bool)
     keep("not saved")
     driver.find_element(By.ID, "overwrite").click()
     keep("saved")
@@ -272,11 +307,10 @@ def example(driver, job):
         driver.execute_script("""const it = document.getElementById("documents"); it.value = arguments[0];
           it.dispatchEvent(new Event("change"))""", name)
         wait_until(driver, "return document.title", lambda it: it.startswith(name))
-        wait_until(driver, "return document.getElementById('verdict').textContent", bool)
         found.append([driver.execute_script(TEXT), driver.find_element(By.ID, "save").get_attribute("disabled")])
         edited(driver, 1, 0, "#")
         typed(driver, "s", control=True)
-        time.sleep(0.3)
+    wait_until(driver, SAVED, lambda it: it[0] == "saved")
     return found
 
 
@@ -327,23 +361,22 @@ def large(driver, job):
     """Opens a large document, edits it while its report is made, and stops that."""
     driver.get(job["address"])
     wait_until(driver, READY, bool)
-    found = {"first": [], "stalls": [], "keys": []}
+    found = {"first": [], "stalls": [], "keys": [], "pictures": []}
     wait_until(driver, SHOWN, bool)
     driver.execute_script(STALLS)
     driver.execute_script(WATCH)
-    for _ in range(job["rounds"]):
-        driver.execute_script("times.length = stalls.length = keys.length = 0")
-        edited(driver, 1, 5, *" # as one types")
-        wait_until(driver, "return times.length", bool)
+    for number in range(1, job["rounds"] + 1):
+        driver.execute_script("stalls.length = keys.length = 0")
+        edited(driver, 1, 5, *job["typed"])
+        revision = number * len(job["typed"])
+        wait_until(driver, SHOWN, lambda it: it.startswith(f"{revision} "))
         for part in ("stalls", "keys"):
             found[part].append(driver.execute_script(f"return Math.max(0, ...{part})"))
-        found["first"].append(driver.execute_script("return times[0]"))
-    found["progress"] = wait_until(driver, "return document.getElementById('progress').textContent", bool)
-    wait_until(driver, SHOWN, bool)
-    driver.find_element(By.ID, "stop").click()
-    time.sleep(0.3)
+        found["first"].append(driver.execute_script("return times[arguments[0]]", revision))
+        found["pictures"].append(len(in_frame(driver, told, driver, "figure svg > desc")))
+    edited(driver, 1, 5, " ")
+    found["progress"] = wait_until(driver, STOP, bool)
     found["stopped"] = told(driver, "#verdict, #progress")
-    found["pictures"] = in_frame(driver, told, driver, "figure svg > desc")
     found["is_there"] = driver.find_element(By.ID, "stop").is_displayed()
     found["text"] = len(driver.execute_script(TEXT))
     return found
@@ -392,8 +425,7 @@ def shot(driver, job):
     edited(driver, *job["edit"])
     shown(driver, 2)
     driver.execute_script(GO_TO, 1, 0)
-    in_frame(driver, driver.execute_script, "document.querySelector(arguments[0]).scrollIntoView()", job["part"])
-    time.sleep(0.5)
+    in_frame(driver, driver.execute_async_script, SCROLL, job["part"])
     box = {"x": 0, "y": 0, "width": 1400, "height": 700, "scale": 0.6}
     return driver.execute_cdp_cmd("Page.captureScreenshot", {"clip": box})["data"]
 

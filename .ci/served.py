@@ -8,14 +8,13 @@ import socket
 import subprocess
 import sys
 import tempfile
-import time
 from pathlib import Path
 from urllib.parse import quote, urlencode
 
+from awaited import SECONDS
 from stand_ins import write_program
 
 TOP = Path(__file__).resolve().parent.parent
-SECONDS = 180
 WITHOUT_MIRROR = """
 import sys
 from pathlib import Path
@@ -161,13 +160,3 @@ def parted(answer):
     """Returns the status and the content of an answer; no answer has the status 0."""
     head, _, content = answer.partition(b"\r\n\r\n")
     return (int(head.split()[1]), content) if head.startswith(b"HTTP/") else (0, answer)
-
-
-def wait_until(is_so, seconds=SECONDS):
-    """Waits until something is so; returns whether it became so."""
-    stop = time.monotonic() + seconds
-    while time.monotonic() < stop:
-        if is_so():
-            return True
-        time.sleep(0.02)
-    return False

@@ -8,7 +8,7 @@ const SOON = 120, LATER = 350; // milliseconds after the last keystroke
 const LARGE = 100_000; // letters of a text for which one waits longer
 const SHOWN_AFTER = 300; // milliseconds before progress is shown
 const LOOK_EVERY = 2_000; // milliseconds between looks at the file
-const FRAME_WITHIN = 20_000; // milliseconds in which a report must be there
+const FRAME_WITHIN = 20_000; // milliseconds after its loading in which a report must be there
 
 const find = (name) => document.getElementById(name);
 const say = (place, text, cls = "") => { place.textContent = text; place.className = cls; };
@@ -85,7 +85,7 @@ class Report {
     frame.dataset.of = of;
     this.coming = frame;
     this.place.append(frame);
-    this.timer = setTimeout(() => this.swap(), FRAME_WITHIN);
+    frame.addEventListener("load", () => { if (frame === this.coming) this.timer = setTimeout(() => this.swap(), FRAME_WITHIN); });
   }
 
   swap() {
@@ -318,6 +318,7 @@ class Studio {
 
   stop() {
     const { kind } = this.doing;
+    clearTimeout(this.waiting);
     this.questions.stop(kind);
     this.take(kind, { kind: "ended", text: "it was stopped" });
   }
