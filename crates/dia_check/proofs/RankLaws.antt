@@ -116,12 +116,9 @@ if-none : (test : Bool) (f : RankFault) → (if test then Some f else None) ≡ 
 if-none true f none = absurd cc
 if-none false f none = refl
 
-some-there : (o : Option ℕ) → is_none o ≡ false → IsSome o
-some-there None is = absurd cc
-some-there (Some x) is = refl
-
-urgency-there : (p : Policy) (t : Task) → task_rank_fault p t ≡ None → IsSome (urgency p t)
-urgency-there p t none = some-there (urgency p t) (if-none (is_none (urgency p t)) (missing p) none)
+some-there : (o : Option ℕ) (f : RankFault) → (if is_none o then Some f else None) ≡ None → IsSome o
+some-there None f none = absurd cc
+some-there (Some x) f none = refl
 
 -- ---- direct links go downward
 
@@ -220,7 +217,7 @@ module _ (s : Shaped) (closed : IsClosed s.diagram) (lines : HasLines s) (none :
   pub is-ranked : IsRanked (ranked_diagram s.diagram)
   is-ranked = record {
     closed = still-closed;
-    urgencies = λ k e below. urgency-there s.diagram.policy (get_or s.diagram.tasks k e) (tasks-none k e below);
+    urgencies = λ k e below. some-there (urgency s.diagram.policy (get_or s.diagram.tasks k e)) (missing s.diagram.policy) (tasks-none k e below);
     ranks = refl;
     downward = goes-down;
   }

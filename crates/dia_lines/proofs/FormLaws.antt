@@ -4,7 +4,7 @@ use Rattle.std.specs.Option.{option_map}
 use Rattle.std.specs.Ordering.{int_eq}
 use Rattle.std.proofs.lemmas.Bool.Decides.{Decides-int_eq}
 use Rattle.std.proofs.lemmas.Option.{same_Some}
-use Rattle.dbp_plan.specs.declared.diagram.Policy as policies
+use Rattle.dbp_plan.specs.declared.diagram.Policy.TheVariants.{Fp}
 use Rattle.dbp_plan.specs.Tree.{Tree, number}
 use Rattle.dia_tokens.specs.declared.token.Token.{Token}
 use Rattle.dia_tokens.specs.declared.token.Token.TheVariants.{Name, Number, Symbol, Word}
@@ -19,10 +19,9 @@ use Rattle.dia_lines.specs.Statements.{Statement, TaskHeader, Clock, IsStatement
 use Rattle.dia_lines.specs.Statements as st
 use Rattle.dia_lines.specs.Delays.{SpellsDelay, direct, delayed, delayed_by, delay_at}
 use Rattle.dia_lines.specs.Places.{leads, is_of_version}
-use Rattle.dia_lines.specs.PolicyWords.{policy_of}
+use Rattle.dia_lines.specs.PolicyWords.{policy_of, word_of}
 use Rattle.dia_lines.specs.Lines.{expression_of}
 use Rattle.dia_lines.specs.Forms.{Shape, plain, of_let, of_next, of_out, Completes, tokens_of, example_of, offset_at, clock_at, when_at, prio_at, deadline_at, cost_end, tick_alone, word_alone, ending_at, header_at, policy_at, until_at, input_at, event_at, options_at, task_at, state_at, sense_at, port_read_at, read_at, let_at, next_at, out_at, declared_at, line_at, shape_at}
-use Rattle.dia_lines.proofs.PolicyWords.{policy-of-word, word-of-policy}
 
 -- the statement is of the form that was found
 abbrev pub Inverts : Statement → Option Shape → Type 0
@@ -99,7 +98,8 @@ unfolding shape_at line_at declared_at header_at until_at input_at event_at opti
 Inverts-shape ts s st.a_blank_line = refl
 Inverts-shape ts s st.in_version_1 = refl
 Inverts-shape ts s st.in_version_2 = refl
-Inverts-shape ts s (st.a_policy p) = rw (policy-of-word p) refl
+Inverts-shape ts s (st.a_policy Fp) = refl
+Inverts-shape ts s (st.a_policy _) = refl
 Inverts-shape ts s (st.an_until end) = refl
 Inverts-shape ts s (st.an_input name first) = refl
 Inverts-shape ts s (st.an_event name) = refl
@@ -144,12 +144,16 @@ Builds-header (Number value ∷ []) = by_value (int_eq value (pos 1)) (int_eq va
     by_value false false e f = tt
 Builds-header _ = tt
 
+policy-word : (w : _) (p : _) → policy_of w ≡ Some p → word_of p ≡ w
+policy-word word.Fp p is = cc
+policy-word _ p is = cc
+
 Builds-policy : (ts : List Token) → Builds (Word word.Policy ∷ ts) (policy_at ts)
 Builds-policy (Word w ∷ []) = by_word (policy_of w) refl
   where
-    by_word : (found : Option policies.Policy) → policy_of w ≡ found → Builds (Word word.Policy ∷ Word w ∷ []) (option_map (λ p. plain (st.policy p)) found)
+    by_word : (found : _) → policy_of w ≡ found → Builds (Word word.Policy ∷ Word w ∷ []) (option_map (λ p. plain (st.policy p)) found)
     by_word None none = tt
-    by_word (Some p) is = subst (λ (v : words.Word). IsStatement (Word word.Policy ∷ Word v ∷ []) (st.policy p)) (word-of-policy w p is) (st.a_policy p)
+    by_word (Some p) is = subst (λ v. IsStatement (Word word.Policy ∷ Word v ∷ []) (st.policy p)) (policy-word w p is) (st.a_policy p)
 Builds-policy _ = tt
 
 Builds-until : (ts : List Token) → Builds (Word word.Until ∷ ts) (until_at ts)

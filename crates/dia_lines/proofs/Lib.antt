@@ -1,7 +1,6 @@
 pub mod TextLaws
 pub mod TrimLaws
 pub mod TraceLaws
-pub mod PolicyWords
 pub mod FormLaws
 pub mod StatementLaws
 pub mod CountLaws

@@ -4,9 +4,8 @@ use Rattle.std.proofs.lemmas.Bool.{and_parts, cases_lt, eqb-true, lt-ltb, ltb-tr
 use Rattle.dbp_plan.specs.declared.diagram.ServedBy.{ServedBy}
 use Rattle.dbp_plan.specs.declared.diagram.ServedBy.TheVariants.{Rank}
 use Rattle.dbp_plan.specs.declared.plan.Plan.{Plan}
-use Rattle.dbp_plan.specs.Policies.{served_by}
 use Rattle.rank_order.specs.Instances.{Instance, release_of}
-use Rattle.rank_order.specs.Order.{is_before, key_by}
+use Rattle.rank_order.specs.Order.{ServesByRank, is_before, key_by}
 use Rattle.rank_order.specs.Service.{GoesBefore, IsService, Waits, left_of}
 use Rattle.rank_order.proofs.InstanceEnds.{served_first}
 use Rattle.rank_order.proofs.ServedTicks.{left_falls}
@@ -17,7 +16,7 @@ abbrev pub IsEarlier : Plan → Instance → Instance → Type 0
 IsEarlier p z x = (slice_index p.diagram.ranks z.task < slice_index p.diagram.ranks x.task)
     ⊎ ((slice_index p.diagram.ranks z.task ≡ slice_index p.diagram.ranks x.task) × (release_of p z < release_of p x))
 
-pub by_rank : (p : Plan) → served_by p.diagram.policy ≡ Rank → (z x : Instance) → GoesBefore p z x → IsEarlier p z x
+pub by_rank : (p : Plan) → ServesByRank p.diagram → (z x : Instance) → GoesBefore p z x → IsEarlier p z x
 by_rank p ranked z x before =
     let ranks = p.diagram.ranks in
     let keys : is_before (key_by Rank p.diagram z.task (release_of p z)) (key_by Rank p.diagram x.task (release_of p x)) ≡ true =
@@ -36,7 +35,7 @@ pub record IsBusyPeriod (p : Plan) (serve : ℕ → Option Instance) (i b s : �
   pub quiet : work p serve i b ≡ demand p i b
   pub busy : (u : ℕ) → b ≤ u → u ≤ s → work p serve i b + (u - b) ≤ work p serve i u
 
-module _ (p : Plan) (serve : ℕ → Option Instance) (service : IsService p serve) (ranked : served_by p.diagram.policy ≡ Rank) (i : ℕ) where
+module _ (p : Plan) (serve : ℕ → Option Instance) (service : IsService p serve) (ranked : ServesByRank p.diagram) (i : ℕ) where
   higher_first : (x z : Instance) → is_above p x.task i ≡ true → (x ≡ z) ⊎ GoesBefore p z x → is_above p z.task i ≡ true
   higher_first x z higher (inl same) = subst (λ (y : Instance). is_above p y.task i ≡ true) same higher
   higher_first x z higher (inr before) =

@@ -5,9 +5,8 @@ use Rattle.std.proofs.lemmas.Bool.{cases_lt}
 use Rattle.std.proofs.lemmas.List.{get_or_push, same_lists}
 use Rattle.std.proofs.lemmas.Option.{get_or_from_slice_get, slice_get-get_or, slice_get_within}
 use Rattle.dbp_plan.specs.declared.diagram.Diagram.{Diagram}
-use Rattle.dbp_plan.specs.declared.diagram.ServedBy.TheVariants.{Rank}
 use Rattle.dbp_plan.specs.declared.plan.Plan.{Plan}
-use Rattle.dbp_plan.specs.Policies.{served_by}
+use Rattle.rank_order.specs.Order.{ServesByRank}
 use Rattle.rta_check.specs.declared.bound.Bound.{Bound}
 use Rattle.rta_check.specs.declared.bound.Bound.TheVariants.{At, Beyond}
 use Rattle.rta_check.specs.Bounds.{AreBounds, KeepsBounds}
@@ -53,7 +52,7 @@ bounds_more d n bounds b before is = record {
 }
 
 -- each plan that differs in phase keeps the bounds
-pub bounds_kept : (d : Diagram) (bounds : List Bound) (p : Plan) → served_by d.policy ≡ Rank → IsPeriodic d → AreBounds d bounds → DiffersInPhase d p.diagram → KeepsBounds bounds p
+pub bounds_kept : (d : Diagram) (bounds : List Bound) (p : Plan) → ServesByRank d → IsPeriodic d → AreBounds d bounds → DiffersInPhase d p.diagram → KeepsBounds bounds p
 bounds_kept d bounds p ranked periodic are differs = record {
   each = λ i r there. kept_in_each_phase d p i r ranked periodic (are.each i (At r) there) differs;
   no_overrun = λ none. no_overrun d p ranked periodic

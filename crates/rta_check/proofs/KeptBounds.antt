@@ -1,14 +1,13 @@
 -- A plan of periodic tasks under service by rank keeps each response time.
 use Rattle.std.proofs.Common.{◌≡◌, ℕ, zero, suc, ◌+◌, ◌-◌, ◌<◌, ◌≤◌, length, Option, sym, ap, subst, inl, inr, arith}
 use Rattle.std.proofs.lemmas.Bool.{cases_lt}
-use Rattle.dbp_plan.specs.declared.diagram.ServedBy.TheVariants.{Rank}
 use Rattle.dbp_plan.specs.declared.plan.Plan.{Plan}
-use Rattle.dbp_plan.specs.Policies.{served_by}
 use Rattle.dbp_plan.specs.Lookups.{declared_task, no_declared_task}
 use Rattle.dbp_plan.specs.Occurrences.{time_of}
 use Rattle.dbp_plan.proofs.ClockTimes.{a_period_apart}
 use Rattle.rank_order.specs.Ends.{IsEnd}
 use Rattle.rank_order.specs.Instances.{Instance, IsInstance, before_it, release_of}
+use Rattle.rank_order.specs.Order.{ServesByRank}
 use Rattle.rank_order.specs.Service.{IsService, left_of, served_ticks}
 use Rattle.rank_order.specs.ServiceOf.{service}
 use Rattle.rank_order.proofs.BusyPeriods.{IsBusyPeriod, busy_period}
@@ -22,7 +21,7 @@ use Rattle.rta_check.specs.Responses.{KeepsBound, SolvesEquation}
 use Rattle.rta_check.proofs.Demands.{clock_of, demand_within}
 use Rattle.rta_check.proofs.Progress.{progress_at}
 
-module _ (p : Plan) (serve : ℕ → Option Instance) (serving : IsService p serve) (ranked : served_by p.diagram.policy ≡ Rank) (periodic : IsPeriodic p.diagram) (i r : ℕ) (solves : SolvesEquation p.diagram i r) where
+module _ (p : Plan) (serve : ℕ → Option Instance) (serving : IsService p serve) (ranked : ServesByRank p.diagram) (periodic : IsPeriodic p.diagram) (i r : ℕ) (solves : SolvesEquation p.diagram i r) where
   abbrev at : ℕ → Instance
   at n = record { task = i; number = n }
 
@@ -93,7 +92,7 @@ module _ (p : Plan) (serve : ℕ → Option Instance) (serving : IsService p ser
       omega (arith, done, left_falls p serve (at m) (release m + r) (release n) (apart m n is from_one less)))
 
 -- each instance of a task with a response time
-module _ (p : Plan) (ranked : served_by p.diagram.policy ≡ Rank) (periodic : IsPeriodic p.diagram) (x : Instance) (r : ℕ) (solves : SolvesEquation p.diagram x.task r) where
+module _ (p : Plan) (ranked : ServesByRank p.diagram) (periodic : IsPeriodic p.diagram) (x : Instance) (r : ℕ) (solves : SolvesEquation p.diagram x.task r) where
   -- is finished in time
   finished_in_time : IsInstance p x → left_of p (service p) x (release_of p x + r) ≡ 0
   finished_in_time is = finished p (service p) (service_is p) ranked periodic x.task r solves x.number x.number (omega arith) is
@@ -102,7 +101,7 @@ module _ (p : Plan) (ranked : served_by p.diagram.policy ≡ Rank) (periodic : I
   ends_in_time : IsInstance p x → (e : ℕ) × IsEnd (service p) x e × (e ≤ release_of p x + r)
   ends_in_time is = ended_by p (service p) (service_is p) x is (release_of p x + r) (finished_in_time is)
 
-pub keeps_bound : (p : Plan) → served_by p.diagram.policy ≡ Rank → IsPeriodic p.diagram → (i r : ℕ) → SolvesEquation p.diagram i r → KeepsBound p i r
+pub keeps_bound : (p : Plan) → ServesByRank p.diagram → IsPeriodic p.diagram → (i r : ℕ) → SolvesEquation p.diagram i r → KeepsBound p i r
 keeps_bound p ranked periodic i r solves = record {
   none_late = λ t x same late.
       let solves_here : SolvesEquation p.diagram x.task r = subst (λ (j : ℕ). SolvesEquation p.diagram j r) (sym same) solves in

@@ -1,11 +1,10 @@
 -- If the earlier instances of its task are finished at its release, each later tick serves an instance or a task above its own, as long as something is left of it.
 use Rattle.std.proofs.Common.{◌≡◌, ℕ, zero, suc, ◌+◌, ◌-◌, ◌<◌, ◌≤◌, ◌⊎◌, Option, Some, refl, ap, ◌∙◌, subst, inl, inr, arith, slice_index}
 use Rattle.std.proofs.lemmas.Bool.{cases_lt, lt-ltb}
-use Rattle.dbp_plan.specs.declared.diagram.ServedBy.TheVariants.{Rank}
 use Rattle.dbp_plan.specs.declared.plan.Plan.{Plan}
-use Rattle.dbp_plan.specs.Policies.{served_by}
 use Rattle.dbp_plan.specs.Occurrences.{time_of}
 use Rattle.rank_order.specs.Instances.{Instance, IsInstance, release_of}
+use Rattle.rank_order.specs.Order.{ServesByRank}
 use Rattle.rank_order.specs.Service.{GoesBefore, IsService, Waits, left_of, served_ticks}
 use Rattle.rank_order.proofs.BusyPeriods.{by_rank}
 use Rattle.rank_order.proofs.Choices.{same_instance, tick_of, tick_own}
@@ -25,7 +24,7 @@ earlier_number p i m n first second before = elim (cases_lt m n) [
   ]
 ]
 
-module _ (p : Plan) (serve : ℕ → Option Instance) (service : IsService p serve) (ranked : served_by p.diagram.policy ≡ Rank) (i n : ℕ)
+module _ (p : Plan) (serve : ℕ → Option Instance) (service : IsService p serve) (ranked : ServesByRank p.diagram) (i n : ℕ)
     (is : IsInstance p (record { task = i; number = n }))
     (earlier : (m : ℕ) → 1 ≤ m → m < n → left_of p serve (record { task = i; number = m }) (time_of p.batches i n) ≡ 0) where
   abbrev own : Instance

@@ -12,12 +12,10 @@ use Rattle.std.proofs.lemmas.List.Sums.{count_by-le-length, length-filter, passe
 use Rattle.std.proofs.lemmas.Option.{same_Some, slice_get-get_or, slice_get-map, slice_get_within}
 use Rattle.dbp_plan.specs.declared.diagram.Diagram.{Diagram}
 use Rattle.dbp_plan.specs.declared.diagram.Link.{Link}
-use Rattle.dbp_plan.specs.declared.diagram.ServedBy.TheVariants.{Rank}
 use Rattle.dbp_plan.specs.declared.plan.Plan.{Plan}
 use Rattle.dbp_plan.specs.ListItems.{after_place, all_place, front_place, pair_at}
 use Rattle.dbp_plan.specs.Lookups.{task_at}
 use Rattle.dbp_plan.specs.Occurrences.{count_until, times_of}
-use Rattle.dbp_plan.specs.Policies.{served_by}
 use Rattle.dbp_plan.specs.Ranked.{IsRanked}
 use Rattle.dbp_plan.specs.Times.{Rises, has_come, times-rise}
 use Rattle.dbp_plan.proofs.FirstIndexes.{first-below}
@@ -27,6 +25,7 @@ use Rattle.dbp_plan.proofs.TaskTimes.{come_counted}
 use Rattle.dbp_slots.specs.Slots.{counts_of, is_to_lower, longest_delay}
 use Rattle.dia_check.proofs.LinkLists.{any-at}
 use Rattle.rank_order.specs.Instances.{Instance, IsInstance, release_of}
+use Rattle.rank_order.specs.Order.{ServesByRank}
 use Rattle.rank_order.specs.Service.{IsService}
 use Rattle.rank_order.specs.ServiceOf.{service}
 use Rattle.rank_order.proofs.InstanceEnds.{has_end}
@@ -38,7 +37,7 @@ use Rattle.slot_need.proofs.Readers.{some-firings}
 use Rattle.slot_need.proofs.Served.{ends-late, instance-cases, own-count, cost-some}
 use Rattle.slot_need.proofs.TaskFirings.{inside-scenario, is-reader, not-itself, readers-rise}
 
-module _ (d : Diagram) (w : ℕ) (there : w < length d.tasks) (fixed : served_by d.policy ≡ Rank) (ranked : IsRanked d) (p : Plan) (is : IsScenario d w p) (serves : IsService p (service p)) where
+module _ (d : Diagram) (w : ℕ) (there : w < length d.tasks) (fixed : ServesByRank d) (ranked : IsRanked d) (p : Plan) (is : IsScenario d w p) (serves : IsService p (service p)) where
   abbrev count : ℕ
   count = firing_count d w
 

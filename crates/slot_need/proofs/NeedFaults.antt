@@ -17,6 +17,7 @@ use Rattle.dbp_plan.specs.Lookups.{no_declared_task, task_at}
 use Rattle.dbp_plan.specs.Policies.{served_by}
 use Rattle.dia_check.proofs.LinkLists.{any-at}
 use Rattle.dia_check.proofs.PortLaws.{position-there}
+use Rattle.rank_order.specs.Order.{ServesByRank}
 use Rattle.slot_need.specs.declared.fail.NeedFail.{NeedFail}
 use Rattle.slot_need.specs.declared.fail.NeedFail.TheVariants.{NoMemory, NotFixed, NotOnEvents, SharedEvent, TooLong}
 use Rattle.slot_need.specs.Faults.{fault_under, is_off_events, is_periodic, is_same_event, is_sharing, length_fault, need_fault}
@@ -38,10 +39,8 @@ record IsFaultless (by : ServedBy) (off shared : Option ℕ) (end : ℕ) : Type 
   pub short : end ≤ MAX_TIME
 
 no-fault : (by : ServedBy) (off shared : Option ℕ) (end : ℕ) → fault_under by off shared end ≡ None → IsFaultless by off shared end
-no-fault Deadline off shared end none = absurd (cc)
-no-fault Rank (Some task) shared end none = absurd (cc)
-no-fault Rank None (Some task) end none = absurd (cc)
 no-fault Rank None None end none = record { fixed = refl; on_events = refl; apart = refl; short = short-enough end none }
+no-fault _ _ _ end none = absurd (cc)
 
 -- ---- what a fault says
 
@@ -127,7 +126,7 @@ module _ (d : Diagram) (w : ℕ) (none : need_fault d w ≡ None) where
   faultless : IsFaultless (served_by d.policy) (position is_off_events d.tasks) (find (is_sharing d) (range_with_len 0 (length d.tasks))) (scenario_end d w)
   faultless = no-fault (served_by d.policy) (position is_off_events d.tasks) (find (is_sharing d) (range_with_len 0 (length d.tasks))) (scenario_end d w) none
 
-  pub by-rank : served_by d.policy ≡ Rank
+  pub by-rank : ServesByRank d
   by-rank = faultless.fixed
 
   pub short-scenario : scenario_end d w ≤ MAX_TIME

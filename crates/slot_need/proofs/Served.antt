@@ -6,16 +6,13 @@ use Rattle.std.proofs.Math.Nat.{mul-le-mul_right}
 use Rattle.std.proofs.lemmas.Bool.{and_parts, both_ways, cases_Bool, cases_eq, cases_lt, eq-eqb, eqb-true, lt-ltb, ltb-true}
 use Rattle.std.proofs.lemmas.List.FromFn.{get_or-map-range_with_len, length-map-range_with_len}
 use Rattle.dbp_plan.specs.declared.diagram.Diagram.{Diagram}
-use Rattle.dbp_plan.specs.declared.diagram.ServedBy.{ServedBy}
-use Rattle.dbp_plan.specs.declared.diagram.ServedBy.TheVariants.{Rank, Deadline}
 use Rattle.dbp_plan.specs.declared.plan.Plan.{Plan}
 use Rattle.dbp_plan.specs.Lookups.{declared_task, task_at}
 use Rattle.dbp_plan.specs.Occurrences.{times_of}
-use Rattle.dbp_plan.specs.Policies.{served_by}
 use Rattle.dia_check.proofs.LinkLists.{any-at}
 use Rattle.rank_order.specs.Ends.{IsEnd, NoOverrun}
 use Rattle.rank_order.specs.Instances.{Instance, IsInstance, before_it, release_of}
-use Rattle.rank_order.specs.Order.{is_before, key_by}
+use Rattle.rank_order.specs.Order.{ServesByRank, goes_before}
 use Rattle.rank_order.specs.Service.{GoesBefore, IsService, Ran, Waits, left_of, served_ticks}
 use Rattle.rank_order.proofs.Choices.{same_instance, tick_of, tick_own}
 use Rattle.rank_order.proofs.InstanceEnds.{some_cost}
@@ -27,9 +24,8 @@ use Rattle.slot_need.specs.Scenarios.{firing_count, firing_of_reader, firing_tim
 use Rattle.slot_need.proofs.TaskFirings.{is-reader}
 
 -- under service by rank the higher rank goes first
-ranked-first : (by : ServedBy) (d : Diagram) (i j a b : ℕ) → by ≡ Rank → slice_index d.ranks i < slice_index d.ranks j → IsTrue (is_before (key_by by d i a) (key_by by d j b))
-ranked-first Deadline d i j a b fixed less = absurd (cc)
-ranked-first Rank d i j a b fixed less = rw (lt-ltb (slice_index d.ranks i) (slice_index d.ranks j) less) refl
+ranked-first : (d : Diagram) (i j a b : ℕ) → ServesByRank d → slice_index d.ranks i < slice_index d.ranks j → IsTrue (goes_before d i a j b)
+ranked-first d i j a b fixed less = rw (fixed, lt-ltb (slice_index d.ranks i) (slice_index d.ranks j) less) refl
 
 -- where a number of a list stands
 place-in : (xs : List ℕ) (i : ℕ) → list_any (λ r. r == i) xs ≡ true → (j : ℕ) × (slice_get xs j ≡ Some i)
@@ -39,7 +35,7 @@ place-in (x ∷ xs) i is = elim (cases_Bool (x == i)) [
   | inr isnt ↦ let (j, at) = place-in xs i (rw isnt at is) in (suc j, at)
 ]
 
-module _ (d : Diagram) (w : ℕ) (there : w < length d.tasks) (fixed : served_by d.policy ≡ Rank) (p : Plan) (is : IsScenario d w p) (serve : ℕ → Option Instance) (service : IsService p serve) where
+module _ (d : Diagram) (w : ℕ) (there : w < length d.tasks) (fixed : ServesByRank d) (p : Plan) (is : IsScenario d w p) (serve : ℕ → Option Instance) (service : IsService p serve) where
   abbrev count : ℕ
   count = firing_count d w
 
@@ -134,7 +130,7 @@ module _ (d : Diagram) (w : ℕ) (there : w < length d.tasks) (fixed : served_by
   goes-first x y same reader =
       let lower = (and_parts _ _ (is-reader d w reader.place y.task reader.at).0).0 in
       let less : slice_index d.ranks w < slice_index d.ranks y.task = ltb-true _ _ lower in
-      ranked-first (served_by p.diagram.policy) p.diagram x.task y.task (release_of p x) (release_of p y) (ap (λ (e : Diagram). served_by e.policy) is.diagram ∙ fixed)
+      ranked-first p.diagram x.task y.task (release_of p x) (release_of p y) (subst ServesByRank (sym is.diagram) fixed)
       (subst (λ (e : Diagram). slice_index e.ranks x.task < slice_index e.ranks y.task) (sym is.diagram) (subst (λ (i : ℕ). slice_index d.ranks i < slice_index d.ranks y.task) (sym same) less))
 
   module _ (k : ℕ) (below : k < count) (before : IsThrough k) where

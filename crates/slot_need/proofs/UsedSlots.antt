@@ -11,13 +11,11 @@ use Rattle.std.proofs.Math.Nat.{mul-le-mul_right}
 use Rattle.std.proofs.lemmas.Option.{get_or_from_slice_get, same_Some, slice_get-get_or, slice_get_within}
 use Rattle.dbp_plan.specs.declared.diagram.Diagram.{Diagram}
 use Rattle.dbp_plan.specs.declared.diagram.Link.{Link}
-use Rattle.dbp_plan.specs.declared.diagram.ServedBy.TheVariants.{Rank}
 use Rattle.dbp_plan.specs.declared.plan.Plan.{Plan}
 use Rattle.dbp_plan.specs.declared.schedule.Batch.{Batch}
 use Rattle.dbp_plan.specs.ListItems.{after_place, front_place, pair_at, same_places}
 use Rattle.dbp_plan.specs.Lookups.{link_at, no_link}
 use Rattle.dbp_plan.specs.Occurrences.{count_until, time_of, times_of}
-use Rattle.dbp_plan.specs.Policies.{served_by}
 use Rattle.dbp_plan.specs.Ranked.{IsRanked}
 use Rattle.dbp_plan.proofs.Counts.{count-map}
 use Rattle.dbp_plan.proofs.ListMaps.{from-map}
@@ -26,6 +24,7 @@ use Rattle.dbp_plan.proofs.OwnSamples.{range-place}
 use Rattle.dbp_plan.specs.Times.{count-come}
 use Rattle.dbp_slots.specs.Slots.{counts_of, is_to_lower, longest_delay}
 use Rattle.rank_order.specs.Instances.{Instance}
+use Rattle.rank_order.specs.Order.{ServesByRank}
 use Rattle.rank_order.specs.Service.{IsService}
 use Rattle.rank_order.specs.ServiceOf.{service}
 use Rattle.release_list.specs.Schedule.{aims, claims, seen_by}
@@ -50,7 +49,7 @@ use Rattle.slot_need.proofs.Readers.{some-firings}
 use Rattle.slot_need.proofs.Served.{own-named}
 use Rattle.slot_need.proofs.TaskFirings.{inside-scenario}
 
-module _ (d : Diagram) (w : ℕ) (there : w < length d.tasks) (fixed : served_by d.policy ≡ Rank) (ranked : IsRanked d) (p : Plan) (is : IsScenario d w p) (serves : IsService p (service p))
+module _ (d : Diagram) (w : ℕ) (there : w < length d.tasks) (fixed : ServesByRank d) (ranked : IsRanked d) (p : Plan) (is : IsScenario d w p) (serves : IsService p (service p))
     (number : ℕ) (batch : Batch) (at : slice_get p.batches number ≡ Some batch) (then : batch.time ≡ last_firing d w)
     (s : State) (released : HasReleased p s (number + 1)) (rows : ℕ → ℕ → List ℤ) (sound : HoldsInTenParts p (wiring_of p Ranked) rows s)
     (unknown : (i : ℕ) → (j : ℕ) → slice_get (lower_readers d w) j ≡ Some i → (task_entry s i).known ≡ 0) where
