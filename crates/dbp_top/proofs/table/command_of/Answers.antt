@@ -1,4 +1,4 @@
-use Rattle.std.proofs.Common.{◌≡◌, ℕ, ◌<◌, Some, String, Global, List, length, get_or, refl, sym, ap, subst, ◌∙◌, arith, below_more}
+use Rattle.std.proofs.Common.{ℕ, ◌<◌, Some, String, Global, List, length, get_or, refl, sym, ap, subst, arith, below_more}
 use Rattle.std.proofs.lemmas.Option.{same_Some}
 use Rattle.dbp_top.specs.Commands.{HasAllCommands, CommandRow, Names, NamesBy, by_row, row_of}
 use Rattle.dbp_answers.specs.declared.command.Command.{Command}
