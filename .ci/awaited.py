@@ -3,20 +3,24 @@ time; bench/ measures."""
 
 import time
 
-SECONDS = 120
+SECONDS = 300
 
 
 def wait_until(is_so):
     """Waits until something is so; returns whether it became so."""
-    return wait_for(is_so, bool) is not None
+    try:
+        return bool(wait_for(is_so, bool))
+    except TimeoutError:
+        return False
 
 
 def wait_for(find, is_wanted):
-    """Waits until a call finds what is wanted, and returns that, or nothing if it doesn't come."""
+    """Waits until a call finds what is wanted, and returns that; raises a `TimeoutError` if it doesn't come."""
     stop = time.monotonic() + SECONDS
-    while time.monotonic() < stop:
+    while True:
         found = find()
         if is_wanted(found):
             return found
+        if time.monotonic() > stop:
+            raise TimeoutError(f"after {SECONDS} seconds it is {found!r}")
         time.sleep(0.02)
-    return None

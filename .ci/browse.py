@@ -71,10 +71,10 @@ def browser():
 
 def wait_until(driver, script, is_wanted):
     """Waits until a script returns what is wanted, and returns that."""
-    found = wait_for(lambda: driver.execute_script(script), is_wanted)
-    if found is None:
-        raise TimeoutError(script)
-    return found
+    try:
+        return wait_for(lambda: driver.execute_script(script), is_wanted)
+    except TimeoutError as error:
+        raise TimeoutError(f"{script}: {error}") from error
 
 
 def open_page(driver, file):

@@ -81,6 +81,15 @@ EACH_STEP = f"""
 const step = () => {{ {STEP} }}, button = document.getElementById(arguments[0]);
 return Array.from({{ length: arguments[1] }}, () => {{ button.click(); return step(); }});
 """
+# Returns what is told of turns; a run that reached a limit, as on a machine that does much else, is asked for again.
+TURNS = """
+const told = document.getElementById("turns-told"), said = told.textContent;
+if (said.startsWith("a limit is reached")) {
+  told.textContent = "";
+  document.getElementById("turns-number").dispatchEvent(new Event("input"));
+}
+return said;
+"""
 # Notes by the number of an edit how long after it its first report is shown.
 WATCH = """
 const mirror = document.querySelector(".CodeMirror").CodeMirror, view = document.getElementById("report-view");
@@ -172,10 +181,7 @@ def asked_once(driver, call, *given):
 
 def in_frame(driver, call, *given):
     """Returns what a call finds in the report that is shown."""
-    found = wait_for(lambda: asked_once(driver, call, *given), bool)
-    if not found:
-        raise TimeoutError("no report stays")
-    return found[0]
+    return wait_for(lambda: asked_once(driver, call, *given), bool)[0]
 
 
 def told(driver, selector):
@@ -342,17 +348,17 @@ def turns(driver, job):
     """Moves the slider of the turns, and returns what is shown for each number."""
     opened(driver, job)
     driver.find_element(By.ID, "turns-tab").click()
-    found, script = [], "return document.getElementById('turns-told').textContent"
+    found = []
     for keys in ([], [Keys.ARROW_RIGHT], [Keys.ARROW_RIGHT] * 5, [Keys.END]):
         driver.find_element(By.ID, "turns-slider").send_keys(*keys)
         number = driver.execute_script("return document.getElementById('turns-slider').value")
-        said = wait_until(driver, script, lambda it: it.startswith(f"run --turns {number}: "))
+        said = wait_until(driver, TURNS, lambda it: it.startswith(f"run --turns {number}: "))
         found.append([number, said, told(driver, "#turns-lines")[0]])
     field = driver.find_element(By.ID, "turns-number")
     for number in job["numbers"]:
         driver.execute_script("arguments[0].value = ''", field)
         field.send_keys(number)
-        said = wait_until(driver, script, lambda it: it.startswith(f"run --turns {number}: ") or "status" in it)
+        said = wait_until(driver, TURNS, lambda it: it.startswith(f"run --turns {number}: ") or "status" in it)
         found.append([number, said, told(driver, "#turns-lines")[0]])
     return found
 

@@ -14,6 +14,7 @@ TOOLS = TOP / "tools"
 SOURCES = TOOLS / "emitting"
 sys.path[:0] = [str(TOOLS), str(TOP / ".ci")]
 
+from awaited import SECONDS  # noqa: E402
 from canonical import read_document  # noqa: E402
 from emitting import command  # noqa: E402
 from pictures.asking import cut_text  # noqa: E402
@@ -22,8 +23,7 @@ from shared_words import Model, fault_of_words  # noqa: E402
 
 FLAGS = ("-std=c11", "-O2", "-Wall", "-Wextra", "-Wpedantic", "-Wconversion", "-Wshadow", "-Werror")
 SHARED = ("dbp_protocol", "dbp_trace")  # the files that are the same for every diagram
-SECONDS = 20  # of a run of a trace
-COMPILE_SECONDS = 120
+COMPILE_SECONDS = SECONDS  # which are those of a run; bench/emit_c_faults.py gives that fewer
 MOST_BYTES = 1_048_576
 FIRST_LINES = 400  # of `mean`, which are tried with seeds and a record
 NAME = "it"

@@ -16,11 +16,11 @@ from pathlib import Path
 TOP = Path(__file__).resolve().parent.parent
 sys.path.insert(0, str(TOP / ".ci"))
 
+from awaited import SECONDS  # noqa: E402
 from served import Served  # noqa: E402
 from stand_ins import write_program  # noqa: E402
 
 NOBODY = 65534
-SECONDS = 120
 SYSTEM = "/usr/local/sbin:/usr/local/bin:/usr/sbin:/usr/bin:/sbin:/bin"
 GOOD, REFUSED, TABLE = "two_rates.dbp", "refused/18_undelayed_upward.dbp", "two_rates.dbp.stdout"
 

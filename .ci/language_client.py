@@ -8,9 +8,10 @@ import threading
 import time
 from pathlib import Path
 
+from awaited import SECONDS
+
 TOP = Path(__file__).resolve().parent.parent
 SERVER = TOP / "tools" / "language_server"
-SECONDS = 300  # after which a client takes the server for one that hangs
 TREES = {"textDocument": {"documentSymbol": {"hierarchicalDocumentSymbolSupport": True}}}
 
 

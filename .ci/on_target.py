@@ -3,6 +3,7 @@
 import re
 from pathlib import Path
 
+from awaited import SECONDS
 from compiled import BESIDE, COMPILE_SECONDS, FLAGS, NAME, SHORT_WORDS, TOOLS
 from compiled import answered, emitted, executed, folder, must, same_lines
 from pictures.service import rank_order
@@ -12,7 +13,6 @@ NEEDED = (CROSS, EMULATOR)
 CROSS_FLAGS = ("-mcpu=cortex-m3", "-mthumb", "--specs=nosys.specs", "-nostartfiles", "-T", BESIDE / "cortex_m3.ld")
 EMULATED = (EMULATOR, "-M", "mps2-an385", "-display", "none", "-monitor", "none", "-serial", "stdio", "-semihosting",
             "-icount", "shift=3", "-kernel")
-SECONDS = 60
 RELOADS = (500, 100)  # ticks of the clock between interrupts of the timer
 ABOVE, BELOW = 0, 0xF0  # the tasks: the priority of the timer's interrupt
 

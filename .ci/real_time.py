@@ -20,11 +20,11 @@ from contextlib import contextmanager, suppress
 from dataclasses import dataclass
 from pathlib import Path
 
+from awaited import SECONDS, wait_for
 from compiled import BESIDE, COMPILE_SECONDS, FLAGS, NAME, TOOLS, TOP, answered, emitted, executed, must, same_lines
 from pictures.service import rank_order
 
 NOBODY = 65534
-SECONDS = 120
 ORDINARY = "it runs as an ordinary user"
 TICK = 10**6  # nanoseconds
 TICKS = 2_000
@@ -227,13 +227,7 @@ def threads_of(pid):
 
 def wait_for_threads(pid, names):
     """Returns the threads of a process once it has those of these names."""
-    for _ in range(500):
-        found = threads_of(pid)
-        if all(name[:15] in found for name in names):
-            return found
-        time.sleep(0.01)
-    must(False, f"there are the threads {sorted(found)}")
-    return {}
+    return wait_for(lambda: threads_of(pid), lambda found: all(name[:15] in found for name in names))
 
 
 def interrupt(pid, thread, number=signal.SIGUSR1):

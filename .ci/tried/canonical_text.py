@@ -5,8 +5,9 @@ import sys
 from pathlib import Path
 
 TOP = Path(__file__).resolve().parent.parent.parent
-sys.path.insert(0, str(TOP / "tools"))
+sys.path[:0] = [str(TOP / "tools"), str(TOP / ".ci")]
 
+from awaited import SECONDS  # noqa: E402
 from canonical import Every, read_document  # noqa: E402
 
 
@@ -49,7 +50,7 @@ def lines_of(document):
 def lost(program):
     """Returns the first document of which a line is lost or changed."""
     for file in sorted([*(TOP / "examples").rglob("*.dbp"), *(TOP / "cases").rglob("*.dbp")]):
-        ran = subprocess.run([program, "form"], input=file.read_bytes(), capture_output=True, timeout=60, check=False)
+        ran = subprocess.run([program, "form"], input=file.read_bytes(), capture_output=True, timeout=SECONDS, check=False)
         lines = ran.stdout.decode().splitlines()
         if ran.returncode == 0 and sorted(lines_of(read_document(ran.stdout))) != sorted(lines):
             return f"{file.relative_to(TOP)}: a line is lost or changed"

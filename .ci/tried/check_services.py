@@ -15,8 +15,9 @@ TOP = Path(__file__).resolve().parents[2]
 CHECK = TOP / "tools" / "check"
 WRITTEN = Path(__file__).resolve().parent / "check"
 
-sys.path.insert(0, str(TOP / "tools"))
+sys.path[:0] = [str(TOP / "tools"), str(TOP / ".ci")]
 
+from awaited import SECONDS  # noqa: E402
 from checking.command import judged  # noqa: E402
 from checking.regions import Checked  # noqa: E402
 from checking.services import quality_text, sarif_text  # noqa: E402
@@ -234,7 +235,7 @@ def texts_of(program, words, text=b"", folder=TOP):
     found = []
     for option in ("--sarif", "--code-quality"):
         command = [sys.executable, "-B", CHECK, "--program", program, option, *words]
-        ran = subprocess.run(command, input=text, capture_output=True, cwd=folder, timeout=60, check=False)
+        ran = subprocess.run(command, input=text, capture_output=True, cwd=folder, timeout=SECONDS, check=False)
         must(not ran.stderr, f"it said {ran.stderr[-300:]!r}")
         found.append((ran.returncode, ran.stdout.decode()))
     (status, sarif), (other, quality) = found

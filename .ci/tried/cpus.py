@@ -15,6 +15,7 @@ TOP = Path(__file__).resolve().parents[2]
 MADE = TOP / ".ci" / "made"
 sys.path[:0] = [str(TOP / "tools"), str(TOP / ".ci")]
 
+from awaited import SECONDS  # noqa: E402
 from canonical import read_document  # noqa: E402
 from scripts import with_script  # noqa: E402
 
@@ -37,7 +38,7 @@ def made(name):
 
 def answer(program, words, text):
     """Returns the status of the program and what it prints."""
-    ran = subprocess.run([program, *words], input=text, capture_output=True, timeout=60, check=False)
+    ran = subprocess.run([program, *words], input=text, capture_output=True, timeout=SECONDS, check=False)
     return ran.returncode, ran.stdout
 
 

@@ -20,6 +20,7 @@ sys.path.insert(0, str(TOP / ".ci"))
 import compiled  # noqa: E402
 import on_target  # noqa: E402
 import real_time  # noqa: E402
+from awaited import SECONDS  # noqa: E402
 from compiled import NAME, SHORT_FLAGS, SHORT_WORDS, Toolchain, answered, emitted, executed, must, same_lines  # noqa: E402
 from emitting.costs import cost_of_instance, cost_of_release, table_bytes  # noqa: E402
 from ending import Status  # noqa: E402
@@ -33,7 +34,6 @@ SHORT_BESIDE = (compiled.compare_operators, compiled.compare_tables, compiled.co
                 compiled.compare_releases, compiled.compare_words, compiled.compare_orders)
 DEPLOYED = TOP / "examples" / "deploy"
 BOUNDS = ["brake,1,100", "current,2,5", "speed,4,10", "position,17,50"]
-SECONDS = 60
 INSTANCE_STEPS = ("start", "hear", "look", "take", "shut", "put", "done", "end")
 
 # What cppcheck says, as docs/DEPLOYING.md explains it: Linux reads the fields that the file doesn't.

@@ -26,6 +26,7 @@ from pathlib import Path
 TOP = Path(__file__).resolve().parents[2]
 sys.path.insert(0, str(TOP / ".ci"))
 
+from awaited import SECONDS  # noqa: E402
 from doc_pages import blocks_and_prose, pages  # noqa: E402
 
 PROGRAMS = ("dbp", "./dbp", "./try")
@@ -34,7 +35,6 @@ HEADERS = ("dbp 1", "dbp 2")
 BESIDE = ("expect", "props")
 LEFT_OUT = ".."
 STATUS = "$ echo $?"
-SECONDS = 60
 UNKNOWN = "nothing says what this block is: a document, a change or an example, or a word after its fence"
 # The exit status that goes with a line of output; without such a line it is 0.
 STATUSES = (("refused: ", 1), ("illegal step ", 1), ("overrun: ", 3))

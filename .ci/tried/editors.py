@@ -15,6 +15,7 @@ from pathlib import Path
 TOP = Path(__file__).resolve().parents[2]
 sys.path.insert(0, str(TOP / ".ci"))
 
+from awaited import SECONDS  # noqa: E402
 from stand_ins import write_program  # noqa: E402
 
 VIM = TOP / "editors" / "vim"
@@ -230,7 +231,7 @@ def answer_of_vim():
         settings += ["set encoding=latin1 fileencodings=latin1 fileformats=unix,dos", f"set runtimepath^={VIM}"]
         words = ["vim", "-es", "-N", "-u", "NONE", "-i", "NONE", "-n"]
         words += [word for setting in settings for word in ("--cmd", setting)]
-        subprocess.run([*words, "-S", script], cwd=TOP, stdin=subprocess.DEVNULL, capture_output=True, timeout=30)
+        subprocess.run([*words, "-S", script], cwd=TOP, stdin=subprocess.DEVNULL, capture_output=True, timeout=SECONDS)
         return json.loads(answer.read_text(encoding="latin-1"))
 
 

@@ -13,6 +13,7 @@ from pathlib import Path
 TOP = Path(__file__).resolve().parents[2]
 sys.path.insert(0, str(TOP / ".ci"))
 
+from awaited import SECONDS  # noqa: E402
 from stand_ins import write_program  # noqa: E402
 
 GOOD, REFUSED = "examples/preempted.dbp", "examples/refused/18_undelayed_upward.dbp"
@@ -122,7 +123,7 @@ def stream_fault(program, tool, words, stream, way, status):
     quiet = {0: "</dev/null", 1: ">/dev/null", 2: ""}
     given = " ".join(FAILING[stream][way] if it == stream else quiet[it] for it in quiet)
     command = ["sh", "-c", f'exec "$@" {given}', "sh", *call(program, tool, words)]
-    ran = subprocess.run(command, cwd=TOP, stderr=subprocess.PIPE, timeout=60, check=False)
+    ran = subprocess.run(command, cwd=TOP, stderr=subprocess.PIPE, timeout=SECONDS, check=False)
     if ran.returncode != status:
         return f"the status is {ran.returncode}, and {status} is wanted; it said {ran.stderr[-300:]!r}"
     return said_traceback(ran.stderr)
@@ -155,7 +156,7 @@ def interrupt_fault(program, tool, words):
         (room / "out").write_text("old")
         wanted = {"out", "program"}
         words = ["--program", interrupting(program, room), *words, GOOD] + ["-o", str(room / "out")] * (tool != "check")
-        ran = subprocess.run(call(program, tool, words), cwd=TOP, capture_output=True, timeout=60, check=False)
+        ran = subprocess.run(call(program, tool, words), cwd=TOP, capture_output=True, timeout=SECONDS, check=False)
         if ran.returncode != 130 or ran.stdout or ran.stderr:
             return f"the status is {ran.returncode}; it said {ran.stderr[-300:]!r}"
         is_kept = (room / "out").read_text() == "old" and {it.name for it in room.iterdir()} == wanted
@@ -168,7 +169,7 @@ def half_fault(number):
         out = Path(place) / "out"
         out.write_text("old")
         command = [sys.executable, "-B", "-c", HALF, str(int(number)), str(out)]
-        ran = subprocess.run(command, cwd=TOP / "tools", capture_output=True, timeout=60, check=False)
+        ran = subprocess.run(command, cwd=TOP / "tools", capture_output=True, timeout=SECONDS, check=False)
         left = {it.name: it.read_text() for it in Path(place).iterdir()}
     if ran.returncode != 130 or ran.stderr or left != {"out": "old"}:
         return f"the status is {ran.returncode}; the files are {left}; it said {ran.stderr[-300:]!r}"
@@ -194,7 +195,7 @@ def written_fault(program, tool, words):
 
 def other_fault(tool, program, status):
     """Returns how a tool ends with a program that isn't dbp, if that isn't as wanted."""
-    ran = subprocess.run(call(program, tool, [GOOD]), cwd=TOP, capture_output=True, timeout=60, check=False)
+    ran = subprocess.run(call(program, tool, [GOOD]), cwd=TOP, capture_output=True, timeout=SECONDS, check=False)
     if ran.returncode != status:
         return f"the status is {ran.returncode}, and {status} is wanted; it said {ran.stderr[-300:]!r}"
     is_place = status == 70 and f"{GOOD}:1:1".encode() in ran.stderr
@@ -232,7 +233,7 @@ def no_rt_fault(words, start):
     with tempfile.TemporaryDirectory() as place:
         room = Path(place)
         how = {"cwd": fresh_clone(room), "env": {**os.environ, "PATH": path_without_rt(room)}}
-        ran = subprocess.run(words, stdin=subprocess.DEVNULL, capture_output=True, timeout=60, check=False, **how)
+        ran = subprocess.run(words, stdin=subprocess.DEVNULL, capture_output=True, timeout=SECONDS, check=False, **how)
     lines = ran.stderr.decode().splitlines()
     is_wanted = len(lines) == 1 and lines[0].startswith(f"{start}rt isn't on the path: the command of the Rattle kit ")
     if ran.returncode != 70 or ran.stdout or not is_wanted:

@@ -2,11 +2,17 @@
 
 import os
 import subprocess
+import sys
 import tempfile
 from functools import partial
 from pathlib import Path
 
-EXAMPLES = Path(__file__).resolve().parents[2] / "examples"
+TOP = Path(__file__).resolve().parents[2]
+sys.path.insert(0, str(TOP / ".ci"))
+
+from awaited import SECONDS  # noqa: E402
+
+EXAMPLES = TOP / "examples"
 EXAMPLE = EXAMPLES / "two_rates.dbp"
 UNKNOWN = EXAMPLES / "refused" / "11_unknown.dbp"
 NOT_FIXED = EXAMPLES / "refused_rta" / "31_not_fixed.dbp"
@@ -76,7 +82,7 @@ def fault_of(program, words, document, is_full, status):
         folder = os.open("/", os.O_RDONLY)
         try:
             streams = {"stdin": folder if document is None else given, "stdout": full if is_full else kept}
-            ran = subprocess.run([program, *words], stderr=subprocess.DEVNULL, timeout=60, check=False, **streams)
+            ran = subprocess.run([program, *words], stderr=subprocess.DEVNULL, timeout=SECONDS, check=False, **streams)
         finally:
             os.close(folder)
         kept.seek(0)

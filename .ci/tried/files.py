@@ -9,6 +9,10 @@ from functools import partial
 from pathlib import Path
 
 TOP = Path(__file__).resolve().parents[2]
+sys.path.insert(0, str(TOP / ".ci"))
+
+from awaited import SECONDS  # noqa: E402
+
 EXAMPLE = (TOP / "examples" / "preempted.dbp").read_bytes()
 NOBODY = 65534
 
@@ -56,7 +60,7 @@ def run_tool(program, tool, words, **how):
     """Runs a tool on words that are bytes, in a folder that is removed then unless another is named."""
     command = [sys.executable, TOP / "tools" / tool[0], *tool[1:], "--program", program, *words]
     with tempfile.TemporaryDirectory() as place:
-        how = {"cwd": place, "stdin": subprocess.DEVNULL, "capture_output": True, "timeout": 60, **how}
+        how = {"cwd": place, "stdin": subprocess.DEVNULL, "capture_output": True, "timeout": SECONDS, **how}
         return subprocess.run(command, check=False, **how)
 
 
@@ -112,7 +116,7 @@ def right_fault(program, tool, words, file_right, folder_right, status):
         os.chmod(place, folder_right)
         command = [python, "-B", TOP / "tools" / tool[0], *tool[1:], "--program", program, *words, "a.dbp"]
         who = {"user": NOBODY, "group": NOBODY, "extra_groups": []} if is_root else {}
-        how = {"cwd": place, "stdin": subprocess.DEVNULL, "capture_output": True, "timeout": 60, **who}
+        how = {"cwd": place, "stdin": subprocess.DEVNULL, "capture_output": True, "timeout": SECONDS, **who}
         ran = subprocess.run(command, check=False, **how)
         os.chmod(place, 0o700)
         file.chmod(0o600)

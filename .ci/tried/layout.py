@@ -9,8 +9,9 @@ from pathlib import Path
 
 TOP = Path(__file__).resolve().parents[2]
 WRITTEN = Path(__file__).resolve().parent / "layout"
-sys.path.insert(0, str(TOP / "tools"))
+sys.path[:0] = [str(TOP / "tools"), str(TOP / ".ci")]
 
+from awaited import SECONDS  # noqa: E402
 from layout import laid_out  # noqa: E402
 from program import run_program  # noqa: E402
 
@@ -100,7 +101,7 @@ def call_fault(program, words, documents, status, said, changed):
         for name, text in documents.items():
             (Path(place) / name).write_bytes(text)
         command = [sys.executable, TOP / "tools" / "format", *named, *words, *documents]
-        ran = subprocess.run(command, cwd=place, capture_output=True, timeout=60, check=False)
+        ran = subprocess.run(command, cwd=place, capture_output=True, timeout=SECONDS, check=False)
         left = {it.name: it.read_bytes() for it in Path(place).iterdir()}
     if ran.returncode != status or ran.stdout or ran.stderr.decode().splitlines() != [f"format: {it}" for it in said]:
         return f"the status is {ran.returncode}; it said {ran.stderr[-300:]!r}"
@@ -110,7 +111,7 @@ def call_fault(program, words, documents, status, said, changed):
 def streams_fault(program):
     """Returns how a document differs that goes from standard input to standard output."""
     command = [sys.executable, TOP / "tools" / "format", "--program", str(program), "-"]
-    ran = subprocess.run(command, input=SPREAD, capture_output=True, timeout=60, check=False)
+    ran = subprocess.run(command, input=SPREAD, capture_output=True, timeout=SECONDS, check=False)
     return None if (ran.returncode, ran.stdout, ran.stderr) == (0, CANONICAL, b"") else f"it gives {ran}"
 
 

@@ -20,6 +20,7 @@ TOP = Path(__file__).resolve().parents[2]
 sys.path.insert(0, str(TOP / ".ci"))
 
 import installed  # noqa: E402
+from awaited import SECONDS  # noqa: E402
 from installed import NOBODY, Installed, discard, executed, fault_of, must, package, package_file  # noqa: E402
 from stand_ins import write_program  # noqa: E402
 
@@ -407,7 +408,7 @@ def compare_zsh(it):
     for typed, wanted in (("dbp-emit_c --target ", "core*posix*trace"), ("dbp-emit_c --tic", "posix: the length"),
                           ("dbp-check --no-", "no-warnings"),
                           ("dbp ", "mean"), ("dbp-waves --com", "command"), ("dbp sim --", "--record")):
-        found = executed(["timeout", "30", "zsh", "-f", "-c", ZSH, "zsh", folder, typed, wanted])[0]
+        found = executed(["timeout", str(SECONDS // 2), "zsh", "-f", "-c", ZSH, "zsh", folder, typed, wanted])[0]
         must(found == b"found\n", f"`{typed}` isn't completed to {wanted}")
 
 
@@ -433,7 +434,7 @@ def compare_vim(it):
         path = str(editors).replace(" ", "\\ ")
         words = ["vim", "-es", "-N", "-u", "NONE", "-i", "NONE", "-n", "--cmd", f"set rtp^={path}"]
         subprocess.run([*words, "-c", "compiler dbp", "-c", f"call writefile([&makeprg], '{answer}')", "-c", "qall!"],
-                       stdin=subprocess.DEVNULL, capture_output=True, timeout=30, check=False)
+                       stdin=subprocess.DEVNULL, capture_output=True, timeout=SECONDS, check=False)
         found = answer.read_text() if answer.exists() else ""
     must(found == f"'{it.prefix}/lib/dbp/tools/check' %:S\n", f"it is {found!r}")
 

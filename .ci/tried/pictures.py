@@ -10,7 +10,6 @@ import re
 import subprocess
 import sys
 import tempfile
-import time
 from collections import Counter
 from pathlib import Path
 from xml.etree import ElementTree
@@ -19,6 +18,7 @@ TOP = Path(__file__).resolve().parent.parent.parent
 WANTED = Path(__file__).resolve().parent / "pictures"
 sys.path[:0] = [str(TOP / "tools"), str(TOP / ".ci")]
 
+from awaited import SECONDS  # noqa: E402
 from pictures import (  # noqa: E402
     asking,
     commands,
@@ -139,7 +139,7 @@ WALKED, DRAWN = 80, 16  # documents on processors whose courses are compared, an
 
 REPLAY = {Command.SIM: ["replay", "--ranked"], Command.CPUS: ["replay"]}
 
-MOST_ROWS, MOST_SECONDS = 50_000, 12
+MOST_ROWS = 50_000
 
 RULES = "".join([*styles.STYLES, *styles.BOX_STYLES])
 SIZES = {name: int(size) for name, size in re.findall(r"\.([a-z-]+)\{font-size:(\d+)px", RULES)}
@@ -150,7 +150,7 @@ def run_tool(program, words):
     """Runs a tool at the top of the repository, with this program unless the words name another."""
     named = [] if "--program" in words else ["--program", str(program)]
     tool = [sys.executable, "-B", f"tools/{words[0]}"]
-    return subprocess.run([*tool, *words[1:], *named], cwd=TOP, capture_output=True, timeout=60, check=False)
+    return subprocess.run([*tool, *words[1:], *named], cwd=TOP, capture_output=True, timeout=SECONDS, check=False)
 
 
 def difference(found, wanted):
@@ -384,14 +384,10 @@ def long_text(first):
 
 
 def long_fault(program, first):
-    """Returns how the timeline of a long document that overruns differs, or how long it took beside the program. With
-    work that is no multiple of the document's length it takes minutes."""
-    start = time.thread_time()
+    """Returns how the timeline of a long document that overruns differs. With work that is no multiple of the document's
+    length it takes minutes."""
     picture, _ = timeline.draw_timeline(asking.simulated(program, long_text(first)), "document", (None, None))
-    seconds = time.thread_time() - start
-    if f"overrun: a {first + 1} at {2 * first - 1}" not in picture:
-        return "the overrun isn't told"
-    return None if seconds < MOST_SECONDS else f"it took {seconds:.1f} seconds of a processor"
+    return None if f"overrun: a {first + 1} at {2 * first - 1}" in picture else "the overrun isn't told"
 
 
 def trials(program):

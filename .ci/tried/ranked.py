@@ -12,8 +12,9 @@ from functools import partial
 from pathlib import Path
 
 TOP = Path(__file__).resolve().parents[2]
-sys.path.insert(0, str(TOP / "tools"))
+sys.path[:0] = [str(TOP / "tools"), str(TOP / ".ci")]
 
+from awaited import SECONDS  # noqa: E402
 from canonical import split_sections  # noqa: E402
 
 FOLDERS = ("examples", "cases", "docs", ".ci")
@@ -27,7 +28,7 @@ RECORD, RANKED = ["sim", "--record"], ["replay", "--ranked"]
 
 def answer(program, words, text):
     """Returns the status of the program and what it prints."""
-    ran = subprocess.run([program, *words], input=text, capture_output=True, timeout=60, check=False)
+    ran = subprocess.run([program, *words], input=text, capture_output=True, timeout=SECONDS, check=False)
     return ran.returncode, ran.stdout
 
 

@@ -19,6 +19,7 @@ MODEL = TOP / ".ci" / "made" / "drawn_processors.py"
 WANTED = Path(__file__).resolve().parent / "response"
 sys.path[:0] = [str(TOP / "tools"), str(TOP / "bench"), str(TOP / ".ci")]
 
+from awaited import SECONDS  # noqa: E402
 from documents import many_tasks, one_task  # noqa: E402
 from responses.bounds import Assumed, Demand, least_response  # noqa: E402
 from responses.chains import Port  # noqa: E402
@@ -271,7 +272,7 @@ def processors_fault(program, seed):
 def call(program, words, document=b""):
     """Runs the tool at the top of the repository."""
     command = [sys.executable, "-B", "tools/response", "--program", str(program), *words]
-    return subprocess.run(command, cwd=TOP, input=document, capture_output=True, timeout=120, check=False)
+    return subprocess.run(command, cwd=TOP, input=document, capture_output=True, timeout=SECONDS, check=False)
 
 
 def exact_fault(program, file, way, status, words):

@@ -5,13 +5,13 @@ from functools import partial
 from pathlib import Path
 
 TOP = Path(__file__).resolve().parents[2]
-sys.path.insert(0, str(TOP / "bench"))
+sys.path[:0] = [str(TOP / "bench"), str(TOP / ".ci")]
 
+from awaited import SECONDS  # noqa: E402
 from hangs import documents_of, found_in  # noqa: E402
 from running import run  # noqa: E402
 
 RUNS = 100
-SECONDS = 60
 
 
 def fault_of(program, document):

@@ -10,7 +10,6 @@ The outs of .ci/tried/tests_of_diagrams/level.dbp, computed by hand:
   judge.risen      0           1           0
 """
 
-import os
 import random
 import re
 import shutil
@@ -18,7 +17,6 @@ import signal
 import subprocess
 import sys
 import tempfile
-import time
 import xml.etree.ElementTree as ElementTree
 from functools import partial
 from html.parser import HTMLParser
@@ -31,6 +29,7 @@ CRUISE = TOP / "examples" / "cruise_control" / "cruise_control.dbp"
 
 sys.path[:0] = [str(TOP / "tools"), str(TOP / ".ci")]
 
+from awaited import SECONDS, wait_for, wait_until  # noqa: E402
 from canonical import read_document  # noqa: E402
 from checking.reading import read_document as read_places  # noqa: E402
 from checking.trees import Tree  # noqa: E402
@@ -48,7 +47,6 @@ from testing.properties import read_properties, tokens_of_line  # noqa: E402
 from testing.standing import Standing  # noqa: E402
 
 DRAWN = 75  # documents; bench/testing.py draws 1,000
-SECONDS = 10  # of a processor, in which the tests of the example find what is planted in it
 LEAST, MOST = -(2**63), 2**63 - 1
 
 # Expressions and their values, by docs/LANGUAGE.md.
@@ -233,7 +231,7 @@ def tried(trial, *given):
 def test(program, *words, status=0):
     """Calls the tool, which must end with this status, and returns its standard output and its standard error."""
     command = [sys.executable, "-S", TEST, "--program", program, *map(str, words)]
-    ran = subprocess.run(command, cwd=TOP, stdin=subprocess.DEVNULL, capture_output=True, timeout=120, check=False)
+    ran = subprocess.run(command, cwd=TOP, stdin=subprocess.DEVNULL, capture_output=True, timeout=SECONDS, check=False)
     said = ran.stderr.decode("utf-8", "replace")
     must("Traceback" not in said, said[-400:])
     must(ran.returncode == status, f"the status is {ran.returncode}, and {status} is wanted; it said {said[-400:]!r}")
@@ -600,23 +598,18 @@ def compare_planted(program, room):
             shutil.copy(CRUISE.with_suffix(ending), folder)
         (folder / CRUISE.name).write_text(text.replace(old, new))
     words = [sys.executable, "-S", TEST, "--program", program, "--tap", room]
-    child = subprocess.Popen(words, stdout=subprocess.PIPE, stderr=subprocess.DEVNULL)
-    with child.stdout as source:
-        lines = source.read().decode().splitlines()
-    _, status, used = os.wait4(child.pid, 0)
-    child.returncode = os.waitstatus_to_exitcode(status)
+    ran = subprocess.run(words, stdout=subprocess.PIPE, stderr=subprocess.DEVNULL, check=False)
+    lines = ran.stdout.decode().splitlines()
     found = {int(it[1]) for it in (re.search(r"^not ok .*/(\d\d)/cruise_control", line) for line in lines) if it}
     missed = [PLANTED[number - 1] for number in range(1, len(PLANTED)) if number not in found]
     must(not missed, f"these aren't found: {missed}")
-    must(len(PLANTED) not in found and child.returncode == 1, "the last one changes nothing, and is found")
-    seconds = used.ru_utime + used.ru_stime
-    must(seconds < SECONDS * len(PLANTED), f"it took {seconds:.1f} seconds")
+    must(len(PLANTED) not in found and ran.returncode == 1, "the last one changes nothing, and is found")
 
 
 def compare_call(program, words, status, text, _):
     """Compares how a call ends."""
     own = [] if "--program" in words else ["--program", program]
-    ran = subprocess.run([sys.executable, "-S", TEST, *own, *words], cwd=TOP, capture_output=True, timeout=60, check=False)
+    ran = subprocess.run([sys.executable, "-S", TEST, *own, *words], cwd=TOP, capture_output=True, timeout=SECONDS, check=False)
     is_wanted = ran.returncode == status and ran.stderr.decode().startswith(text) and b"Traceback" not in ran.stderr
     must(is_wanted, f"the status is {ran.returncode}; it said {ran.stderr[:300]!r}")
 
@@ -633,20 +626,12 @@ def compare_interrupt(program, number, room):
     """Compares what an interrupt leaves of a call with several processes: none of them, and no file."""
     words = ["--traces", "100000", "--jobs", "2", "--junit", str(room / "a.xml"), "--keep", str(room), str(CRUISE)]
     child = subprocess.Popen([sys.executable, "-S", TEST, "--program", program, *words], stderr=subprocess.PIPE)
-    children = []
-    for _ in range(600):
-        children = Path(f"/proc/{child.pid}/task/{child.pid}/children").read_text().split()
-        if len(children) == 2:
-            break
-        time.sleep(0.05)
+    listed = Path(f"/proc/{child.pid}/task/{child.pid}/children")
+    children = wait_for(lambda: listed.read_text().split(), lambda it: len(it) == 2)
     child.send_signal(number)
-    said = child.communicate(timeout=30)[1]
-    must(child.returncode == 130 and not said and len(children) == 2, f"the status is {child.returncode}; it said {said!r}")
-    for _ in range(100):
-        if not any(map(is_running, children)):
-            break
-        time.sleep(0.05)
-    must(not any(map(is_running, children)), "a process still runs")
+    said = child.communicate(timeout=SECONDS)[1]
+    must(child.returncode == 130 and not said, f"the status is {child.returncode}; it said {said!r}")
+    must(wait_until(lambda: not any(map(is_running, children))), "a process still runs")
     must(not list(room.iterdir()), f"the folder has {list(room.iterdir())}")
 
 

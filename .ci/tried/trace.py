@@ -15,8 +15,9 @@ from functools import partial
 from pathlib import Path
 
 TOP = Path(__file__).resolve().parents[2]
-sys.path.insert(0, str(TOP / "tools"))
+sys.path[:0] = [str(TOP / "tools"), str(TOP / ".ci")]
 
+from awaited import SECONDS  # noqa: E402
 from canonical import read_document  # noqa: E402
 from ending import Ended, Status  # noqa: E402
 from program import run_program  # noqa: E402
@@ -27,7 +28,6 @@ GREATEST = 2**63 - 1
 LOGS, HOSTILE = 200, 200  # that are drawn
 EXAMPLE, LOG = "examples/greenhouse.dbp", "examples/greenhouse.csv"
 EXAMPLE_WORDS = ["--tick", "500ms", "--scale", "temperature=10", LOG, EXAMPLE]
-SECONDS = 60
 LAST_LINE = re.compile(rb"(?m)^([ \t]*(?:script|done))[ \t]*(#.*?)?(\r?)$")
 
 # The lengths of a tick, and its seconds.

@@ -4,10 +4,15 @@ prints the same for both documents, but for the line of a refusal; `need` and `r
 
 import re
 import subprocess
+import sys
 from functools import partial
 from pathlib import Path
 
 TOP = Path(__file__).resolve().parents[2]
+sys.path.insert(0, str(TOP / ".ci"))
+
+from awaited import SECONDS  # noqa: E402
+
 FOLDERS = ("examples", "cases", "docs", ".ci")
 LINE = re.compile(rb"refused: line [0-9]+: ")
 TASK = re.compile(rb"^[ \t]*task[ \t]+([A-Za-z_]\w{,23})\b", re.MULTILINE)
@@ -28,7 +33,7 @@ OTHERS = (
 
 def answer(program, words, text):
     """Returns the status of the program and what it prints."""
-    ran = subprocess.run([program, *words], input=text, capture_output=True, timeout=60, check=False)
+    ran = subprocess.run([program, *words], input=text, capture_output=True, timeout=SECONDS, check=False)
     return ran.returncode, ran.stdout
 
 

@@ -50,6 +50,11 @@ class Step(NamedTuple):
         """The step as it is kept: its tokens with one space between."""
         return " ".join(token.text for token in self.tokens)
 
+    @property
+    def is_trace(self):
+        """Whether it is the word `trace` alone, which begins another section and is no step."""
+        return len(self.tokens) == 1 and self.tokens[0].text == "trace"
+
 
 @dataclass
 class Document:

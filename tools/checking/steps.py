@@ -1,5 +1,7 @@
 """Faults of the script's lines: steps without a form, and names that the document doesn't have."""
 
+from dataclasses import replace
+
 from checking.foreign import about_word
 from checking.language import GREATEST_DELAY, GREATEST_SLOT, STEP_FORMS
 from checking.messages import error, error_at
@@ -11,13 +13,15 @@ FORM = {"T": "a task", "W": "a task", "R": "a read", "P": "an out", "S": "a slot
 
 def step_faults(document):
     """Returns the messages of the script's lines, in their order; the lines of a trace are told once."""
-    found, is_in_trace = [], False
+    found, known, is_in_trace = [], {}, False
     for step in document.steps:
-        fault = form_fault(step) or name_fault(step, document)
-        begins_trace = step.text == "trace"
+        text = document.lines[step.line - 1].text
+        if text not in known:
+            known[text] = form_fault(step) or name_fault(step, document)
+        fault = known[text]
         if fault and not (is_in_trace and fault.code == 27 and step.tokens[0].text not in STEP_FORMS):
-            found.append(fault)
-        is_in_trace = is_in_trace or begins_trace
+            found.append(replace(fault, line=step.line))
+        is_in_trace = is_in_trace or step.is_trace
     return found
 
 
@@ -29,7 +33,7 @@ def no_script(document):
 def form_fault(step):
     """Returns the message of a line that has none of the forms of steps, or nothing."""
     tokens, word = step.tokens, step.tokens[0].text
-    if step.text == "trace":
+    if step.is_trace:
         text = "`trace` is no step: all lines from `script` to `done` are steps, so the trace must stand before it"
         return error_at(tokens[0], step.line, 27, text)
     if word not in STEP_FORMS:

@@ -31,7 +31,7 @@ def warnings_of(run, text, document):
 def trace_after_script(document):
     """Yields a warning of a `trace` that belongs to the script."""
     for step in document.steps:
-        if step.text == "trace":
+        if step.is_trace:
             text = "this line and those after it belong to the script: the document has no trace, so each input keeps "
             text += "its first value and no event occurs; `trace` stands before `script`"
             yield warning(step.line, step.tokens[0], "TraceAfterScript", text)
@@ -66,7 +66,7 @@ def used_inputs(document):
 
 def kept_inputs(document):
     """Yields a warning of each input that a task uses and no column of the trace gives values."""
-    if any(step.text == "trace" for step in document.steps):
+    if any(step.is_trace for step in document.steps):
         return
     columns = [cell.text for cell in row_of(document.rows[0]).cells] if document.rows else []
     used = used_inputs(document)
