@@ -38,11 +38,12 @@ def access_fault(name, text):
 
 def crate_fault():
     """Returns the first fault of the crate's files, or nothing."""
-    return next((it for file in sorted(SOURCES.glob("*.rt")) if (it := access_fault(file.name, file.read_text("utf-8")))), None)
+    faults = (access_fault(file.name, file.read_text("utf-8")) for file in sorted(SOURCES.glob("*.rt")))
+    return next(filter(None, faults), None)
 
 
 def let_through(old, new):
-    """Returns that a file is taken in which the one text stands for the other, or nothing."""
+    """Returns whether a file is taken in which the one text stands for the other: that is a fault."""
     text = (SOURCES / "task_calls.rt").read_text("utf-8")
     if old not in text:
         return f"{old!r} isn't in task_calls.rt"
