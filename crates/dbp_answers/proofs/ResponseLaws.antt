@@ -8,7 +8,7 @@ use Rattle.rta_check.specs.declared.fail.RtaFail.{RtaFail}
 use Rattle.rta_check.specs.declared.fail.RtaFail.TheVariants as rta
 use Rattle.rta_check.specs.Bounds.{AreBounds, rta_fault}
 use Rattle.rta_check.proofs.BoundLists.{bounds_kept, some_bounds}
-use Rattle.rta_check.proofs.RtaFaults.{no_fault_fixed, no_fault_periodic, no_memory_fault}
+use Rattle.rta_check.proofs.RtaFaults.{no_fault_ranked, no_fault_periodic, no_memory_fault}
 use Rattle.trace_io.specs.Texts.{Accepts}
 use Rattle.dbp_answers.specs.Answer.{Answers, IsRefused, bounds_of_tasks, made, not_fixed, not_periodic, of_plan, of_plan_refused}
 use Rattle.dbp_answers.specs.BoundLines.{bound_lines}
@@ -47,7 +47,7 @@ module _ (input : List ℕ) (p : Plan) (accepted : Accepts input p) where
 
   -- if each task has one, no release overruns
   bounded-in-time : (bounds : List Bound) → rta_fault p.diagram ≡ None → AreBounds p.diagram bounds → ((task : ℕ) → slice_get bounds task ≢ Some Beyond) → IsInTime p One
-  bounded-in-time bounds none are bounded = (bounds_kept p.diagram bounds p (no_fault_fixed p.diagram none) (no_fault_periodic p.diagram none) are refl).no_overrun bounded
+  bounded-in-time bounds none are bounded = (bounds_kept p.diagram bounds p (no_fault_ranked p.diagram none) (no_fault_periodic p.diagram none) are refl).no_overrun bounded
 
   pub bounded-simulated : (bounds : List Bound) → rta_fault p.diagram ≡ None → AreBounds p.diagram bounds → ((task : ℕ) → slice_get bounds task ≢ Some Beyond)
       → (text : List ℕ) × Answers input Mean Ok text × Answers input (Sim false) Ok text
