@@ -3,6 +3,7 @@ whether they have unsafe code, and the versions. No crate of this repository has
 
 The foreign calls are skipped if neither nm nor readelf is on the machine, and the kit's sources if the kit isn't."""
 
+import os
 import re
 import shutil
 import subprocess
@@ -82,10 +83,17 @@ def words_below_rust(source):
     return {it for kind, it in zip(tokens.kinds, tokens.texts) if kind == "word" and it in BELOW_RUST}
 
 
+def files_of(folder):
+    """Yields the files of a folder, without what rt keeps."""
+    for place, folders, names in os.walk(folder):
+        folders[:] = sorted(it for it in folders if it != "out")
+        yield from (Path(place, it) for it in sorted(names))
+
+
 def below_rust(folder):
-    """Yields what a folder has of unsafe and of foreign code, without what rt keeps."""
-    files = ((it, it.relative_to(folder)) for it in sorted(folder.rglob("*")) if it.is_file())
-    for file, name in ((file, name) for file, name in files if "out" not in name.parts):
+    """Yields what a folder has of unsafe and of foreign code."""
+    for file in files_of(folder):
+        name = file.relative_to(folder)
         if file.suffix in FOREIGN:
             yield f"{name} is foreign code"
         if file.suffix == ".rt":
