@@ -2,8 +2,8 @@
 the comments at the heads of the crates.
 
 A name is looked up in the code of the crates, in the names of their files, in the tools and cases, in the page's own
-examples (which doc_examples.py tries), and among the commands of the program and of `rt`. Words that stand for
-something else have their reason in EXPLAINED. The words after `rt` are skipped if `rt` isn't on the machine.
+examples (which doc_examples.py tries), among what the program calls (which trusted.py compares), and among the commands
+of the program and of `rt`. Words that stand for something else have their reason in EXPLAINED. The words after `rt` are skipped if `rt` isn't on the machine.
 """
 
 import re
@@ -40,6 +40,7 @@ EXPLAINED = {
     "grep": "a command of git",
     "logic": "a word of the line that names the kit",
     "man": "the program that shows the manual page",
+    "objdump": "the program that shows machine code",
     "out/": "what rt keeps of earlier checks, which isn't there in a fresh clone",
     "prev": "a word of the paper",
     "previous": "a word of the paper",
@@ -115,6 +116,17 @@ def listed_commands(program):
 
 
 @lru_cache(maxsize=None)
+def content_of(program):
+    """Returns the bytes of the program's file."""
+    return Path(program).read_bytes()
+
+
+def is_called(program, word):
+    """Returns whether the program's file names what the word names: then a byte 0 is before it and after it."""
+    return b"\0%s\0" % word.encode() in content_of(program)
+
+
+@lru_cache(maxsize=None)
 def kit_commands():
     """Returns the text in which `rt` lists its commands, or nothing if it isn't on the machine."""
     if not shutil.which("rt"):
@@ -153,7 +165,8 @@ def fault_of_span(program, span, own):
         return None if is_path_there(span) else f"no file is named `{span}`"
     if span.startswith("rt "):
         return fault_of_command(program, span)
-    strange = [it for it in WORD.findall(OPTION_OR_HOME.sub("", span)) if not (it in own or is_known(it))]
+    words = WORD.findall(OPTION_OR_HOME.sub("", span))
+    strange = [it for it in words if not (it in own or is_known(it) or is_called(program, it))]
     if strange:
         return f"nothing is named `{strange[0]}`" + (f" (in `{span}`)" if strange[0] != span else "")
     return fault_of_command(program, span)
