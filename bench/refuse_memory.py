@@ -20,9 +20,9 @@ from pathlib import Path
 
 from running import add_program_option, run
 
-TASK = "TASK"  # stands for the name of the document's first task
+TASK, NUMBER, SIZE = "TASK", "N", "SIZE"  # stand for the name of a task, and for numbers
 
-# The commands that read a document.
+# The commands that read a document, and the others.
 COMMANDS = (
     ["mean"],
     ["sim"],
@@ -30,7 +30,7 @@ COMMANDS = (
     ["cpus"],
     ["cpus", "--record"],
     ["run"],
-    ["run", "--turns", "1"],
+    ["run", "--turns", NUMBER],
     ["form"],
     ["upgrade"],
     ["rank"],
@@ -40,6 +40,7 @@ COMMANDS = (
     ["replay"],
     ["replay", "--ranked"],
 )
+READING_NOTHING = (["gen", NUMBER], ["gen", NUMBER, SIZE], ["soak", NUMBER], ["soak", NUMBER, SIZE])
 
 REFUSING = r"""
 #include <errno.h>
@@ -134,10 +135,15 @@ def built(folder):
     return library
 
 
+def tasks_of(document):
+    """Returns the names of the tasks of a document."""
+    return [it.decode() for it in re.findall(rb"^[ \t]*task[ \t]+([A-Za-z_]\w*)", document, re.MULTILINE)]
+
+
 def commands_of(document):
     """Returns the commands for a document: `need` of its first task, if it has any."""
-    name = re.search(rb"^[ \t]*task[ \t]+(\w+)", document, re.MULTILINE)
-    return [[name[1].decode() if name and it is TASK else it for it in words] for words in COMMANDS]
+    given = {TASK: next(iter(tasks_of(document)), TASK), NUMBER: "1", SIZE: "2"}
+    return [[given.get(it, it) for it in words] for words in COMMANDS]
 
 
 def has_wrong_ends(program, words, document, library, folder):
