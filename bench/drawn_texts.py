@@ -178,8 +178,10 @@ def changed_steps(draw, record):
     """Returns the first steps of a record, some of them in another order, doubled, left out, or with another number."""
     steps = record.split(b"\n")[:-1]
     steps = steps[: draw.randrange(min(len(steps), MOST_STEPS) + 1)]
-    for _ in range(draw.choice((0, 0, 1, 2, 9)) if steps else 0):
-        at = draw.randrange(len(steps))
+    for _ in range(draw.choice((0, 0, 1, 2, 9))):
+        at = draw.randrange(len(steps) + 1)
+        if at == len(steps):
+            continue
         if draw.randrange(3):
             steps.insert(max(0, at + draw.randrange(-4, 5)), steps.pop(at))
         elif draw.randrange(2):
