@@ -33,7 +33,7 @@ from running import Calls, program
 
 OK, REFUSED, STOPPED = 0, 1, 130
 BLOCK = 20  # documents of a worker's turn
-TOLD_EACH = 10_000  # calls after which it says how far it is
+TOLD_EACH = 60  # seconds after which it says how far it is
 REFUSED_CALLS = 5  # commands besides `mean` that a refused document is given to
 MOST_TRIES = 2000  # calls in which a document is made smaller
 RARELY = 4  # the threads of `run` take as long as ten other calls: it gets one of so many documents
@@ -73,6 +73,13 @@ class Compared:
         """Adds what came of other calls."""
         self.counts += other.counts
         self.differences += other.differences
+
+    def __str__(self):
+        return f"{self.calls()} calls, {len(self.differences)} differ"
+
+    def calls(self):
+        """Returns how many calls there were."""
+        return sum(self.counts.values())
 
 
 class Comparison:
@@ -188,7 +195,7 @@ def all_compared(options):
                 return
             ended, pending = wait(pending, return_when=FIRST_COMPLETED)
             for found in (it.result() for it in ended):
-                made_calls += sum(found.counts.values())
+                made_calls += found.calls()
                 yield found
 
 
@@ -204,8 +211,7 @@ def tell(options, found, seconds):
             print(f"{len(differences)} like this: {comparison.smaller(first).told()}\n{comparison.text.decode('latin-1')}")
     for (word, status), count in sorted(found.counts.items()):
         print(f"{word or 'no word'}, status {status}: {count}")
-    calls = sum(found.counts.values())
-    print(f"{calls} calls, {calls / seconds:.0f} in a second, {len(found.differences)} differ")
+    print(f"{found}, {found.calls() / seconds:.0f} in a second")
 
 
 def read_options():
@@ -238,13 +244,13 @@ def main():
         for found in all_compared(options):
             keep(options.keep, found.differences)
             all_found.add(found)
-            calls = sum(all_found.counts.values())
-            if calls // TOLD_EACH > told:
-                told = calls // TOLD_EACH
-                print(f"{calls} calls, {len(all_found.differences)} differ", file=sys.stderr, flush=True)
+            seconds = time.monotonic() - start
+            if seconds // TOLD_EACH > told:
+                told = seconds // TOLD_EACH
+                print(f"{seconds:.0f} s: {all_found}", file=sys.stderr, flush=True)
+        tell(options, all_found, time.monotonic() - start)
     except KeyboardInterrupt:
         return STOPPED
-    tell(options, all_found, time.monotonic() - start)
     return 1 if all_found.differences else 0
 
 

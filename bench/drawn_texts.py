@@ -15,7 +15,7 @@ from pathlib import Path
 TOP = Path(__file__).resolve().parent.parent
 sys.path.insert(0, str(TOP / ".ci"))
 
-from documents import MOST_BYTES  # noqa: E402
+from documents import filled  # noqa: E402
 from drawn_documents import NUMBERS, Draw  # noqa: E402
 from mutants import mutant_of  # noqa: E402
 from scenario_texts import drawn_document as drawn_scenario  # noqa: E402
@@ -170,8 +170,7 @@ def in_version_2(draw, text):
 
 def padded(draw, text):
     """Returns a text with so many comments before it that it is about as long as a document may be."""
-    room = MOST_BYTES - len(text) + draw.choice((-1, 0, 0, 1))
-    return b"".join([b"#" * min(99, room - at - 1) + b"\n" for at in range(0, room, 100)]) + text
+    return draw.choice((b"", b" ", b"#\n", b"\n"))[: draw.randrange(3)] + filled(text, b"#" * 99)
 
 
 def changed_steps(draw, record):

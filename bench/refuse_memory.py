@@ -27,6 +27,7 @@ from running import Calls, add_program_option
 TOP = Path(__file__).resolve().parent.parent
 TASK, NUMBER, SIZE = "TASK", "N", "SIZE"  # stand for the name of a task, and for numbers
 SHORT = 64  # bytes
+SECONDS = 900  # a run that gets no memory for a thread yields 16,384 times in each of its rounds, beside others for a minute
 
 # The commands that read a document, and the others.
 COMMANDS = (
@@ -198,7 +199,7 @@ def ends_of(program, library, kinds, job):
     name, document, words = job
     ends = Counter()
     with tempfile.TemporaryDirectory() as folder:
-        calls = Calls(folder)
+        calls = Calls(folder, SECONDS)
         calls.give(document)
         usual = calls.answer(program, words, {})
         for refused in kinds:
