@@ -119,6 +119,19 @@ def many_reads(occurrences):
     return text_of(*lines)
 
 
+def mostly_reads(occurrences):
+    """Eight tasks of 16 reads with long names, and 16 that they read, which occur once: the longest records."""
+    lines = ["policy fp", f"until {occurrences}"]
+    writers = [f"a_writer_of_24_letters_{place:x}" for place in range(16)]
+    for place, name in enumerate(writers):
+        lines += [f"task {name} every {LONG} prio {32 - place} cost 1", "  out a_port_of_24_characters_ = 0 then 1"]
+    for place in range(8):
+        lines.append(f"task a_reader_of_24_letters{place:x} every 8 from {16 + place} prio {8 - place} cost 1")
+        lines += [f"  read a_value_of_24_letters__{read:x} = {name}.a_port_of_24_characters_" for read, name in enumerate(writers)]
+        lines.append("  out a_port_of_24_characters_ = 0 then a_value_of_24_letters__0")
+    return text_of(*lines)
+
+
 def by_deadlines(occurrences):
     """32 tasks by earliest deadlines: the processor is never idle, and each task reads one above it."""
     lines = ["policy edf", f"until {occurrences}"]

@@ -48,6 +48,7 @@ def hostile_readers():
     yield "8 readers, each blocked 16 times", documents.with_rows(documents.blocked_often(266_000))
     yield "32 tasks by deadlines", documents.with_rows(documents.by_deadlines(99_000))
     yield "128 reads", documents.filled(documents.many_reads(100_000))
+    yield "8 readers of 16 reads, 100000", documents.filled(documents.mostly_reads(100_000))
 
 
 def hostile_links():
