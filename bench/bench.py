@@ -15,6 +15,7 @@ import sys
 from dataclasses import dataclass
 from pathlib import Path
 from statistics import median
+from typing import Optional
 
 import documents
 from endure import load
@@ -26,12 +27,12 @@ MEASURES = ("Minstr", "wall s", "cpu s", "peak MB")  # Minstr: millions of instr
 
 @dataclass(frozen=True)
 class Row:
-    """A row of the table: a command, its document with the document's name, and the status that is wanted."""
+    """A row of the table: a command, its document with the document's name, and the status that is wanted, or none."""
 
     command: str
     name: str
     document: bytes
-    status: int = 0
+    status: Optional[int] = 0
 
     def title(self):
         return f"{self.command}: {self.name}" if self.name else self.command
@@ -150,7 +151,7 @@ def trials_of(programs, row, options):
 def are_alike(trials, row):
     """Whether all runs ended with the wanted status and the same output."""
     ends = set().union(*(it.ends() for it in trials))
-    return len(ends) == 1 and all(status == row.status for status, _ in ends)
+    return len(ends) == 1 and all(row.status in (None, status) for status, _ in ends)
 
 
 def cells_of(figures):
@@ -165,8 +166,9 @@ def line_of(title, cells):
     return f"| {title:<42} |" + "".join(f" {it:>9} |" for it in cells)
 
 
-def main():
-    parser = argparse.ArgumentParser(description=__doc__, formatter_class=argparse.RawDescriptionHelpFormatter)
+def read_options(description):
+    """Returns what is asked for, with the programs that are measured."""
+    parser = argparse.ArgumentParser(description=description, formatter_class=argparse.RawDescriptionHelpFormatter)
     add_program_option(parser)
     parser.add_argument("--against", type=program, help="another program, measured side by side")
     parser.add_argument("--only", default="", help="the rows that have this text")
@@ -176,22 +178,35 @@ def main():
     parser.add_argument("--instructions", action="store_true", help="count instructions")
     parser.add_argument("--profiles", type=Path, help="a folder for the files of callgrind")
     options = parser.parse_args()
+    options.programs = [options.program] + ([options.against] if options.against else [])
     if options.cores:
         os.sched_setaffinity(0, {int(it) for it in options.cores.split(",")})
-    programs = [options.program] + ([options.against] if options.against else [])
-    columns = [it for measure in MEASURES for it in [measure] + ["other", "ratio"] * (len(programs) - 1)]
+    return options
+
+
+def measured(rows, options):
+    """Prints the table of the rows, and yields each row with the figures of each program; last it prints which rows differ."""
+    columns = [it for measure in MEASURES for it in [measure] + ["other", "ratio"] * (len(options.programs) - 1)]
     print(line_of("command and document", columns))
     print(line_of(":--", ["--:"] * len(columns)), flush=True)
     differing = []
     with load(options.load):
-        for row in [*rows_of_tables(), *rows_of_texts(), *rows_of_runs(options.program)]:
+        for row in rows:
             if options.only in row.title():
-                trials = trials_of(programs, row, options)
+                trials = trials_of(options.programs, row, options)
                 differing += [] if are_alike(trials, row) else [row.title()]
-                print(line_of(row.title(), cells_of(it.figures() for it in trials)), flush=True)
+                figures = [it.figures() for it in trials]
+                print(line_of(row.title(), cells_of(figures)), flush=True)
+                yield row, figures, are_alike(trials, row)
     for title in differing:
         print(f"not all runs ended with the wanted status and the same output: {title}")
-    return 1 if differing else 0
+
+
+def main():
+    """Measures all rows, and returns the exit status."""
+    options = read_options(__doc__)
+    rows = [*rows_of_tables(), *rows_of_texts(), *rows_of_runs(options.program)]
+    return 0 if all([is_right for _, _, is_right in measured(rows, options)]) else 1
 
 
 if __name__ == "__main__":

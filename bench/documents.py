@@ -1,6 +1,9 @@
 """Documents at the limits of what dbp accepts."""
 
+import re
+
 MOST_BYTES = 1_048_576
+MOST_ROWS = 50_000
 
 # Periods and costs of tasks, by falling rank, whose response times take long to find if one adds what is asked for again
 # and again: tasks above fill the processor; they leave one part of 3,263,442 of it; or periods are of several scales.
@@ -16,6 +19,28 @@ def text_of(*lines, version=1):
     document = "\n".join((f"dbp {version}", *lines, "done", "")).encode()
     assert len(document) <= MOST_BYTES, len(document)
     return document
+
+
+def filled(text, line=b"#"):
+    """Returns a document with so many lines of no tokens before it that it has as many bytes as there may be."""
+    room, whole = MOST_BYTES - len(text), line + b"\n"
+    return whole * (room // len(whole)) + b" " * (room % len(whole)) + text
+
+
+def with_rows(text):
+    """Returns a document without a trace with as many samples of an input as there may be, which nothing senses; with
+    zeros before them it has about as many bytes as there may be."""
+    head, until, body = re.split(rb"(?m)^until ([0-9]+)$", text, maxsplit=1)
+    rows = min(int(until), MOST_ROWS)
+    times = range(0, int(until), max(1, int(until) // max(rows, 1)))[:rows]
+    parts = [head, b"until %s\ninput samples = 0" % until, body[: -len(b"done\n")], b"trace\ntime,samples\n"]
+    room = (MOST_BYTES - len(text) - 60) // max(rows, 1) - 2
+    for time in times:
+        number = b"%d," % time
+        parts.append(number + b"-" * (time % 2) + b"7".rjust(room - len(number), b"0") + b"\n")
+    found = b"".join([*parts, b"done\n"])
+    assert len(found) <= MOST_BYTES, len(found)
+    return found
 
 
 def one_task(occurrences):
@@ -58,6 +83,19 @@ def blocked(occurrences):
     return text_of(*lines, version=2)
 
 
+def blocked_often(occurrences):
+    """Eight tasks on a processor of their own, that are blocked 16 times in each instance, once for each of 16 tasks which
+    the eighth processor serves one after another."""
+    lines = ["policy fp", f"until {occurrences}"]
+    for task in range(16):
+        lines += [f"task w{task} every 64 prio {64 - task} cost 3 cpu 7", "  out y = 0 then 1"]
+    for task in range(8):
+        lines.append(f"task r{task} every 64 prio {8 - task} cost 17 cpu {task % 7}")
+        lines += [f"  read x{read} = w{read}.y at {read}" for read in range(16)]
+        lines.append("  out y = 0 then " + " + ".join(f"x{read}" for read in range(16)))
+    return text_of(*lines, version=2)
+
+
 def long_costs():
     """32 tasks of a billion ticks each, on eight processors."""
     lines = ["policy fp", f"until {LONG}"]
@@ -78,6 +116,19 @@ def many_reads(occurrences):
             delay = f"pre {1 + (task + read) % 8} " if read % 4 == 3 else ""
             lines.append(f"  read x{read} = {delay}t{(task + read) % 24}.y")
         lines.append("  out y = 0 then " + " + ".join(f"x{read}" for read in range(16)))
+    return text_of(*lines)
+
+
+def mostly_reads(occurrences):
+    """Eight tasks of 16 reads with long names, and 16 that they read, which occur once: the longest records."""
+    lines = ["policy fp", f"until {occurrences}"]
+    writers = [f"a_writer_of_24_letters_{place:x}" for place in range(16)]
+    for place, name in enumerate(writers):
+        lines += [f"task {name} every {LONG} prio {32 - place} cost 1", "  out a_port_of_24_characters_ = 0 then 1"]
+    for place in range(8):
+        lines.append(f"task a_reader_of_24_letters{place:x} every 8 from {16 + place} prio {8 - place} cost 1")
+        lines += [f"  read a_value_of_24_letters__{read:x} = {name}.a_port_of_24_characters_" for read, name in enumerate(writers)]
+        lines.append("  out a_port_of_24_characters_ = 0 then a_value_of_24_letters__0")
     return text_of(*lines)
 
 
@@ -197,6 +248,26 @@ def conditions(tasks, ticks):
     lines += ["trace", "time,x"]
     for start in range(0, 1_000_000_000, 40_000):
         lines += [f"{start},1", f"{start + ticks},0"]
+    return text_of(*lines, version=2)
+
+
+def alternating(tasks, each, period=1, occurrences=100_000):
+    """Tasks whose 16 inputs alternate in all rows of a mebibyte: each is on for a tick at one of so many pairs of rows, in
+    turn. Rows end where tasks of period 1 have so many occurrences."""
+    inputs = range(16)
+    lines = ["policy fp", f"until {LONG}", *(f"input x{it} = 0" for it in inputs)]
+    for task in range(tasks):
+        lines += [f"task t{task} every {period} when x{task % 16} prio {task} cost 1 cpu {task % 8}", "  state n = 0",
+                  "  next n = n + 1", "  out y = 0 then n + 1"]
+    lines += ["trace", ",".join(["time", *(f"x{it}" for it in inputs)])]
+    room = MOST_BYTES - len(text_of(*lines))
+    for pair in range(occurrences * each // tasks):
+        cells = ["1" if it % each == pair % each else "0" for it in inputs]
+        rows = [",".join([str(32 * pair), *cells]), ",".join([str(32 * pair + 1), *["0"] * len(inputs)])]
+        room -= sum(len(it) + 1 for it in rows)
+        if room < 0:
+            break
+        lines += rows
     return text_of(*lines, version=2)
 
 

@@ -60,6 +60,32 @@ def run(command, document, limit=600, environment=None):
         return Run(child.returncode, sink.read(), seconds, used.ru_utime + used.ru_stime)
 
 
+class Calls:
+    """Calls of programs on one document after another, in the main thread of a process: a call takes a quarter of the time
+    that `run` takes for it, and tells no times."""
+
+    def __init__(self, folder, limit=60):
+        self.source, self.sink, self.limit = f"{folder}/document", f"{folder}/written", limit
+        self.given = self.child = None
+        signal.signal(signal.SIGALRM, lambda *_: kill(self.child))
+
+    def give(self, document):
+        """Keeps the document that the next calls read."""
+        if document != self.given:
+            Path(self.source).write_bytes(document)
+            self.given = document
+
+    def answer(self, path, words, environment=os.environ):
+        """Returns the exit status of a program and what it writes; after the limit it is killed, and the status is -9."""
+        sink = (os.POSIX_SPAWN_OPEN, 1, self.sink, os.O_WRONLY | os.O_CREAT | os.O_TRUNC, 0o600)
+        streams = [(os.POSIX_SPAWN_OPEN, 0, self.source, os.O_RDONLY, 0), sink, (os.POSIX_SPAWN_OPEN, 2, os.devnull, os.O_WRONLY, 0)]
+        self.child = os.posix_spawn(path, [path, *words], environment, file_actions=streams)
+        signal.setitimer(signal.ITIMER_REAL, self.limit)
+        _, status = os.waitpid(self.child, 0)
+        signal.setitimer(signal.ITIMER_REAL, 0)
+        return os.waitstatus_to_exitcode(status), Path(self.sink).read_bytes()
+
+
 def peak_megabytes(command, document):
     """Returns the peak memory of a run. Debian's `time` tells it: a child of Python begins with Python's own."""
     with tempfile.NamedTemporaryFile() as told:

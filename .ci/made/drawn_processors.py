@@ -1,7 +1,7 @@
 """`cpus` of drawn documents of tasks on one to eight processors; who is served and who is blocked is walked through here tick
 by tick. It prints the overrun that the walk finds, or the lines of all instances; `cpus --record` prints the same overrun.
 
-On one processor `cpus` prints what `sim` does. bench/cpus_against_peer.py compares two programs on such documents, and the
+On one processor `cpus` prints what `sim` does. bench/against_peer.py compares two programs on such documents, and the
 trials of the tools compare their figures with those of the walk.
 """
 

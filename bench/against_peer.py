@@ -1,0 +1,258 @@
+#!/usr/bin/env python3
+"""Compares the exit status and every byte of all commands of two programs on documents that are drawn (bench/drawn_texts.py).
+
+  bench/against_peer.py [--calls N] [--seed SEED] [--from NUMBER] [--documents N] [--at-once N] [--keep FOLDER]
+                        PROGRAM OTHER
+
+Each document that `mean` doesn't refuse is given to each command, another one to `mean` and some that are drawn. What a
+simulation recorded becomes a script, with changes: that document is given to `replay` and `replay --ranked` and to others.
+Commands that read nothing, and words that are no command, are tried between. It ends after so many calls (20,000; a call
+is one of each program) or so many documents. The document of a number is the same whenever the seed is.
+
+Differences are told at the end: one of each kind (a command, both statuses and the codes of refusals), with the smallest
+document that is found to differ likewise. The last lines count the calls by command and status, and the differences. The
+folder gets the documents that differ. The exit status is 0 only if there is no difference.
+"""
+
+import argparse
+import random
+import re
+import signal
+import sys
+import tempfile
+import time
+from collections import Counter
+from concurrent.futures import FIRST_COMPLETED, ProcessPoolExecutor, wait
+from dataclasses import dataclass, field
+from functools import partial
+from pathlib import Path
+
+from drawn_texts import drawn_text, made, with_changed_steps
+from refuse_memory import COMMANDS, NUMBER, READING_NOTHING, SIZE, TASK, tasks_of
+from running import Calls, program
+
+OK, REFUSED, STOPPED = 0, 1, 130
+BLOCK = 20  # documents of a worker's turn
+TOLD_EACH = 60  # seconds after which it says how far it is
+REFUSED_CALLS = 5  # commands besides `mean` that a refused document is given to
+MOST_TRIES = 2000  # calls in which a document is made smaller
+RARELY = 4  # the threads of `run` take as long as ten other calls: it gets one of so many documents
+RECORDS = (("sim", "--record"), ("cpus", "--record"))
+SCRIPTED = (*2 * (["replay"], ["replay", "--ranked"]), ["form"], ["upgrade"], ["rank"], ["mean"])
+OTHER_NAMES = ("a", "nothing", "dbp", "every", "a_name_of_24_characters_", "x" * 25, "9", "")
+REFUSAL = re.compile(rb"refused: (?:line [0-9]+: )?([0-9]+)")
+
+
+@dataclass(frozen=True)
+class Difference:
+    """A call in which two programs differ: the document's number and text, the words, and both answers."""
+
+    number: int
+    words: tuple
+    text: bytes
+    answers: tuple
+
+    def kind(self):
+        """Returns what differences of one kind have in common."""
+        return (self.words[:1], *((status, *REFUSAL.findall(written)[:1]) for status, written in self.answers))
+
+    def told(self):
+        """Returns a line that tells the difference."""
+        ends = " and ".join(f"{status} {written[:160]!r}" for status, written in self.answers)
+        return f"document {self.number}, `{' '.join(self.words)}`: {ends}"
+
+
+@dataclass
+class Compared:
+    """What came of calls: how many of each command and status, and what differs."""
+
+    counts: Counter = field(default_factory=Counter)
+    differences: list = field(default_factory=list)
+
+    def add(self, other):
+        """Adds what came of other calls."""
+        self.counts += other.counts
+        self.differences += other.differences
+
+    def __str__(self):
+        return f"{self.calls()} calls, {len(self.differences)} differ"
+
+    def calls(self):
+        """Returns how many calls there were."""
+        return sum(self.counts.values())
+
+
+class Comparison:
+    """The comparison of two programs on the document of a number."""
+
+    def __init__(self, programs, calls, seed, number):
+        self.programs, self.calls, self.number, self.text = programs, calls, number, drawn_text(seed, number)
+        self.draw, self.found = random.Random(f"calls {seed} {number}"), Compared()
+
+    def call(self, words):
+        """Compares a command, and returns the first program's answer."""
+        words = tuple(self.drawn_word(it) for it in words)
+        found = self.difference(words)
+        self.found.counts[" ".join(words[:1]), found.answers[0][0]] += 1
+        if found.answers[0] != found.answers[1]:
+            self.found.differences.append(found)
+        return found.answers[0]
+
+    def difference(self, words):
+        """Returns how the answers to the document differ, if they do."""
+        self.calls.give(self.text)
+        return Difference(self.number, words, self.text, tuple(self.calls.answer(it, words) for it in self.programs))
+
+    def drawn_word(self, word):
+        """Returns a word of a command, or a drawn one for a word that stands for others."""
+        draw = self.draw
+        if word == TASK:
+            return draw.choice([*tasks_of(self.text) * 4, *OTHER_NAMES])
+        if word == NUMBER:
+            return str(draw.choice((0, 1, draw.randrange(1000), draw.randrange(2**64), 2**64)))
+        return str(draw.choice((1, 2, draw.randrange(1, 33), 33))) if word == SIZE else word
+
+    def compared(self):
+        """Compares commands on the document, and on one with a script that is made of it."""
+        status, _ = self.call(["mean"])
+        others = [it for it in COMMANDS if it != ["mean"] and (it != ["run"] or self.draw.randrange(RARELY) == 0)]
+        others = self.draw.sample(others, REFUSED_CALLS) if status == REFUSED else others
+        answers = {tuple(words): self.call(words) for words in others}
+        if self.draw.randrange(20) == 0:
+            self.call(self.draw.choice(READING_NOTHING))
+            self.call(self.draw.choice(made("words").NO_COMMANDS).split())
+        if status != REFUSED:
+            self.compare_scripts(answers)
+        return self.found
+
+    def compare_scripts(self, answers):
+        """Compares commands on the document with a script, if a simulation recorded one."""
+        status, record = answers.get(self.draw.choice(RECORDS), (REFUSED, b""))
+        if status == OK:
+            self.text = with_changed_steps(self.draw, answers["form",][1], record)
+            for words in self.draw.sample(SCRIPTED, 4):
+                self.call(words)
+
+    def smaller(self, difference):
+        """Returns a difference of the same kind in a small document."""
+        tries = iter(range(MOST_TRIES))
+
+        def differs(parts):
+            self.text = b"".join(parts)
+            tried = next(tries, None) is not None and self.difference(difference.words)
+            return tried and tried.answers[0] != tried.answers[1] and tried.kind() == difference.kind()
+
+        lines = least(re.findall(rb"[^\n]*\n|[^\n]+", difference.text), differs)
+        self.text = b"".join(least(re.findall(rb"\w+|\s|.", b"".join(lines)), differs))
+        return self.difference(difference.words)
+
+
+def least(parts, differs):
+    """Returns parts of a text of which none is left out without the difference."""
+    size = (len(parts) + 1) // 2
+    while size:
+        at = 0
+        while at < len(parts):
+            fewer = parts[:at] + parts[at + size :]
+            if differs(fewer):
+                parts = fewer
+            else:
+                at += size
+        size //= 2
+    return parts
+
+
+def compared_block(programs, seed, numbers):
+    """Compares the documents of some numbers, in a process of its own."""
+    found = Compared()
+    with tempfile.TemporaryDirectory() as folder:
+        calls = Calls(folder)
+        for number in numbers:
+            found.add(Comparison(programs, calls, seed, number).compared())
+    return found
+
+
+def blocks_of(options):
+    """Yields the numbers of documents, in blocks."""
+    last = sys.maxsize if options.documents is None else options.first + options.documents
+    for first in range(options.first, last, BLOCK):
+        yield range(first, min(first + BLOCK, last))
+
+
+def all_compared(options):
+    """Yields what came of each block, until there were enough calls."""
+    blocks, made_calls = blocks_of(options), 0
+    call = partial(compared_block, (options.program, options.other), options.seed)
+    with ProcessPoolExecutor(options.at_once, initializer=signal.signal, initargs=(signal.SIGINT, signal.SIG_IGN)) as pool:
+        pending = set()
+        while True:
+            while made_calls < options.calls and len(pending) <= options.at_once:
+                block = next(blocks, None)
+                if block is None:
+                    break
+                pending.add(pool.submit(call, block))
+            if not pending:
+                return
+            ended, pending = wait(pending, return_when=FIRST_COMPLETED)
+            for found in (it.result() for it in ended):
+                made_calls += found.calls()
+                yield found
+
+
+def tell(options, found, seconds):
+    """Prints one difference of each kind, and the counts."""
+    kinds = {}
+    for difference in found.differences:
+        kinds.setdefault(difference.kind(), []).append(difference)
+    with tempfile.TemporaryDirectory() as folder:
+        for differences in kinds.values():
+            first = min(differences, key=lambda it: len(it.text))
+            comparison = Comparison((options.program, options.other), Calls(folder), options.seed, first.number)
+            print(f"{len(differences)} like this: {comparison.smaller(first).told()}\n{comparison.text.decode('latin-1')}")
+    for (word, status), count in sorted(found.counts.items()):
+        print(f"{word or 'no word'}, status {status}: {count}")
+    print(f"{found}, {found.calls() / seconds:.0f} in a second")
+
+
+def read_options():
+    """Returns what is asked for."""
+    parser = argparse.ArgumentParser(description=__doc__, formatter_class=argparse.RawDescriptionHelpFormatter)
+    parser.add_argument("program", type=program, metavar="PROGRAM", help="a program")
+    parser.add_argument("other", type=program, metavar="OTHER", help="another one")
+    parser.add_argument("--calls", type=int, default=20_000, help="how many calls, about (20000)")
+    parser.add_argument("--seed", type=int, default=1, help="what the documents are drawn from (1)")
+    parser.add_argument("--from", dest="first", type=int, default=0, metavar="NUMBER", help="the first document's number (0)")
+    parser.add_argument("--documents", type=int, help="how many documents (as many as the calls need)")
+    parser.add_argument("--at-once", type=int, default=1, help="processes that compare side by side (1)")
+    parser.add_argument("--keep", type=Path, metavar="FOLDER", help="gets the documents that differ")
+    return parser.parse_args()
+
+
+def keep(folder, differences):
+    """Writes the documents that differ into a folder, and tells each difference."""
+    for it in differences:
+        print(it.told(), flush=True)
+        if folder:
+            folder.mkdir(parents=True, exist_ok=True)
+            (folder / f"{it.number}_{'_'.join(it.words)}.dbp").write_bytes(it.text)
+
+
+def main():
+    """Compares until there were enough calls, and returns the exit status."""
+    options, all_found, start, told = read_options(), Compared(), time.monotonic(), 0
+    try:
+        for found in all_compared(options):
+            keep(options.keep, found.differences)
+            all_found.add(found)
+            seconds = time.monotonic() - start
+            if seconds // TOLD_EACH > told:
+                told = seconds // TOLD_EACH
+                print(f"{seconds:.0f} s: {all_found}", file=sys.stderr, flush=True)
+        tell(options, all_found, time.monotonic() - start)
+    except KeyboardInterrupt:
+        return STOPPED
+    return 1 if all_found.differences else 0
+
+
+if __name__ == "__main__":
+    sys.exit(main())
