@@ -4,6 +4,7 @@ time; bench/ measures."""
 import time
 
 SECONDS = 300
+BROWSER_SECONDS = 3600  # of all pages that one browser opens
 
 
 def wait_until(is_so):

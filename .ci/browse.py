@@ -139,6 +139,7 @@ def printed(driver):
     sizes = sorted({it.decode() for it in re.findall(rb"/MediaBox\s*\[([^\]]*)\]", pdf)})
     driver.execute_cdp_cmd("Emulation.setEmulatedMedia", {"media": "print"})
     driver.set_window_size(SHEET_WIDTH, 1000)
+    wait_until(driver, "return innerWidth", lambda it: it <= SHEET_WIDTH)
     found = driver.execute_script(TOO_WIDE)
     driver.execute_cdp_cmd("Emulation.setEmulatedMedia", {"media": ""})
     driver.set_window_size(1160, 1400)

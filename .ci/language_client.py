@@ -140,6 +140,13 @@ class Client:
         self.notify("initialized")
         return found
 
+    def begin_with_program(self, **given):
+        """Begins, and waits until a document is judged: the program is there then, for which requests wait but shortly."""
+        self.begin(**given)
+        self.open("file:///first", "")
+        self.diagnostics("file:///first", 1)
+        self.notify("textDocument/didClose", textDocument={"uri": "file:///first"})
+
     def open(self, uri, text, version=1):
         """Opens a document."""
         it = {"uri": uri, "languageId": "dbp", "version": version, "text": text}

@@ -9,7 +9,6 @@ the outputs are compared, and each measure has its ratio. Instructions are count
 50 times as slow: they don't depend on other load, except those of `run`, whose tasks wait for each other.
 """
 
-import argparse
 import os
 import sys
 from dataclasses import dataclass
@@ -19,7 +18,7 @@ from typing import Optional
 
 import documents
 from endure import load
-from running import add_program_option, counted_run, peak_megabytes, program, run
+from running import counted_run, parser_of, peak_megabytes, program, run
 from scenario_texts import with_the_most_slots
 
 MEASURES = ("Minstr", "wall s", "cpu s", "peak MB")  # Minstr: millions of instructions
@@ -168,8 +167,7 @@ def line_of(title, cells):
 
 def read_options(description):
     """Returns what is asked for, with the programs that are measured."""
-    parser = argparse.ArgumentParser(description=description, formatter_class=argparse.RawDescriptionHelpFormatter)
-    add_program_option(parser)
+    parser = parser_of(description)
     parser.add_argument("--against", type=program, help="another program, measured side by side")
     parser.add_argument("--only", default="", help="the rows that have this text")
     parser.add_argument("--runs", type=int, default=3, help="timed runs of each row (3)")

@@ -11,7 +11,6 @@ the target the late releases and the interrupts of the timer that came into a ta
 differs and nothing was skipped.
 """
 
-import argparse
 import shutil
 import sys
 from pathlib import Path
@@ -23,7 +22,7 @@ sys.dont_write_bytecode = True
 import on_target  # noqa: E402
 import real_time  # noqa: E402
 from compiled import Fault, run_program  # noqa: E402
-from running import add_program_option  # noqa: E402
+from running import parser_of  # noqa: E402
 
 LONGEST_TRACE = 3_000  # ticks that are emulated
 
@@ -70,8 +69,7 @@ def row_of(options, name, document):
 
 def main():
     """Makes all runs, and returns the exit status."""
-    parser = argparse.ArgumentParser(description=__doc__, formatter_class=argparse.RawDescriptionHelpFormatter)
-    add_program_option(parser)
+    parser = parser_of(__doc__)
     parser.add_argument("--loops", type=int, default=4, help="busy loops beside (4)")
     parser.add_argument("--ticks", type=int, default=real_time.TICKS, help="ticks of each run (2000)")
     parser.add_argument("--only", default="", help="the examples whose names have this text")

@@ -12,7 +12,6 @@ Each way also has the operators and a document as tables. Each run has 20 second
 with --speed the processor seconds of traces beside those of `run`, and how long the largest document takes to compile.
 """
 
-import argparse
 import os
 import sys
 import time
@@ -28,7 +27,7 @@ sys.dont_write_bytecode = True
 import compiled  # noqa: E402
 import documents  # noqa: E402
 from compiled import SHORT_FLAGS, SHORT_WORDS, Fault, Toolchain  # noqa: E402
-from running import add_program_option, run  # noqa: E402
+from running import parser_of, run  # noqa: E402
 
 RACES = ("-g", "-fsanitize=thread")
 MEMORY = ("-g", "-fsanitize=address,undefined", "-fno-sanitize-recover=all")
@@ -144,8 +143,7 @@ def print_speed(program):
 
 def main():
     """Makes all trials, and returns the exit status."""
-    parser = argparse.ArgumentParser(description=__doc__, formatter_class=argparse.RawDescriptionHelpFormatter)
-    add_program_option(parser)
+    parser = parser_of(__doc__)
     parser.add_argument("--documents", type=int, default=200, help="generated documents (200)")
     parser.add_argument("--seeds", type=int, default=100, help="seeds of each of the four documents (100)")
     parser.add_argument("--jobs", type=int, default=os.cpu_count(), help="trials at a time (as many as processors)")

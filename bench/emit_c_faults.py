@@ -10,7 +10,6 @@ those of .ci/tried/deploy.py are made in their place, up to the first that finds
 first thing that each check finds; the exit status is 0 only if each fault is found, and nothing is found without one.
 """
 
-import argparse
 import os
 import shutil
 import sys
@@ -28,7 +27,7 @@ import on_target  # noqa: E402
 import real_time  # noqa: E402
 from compiled import SHORT_FLAGS, SHORT_WORDS, Fault, Toolchain, must  # noqa: E402
 from protocol_text import diagram_fault, text_fault  # noqa: E402
-from running import add_program_option  # noqa: E402
+from running import parser_of  # noqa: E402
 
 DOCUMENTS = (
     "examples/preempted.dbp",
@@ -351,8 +350,7 @@ def found_by(program, fault):
 
 def main():
     """Plants all faults, and returns the exit status."""
-    parser = argparse.ArgumentParser(description=__doc__, formatter_class=argparse.RawDescriptionHelpFormatter)
-    add_program_option(parser)
+    parser = parser_of(__doc__)
     parser.add_argument("--only", default="", help="the faults whose names have this text")
     parser.add_argument("--jobs", type=int, default=os.cpu_count(), help="faults at a time (as many as processors)")
     parser.add_argument("--seconds", type=int, default=10, help="of a run, twice as many in real time (10)")

@@ -9,7 +9,6 @@ occurrences. The load is so many processes that compute without a pause. Prints 
 each document had one output, that of `mean`.
 """
 
-import argparse
 import os
 import subprocess
 import sys
@@ -19,7 +18,7 @@ from pathlib import Path
 from statistics import median
 
 from documents import many_tasks
-from running import add_program_option, run
+from running import parser_of, run
 
 
 def documents_of(options):
@@ -60,8 +59,7 @@ def line_of(name, cells):
 
 
 def read_options():
-    parser = argparse.ArgumentParser(description=__doc__, formatter_class=argparse.RawDescriptionHelpFormatter)
-    add_program_option(parser)
+    parser = parser_of(__doc__)
     parser.add_argument("documents", nargs="*", type=Path)
     parser.add_argument("--words", default="run", help="the command (run)")
     parser.add_argument("--runs", type=int, default=42, help="of each document (42)")

@@ -10,7 +10,6 @@ its own until which it runs; from it a program of `bench/planted.py drawn_pauses
 0 only if each run gave the bytes of `mean`.
 """
 
-import argparse
 import os
 import re
 import shutil
@@ -23,7 +22,7 @@ from statistics import median
 
 from documents import many_tasks, one_task, preempted
 from endure import load
-from running import add_program_option, run
+from running import parser_of, run
 
 NOBODY = 65534  # a user without processes
 
@@ -122,8 +121,7 @@ def line_of(names, cells):
 
 
 def read_options():
-    parser = argparse.ArgumentParser(description=__doc__, formatter_class=argparse.RawDescriptionHelpFormatter)
-    add_program_option(parser)
+    parser = parser_of(__doc__)
     parser.add_argument("--only", default="", help="the conditions and documents that have this text")
     parser.add_argument("--share", type=float, default=1, help="the part of the runs that is made (1)")
     parser.add_argument("--limit", type=float, default=60, help="the seconds that a run may take (60)")

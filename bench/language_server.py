@@ -8,7 +8,6 @@ limits are 0.3 s on examples, 2 s on one MiB and 3 s for its diagnostics, on a m
 each example has N mutants (bench/mutants.py), which are asked about too. The exit status is 1 if a request failed.
 """
 
-import argparse
 import os
 import random
 import sys
@@ -22,7 +21,7 @@ import documents  # noqa: E402
 from editor_texts import position_at  # noqa: E402
 from language_client import Client  # noqa: E402
 from mutants import mutant_of  # noqa: E402
-from running import add_program_option  # noqa: E402
+from running import parser_of  # noqa: E402
 
 POSITIONED = ("hover", "definition", "references", "documentHighlight", "prepareRename", "completion", "rename")
 WHOLE = ("documentSymbol", "foldingRange", "semanticTokens/full", "codeLens", "formatting", "codeAction")
@@ -95,8 +94,7 @@ def measure(client, measured, kind, name, text, spots):
 
 def main():
     """Measures what the words ask for, and returns the exit status."""
-    parser = argparse.ArgumentParser(description=__doc__, formatter_class=argparse.RawDescriptionHelpFormatter)
-    add_program_option(parser)
+    parser = parser_of(__doc__)
     parser.add_argument("--large", action="store_true", help="large documents alone")
     parser.add_argument("--mutants", type=int, default=0, help="of each example (0)")
     parser.add_argument("--seed", type=int, default=1, help="what the changes are drawn from (1)")

@@ -9,7 +9,6 @@ tool is also stopped so many times, after a time that is drawn. Prints each faul
 the exit status is 1 if there are faults.
 """
 
-import argparse
 import os
 import random
 import re
@@ -35,7 +34,7 @@ from pictures import commands as pictures  # noqa: E402
 from program import run_program  # noqa: E402
 from reports import command as reporting  # noqa: E402
 from responses import command as responses  # noqa: E402
-from running import add_program_option  # noqa: E402
+from running import parser_of  # noqa: E402
 from testing import command as testing  # noqa: E402
 from tracing import command as tracing  # noqa: E402
 from waveforms import command as waveforms  # noqa: E402
@@ -195,8 +194,7 @@ def try_interrupts(program, draw, count):
 
 def main():
     """Tries all mutants, and returns the exit status."""
-    parser = argparse.ArgumentParser(description=__doc__, formatter_class=argparse.RawDescriptionHelpFormatter)
-    add_program_option(parser)
+    parser = parser_of(__doc__)
     parser.add_argument("--mutants", type=int, default=10, help="of each document (10)")
     parser.add_argument("--seed", type=int, default=1, help="what the changes are drawn from (1)")
     parser.add_argument("--interrupts", type=int, default=0, help="stops of each tool (0)")

@@ -22,7 +22,7 @@ from enum import Enum
 from functools import partial
 from pathlib import Path
 
-from running import Calls, add_program_option
+from running import Calls, parser_of
 
 TOP = Path(__file__).resolve().parent.parent
 TASK, NUMBER, SIZE = "TASK", "N", "SIZE"  # stand for the name of a task, and for numbers
@@ -229,8 +229,7 @@ def jobs_of(options):
 
 def main():
     """Tries all commands, and returns the exit status."""
-    parser = argparse.ArgumentParser(description=__doc__, formatter_class=argparse.RawDescriptionHelpFormatter)
-    add_program_option(parser)
+    parser = parser_of(__doc__)
     parser.add_argument("--streams", action="store_true", help="refuse reads and writes")
     parser.add_argument("--at-once", type=int, default=1, help="commands side by side (1)")
     parser.add_argument("document", type=Path, nargs="?")

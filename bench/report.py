@@ -9,7 +9,6 @@ there are. Each call must end with status 0 or 1, without a traceback, and tidy 
 text be markup. Prints each fault, and the counts; the exit status is 0 only if there is no fault.
 """
 
-import argparse
 import base64
 import json
 import os
@@ -29,7 +28,7 @@ sys.dont_write_bytecode = True
 from mutants import mutant_of  # noqa: E402
 from pictures.asking import answer  # noqa: E402
 from report import PYTHON, call, missing_part, page_fault  # noqa: E402
-from running import add_program_option  # noqa: E402
+from running import parser_of  # noqa: E402
 from served import Served  # noqa: E402
 from studio import AFTER_COST, COSTS, DELETE, EDITED  # noqa: E402
 
@@ -102,8 +101,7 @@ def studio_picture(program):
 
 def main():
     """Does what the words ask for, and returns the exit status."""
-    parser = argparse.ArgumentParser(description=__doc__, formatter_class=argparse.RawDescriptionHelpFormatter)
-    add_program_option(parser)
+    parser = parser_of(__doc__)
     parser.add_argument("--documents", type=int, default=300, help="of each kind (300)")
     parser.add_argument("--seed", type=int, default=1, help="what mutants are drawn from (1)")
     parser.add_argument("--jobs", type=int, default=os.cpu_count(), help="documents at a time (as many as processors)")

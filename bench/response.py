@@ -8,7 +8,6 @@ counts, and last the processor time of the tool on documents with 100,000 occurr
 is no fault.
 """
 
-import argparse
 import os
 import sys
 from concurrent.futures import ProcessPoolExecutor
@@ -20,7 +19,7 @@ sys.path.insert(0, str(TOP / ".ci" / "tried"))
 sys.dont_write_bytecode = True
 
 from response import LARGE, large_call, seed_fault  # noqa: E402
-from running import add_program_option  # noqa: E402
+from running import parser_of  # noqa: E402
 
 
 def numbered_fault(program, offsets, seed):
@@ -31,8 +30,7 @@ def numbered_fault(program, offsets, seed):
 
 def main():
     """Tries all documents, and returns the exit status."""
-    parser = argparse.ArgumentParser(description=__doc__, formatter_class=argparse.RawDescriptionHelpFormatter)
-    add_program_option(parser)
+    parser = parser_of(__doc__)
     parser.add_argument("--documents", type=int, default=500, help="that are drawn (500)")
     parser.add_argument("--offsets", type=int, default=20, help="of each document (20)")
     parser.add_argument("--jobs", type=int, default=os.cpu_count(), help="documents at a time (as many as processors)")

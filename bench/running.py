@@ -1,5 +1,6 @@
 """The program dbp, run by the scripts beside this file: what a run gives, and what it takes."""
 
+import argparse
 import os
 import re
 import signal
@@ -25,9 +26,11 @@ class Run:
     processor_seconds: float
 
 
-def add_program_option(parser):
-    """Adds the option that names another program than the one that ./dbp builds."""
+def parser_of(about):
+    """Returns a parser that tells what a script does, with the option for another program than the one that ./dbp builds."""
+    parser = argparse.ArgumentParser(description=about, formatter_class=argparse.RawDescriptionHelpFormatter)
     parser.add_argument("--program", type=program, default=str(BUILT), help="the program (what ./dbp has built)")
+    return parser
 
 
 def program(text):

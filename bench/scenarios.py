@@ -15,7 +15,6 @@ firing too few). Prints each fault with its document, and last the counts; the e
 fault.
 """
 
-import argparse
 import os
 import re
 import sys
@@ -34,7 +33,7 @@ from checking.releases import Taken, is_of_releaser, standing_claims  # noqa: E4
 from compiled import Fault, answered, must, same_lines  # noqa: E402
 from ending import Ended  # noqa: E402
 from program import read_as_answer  # noqa: E402
-from running import add_program_option  # noqa: E402
+from running import parser_of  # noqa: E402
 from scenario_texts import LATE, SHORT, drawn_document, scenario_of, with_the_most_slots  # noqa: E402
 
 BY_HAND = TOP / "crates" / "analysis_tests" / "src" / "scenarios.rt"
@@ -143,8 +142,7 @@ def tried(program, planted, trial):
 
 def main():
     """Tries all documents, and returns the exit status."""
-    parser = argparse.ArgumentParser(description=__doc__, formatter_class=argparse.RawDescriptionHelpFormatter)
-    add_program_option(parser)
+    parser = parser_of(__doc__)
     parser.add_argument("--count", type=int, default=2000, help="documents that are drawn (2000)")
     parser.add_argument("--seed", type=int, default=1, help="what they are drawn from (1)")
     parser.add_argument("--planted", choices=(LATE, SHORT), help="a fault of the formula, which must be found (none)")

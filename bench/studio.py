@@ -7,21 +7,19 @@ Prints in milliseconds: from a keystroke to its report; from a key in a document
 longest time for which the page does nothing else. Needs what those trials need, and says what is missing.
 """
 
-import argparse
 import sys
 from pathlib import Path
 
 TOP = Path(__file__).resolve().parent.parent
 sys.path[:0] = [str(TOP / "tools"), str(TOP / ".ci"), str(TOP / ".ci" / "tried")]
 
-from program import add_program_option  # noqa: E402
+from running import parser_of  # noqa: E402
 from studio import missing_part, used_pages  # noqa: E402
 
 
 def main():
     """Prints the times, and returns the exit status."""
-    parser = argparse.ArgumentParser(description=__doc__, formatter_class=argparse.RawDescriptionHelpFormatter)
-    add_program_option(parser)
+    parser = parser_of(__doc__)
     program = parser.parse_args().program
     missing = missing_part()
     if missing:

@@ -9,7 +9,6 @@ in all: the tool must end with a status that docs/TOOLS.md names, and raise noth
 is 1 if something is wrong.
 """
 
-import argparse
 import random
 import sys
 import tempfile
@@ -24,7 +23,7 @@ from checking.reading import read_document as read_places  # noqa: E402
 from drawn_documents import drawn_document  # noqa: E402
 from mutants import fault_of_call, mutant_of  # noqa: E402
 from program import run_program  # noqa: E402
-from running import add_program_option  # noqa: E402
+from running import parser_of  # noqa: E402
 from testing import command  # noqa: E402
 from testing.meaning import Meaning  # noqa: E402
 
@@ -65,8 +64,7 @@ def faults_of_mutants(program, count):
 
 
 def main():
-    parser = argparse.ArgumentParser(description=__doc__, formatter_class=argparse.RawDescriptionHelpFormatter)
-    add_program_option(parser)
+    parser = parser_of(__doc__)
     parser.add_argument("--documents", type=int, default=1000, metavar="N", help="how many are drawn (1000)")
     parser.add_argument("--first", type=int, default=1, metavar="N", help="the first seed (1)")
     parser.add_argument("--mutants", type=int, default=100, metavar="N", help="how many changed files there are (100)")

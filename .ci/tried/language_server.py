@@ -141,7 +141,7 @@ def examples_asked(program):
     """Asks each request on examples, and compares diagnostics and colours."""
     files = [*(EXAMPLES / it for it in ASKED), *(TOP / ".ci/tried/check" / it for it in WRITTEN)]
     with Client(program) as client:
-        client.begin()
+        client.begin_with_program()
         for file in files:
             uri, text = file.as_uri(), text_of(file)
             if text is None:
@@ -187,7 +187,7 @@ def typed(program):
     """Types an example, and asks at each character."""
     text = text_of(EXAMPLES / TYPED)
     with Client(program) as client:
-        client.begin()
+        client.begin_with_program()
         client.open(URI, "", 0)
         for at, letter in enumerate(text):
             place = position_at(text[:at], at)
@@ -272,7 +272,7 @@ def large(program):
     """Asks each request on documents of about one MiB, and compares some answers."""
     for name, text in large_documents():
         with Client(program) as client:
-            client.begin()
+            client.begin_with_program()
             client.open(URI, text)
             end = position_at(text[-5:], 5)
             end["line"] += text.count("\n", 0, len(text) - 5)
@@ -362,7 +362,7 @@ def odd_messages(program):
     with Client(program) as client:
         codes = [client.answer(client.send(method, given)).get("error", {}).get("code") for method, given in EARLY]
         must(codes == [-32002] * len(EARLY), f"before `initialize` the answers are {codes}")
-        client.begin()
+        client.begin_with_program()
         client.open(URI, "dbp 1\n")
         for method, given, code in WRONG:
             answer = client.answer(client.send(method, given))
@@ -545,7 +545,7 @@ def laid_out(program):
     """Lays examples out: each comment of the old one is there, the form is the same, and it is what tools/format writes."""
     files = [EXAMPLES / "heater.dbp", EXAMPLES / "form/spacing.dbp", TOP / ".ci/tried/layout/comments.dbp", ALARM]
     with Client(program) as client:
-        client.begin()
+        client.begin_with_program()
         for file in files:
             for end in ("\n", "\r\n"):
                 text = text_of(file).replace("\r", "").replace("\n", end)
@@ -592,7 +592,7 @@ SILENT = ((6, 12), (8, 31), (0, 5), (16, 2), (19, 9))
 def hovered(program):
     """Compares what is said of places of the alarm's document, and of bounds, conditions and refused documents."""
     with Client(program, "--tick", "5ms") as client:
-        client.begin()
+        client.begin_with_program()
         client.open(URI, text_of(ALARM))
         for line, character, parts in SAID:
             must_say(client, URI, line, character, parts)
@@ -838,7 +838,7 @@ def fixes_of(client, text, version, code):
 def heard(program):
     """Compares what steps of scripts hear with what `dbp replay` prints in the cases; of an illegal one those before."""
     with Client(program) as client:
-        client.begin()
+        client.begin_with_program()
         for file in sorted((EXAMPLES / "replay").glob("*.dbp")):
             lines = Path(f"{file}.stdout").read_text().splitlines()
             text, uri = text_of(file), file.as_uri()

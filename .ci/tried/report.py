@@ -22,6 +22,7 @@ TOP = Path(__file__).resolve().parents[2]
 sys.path[:0] = [str(TOP / "tools"), str(TOP / ".ci")]
 sys.path.append(str(TOP / "bench"))
 
+from awaited import BROWSER_SECONDS  # noqa: E402
 from mutants import mutant_of  # noqa: E402
 from pictures.asking import answer, read_document  # noqa: E402
 from pictures.record import steps_of  # noqa: E402
@@ -553,7 +554,7 @@ def read_pages(program):
     with tempfile.TemporaryDirectory() as place:
         jobs = [job_of(program, name, text, Path(place) / f"{at}.html") for at, (name, text) in enumerate(texts.items())]
         words = [PYTHON, "-B", TOP / ".ci" / "browse.py"]
-        ran = subprocess.run(words, input=json.dumps(jobs).encode(), capture_output=True, timeout=600, check=False)
+        ran = subprocess.run(words, input=json.dumps(jobs).encode(), capture_output=True, timeout=BROWSER_SECONDS, check=False)
     if ran.returncode:
         raise ValueError(ran.stderr.decode()[-600:])
     return {name: (text, page) for (name, text), page in zip(texts.items(), json.loads(ran.stdout))}

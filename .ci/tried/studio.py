@@ -24,7 +24,7 @@ sys.path[:0] = [str(TOP / "tools"), str(TOP / ".ci"), str(TOP / ".ci" / "tried")
 
 import editors as editors_tried  # noqa: E402
 import report as reports_tried  # noqa: E402
-from awaited import SECONDS, wait_until  # noqa: E402
+from awaited import BROWSER_SECONDS, SECONDS, wait_until  # noqa: E402
 from canonical import read_document  # noqa: E402
 from served import Served, parted, read_all  # noqa: E402
 from stand_ins import between  # noqa: E402
@@ -402,7 +402,6 @@ STYLES = {"comment": "comment", "error": "error", "number": "number", "operator"
 SEEDS = ("0", "1", "6", "999", "18446744073709551615", "18446744073709551616")
 HOSTILE = [reports_tried.HOSTILE[it] for it in ("a comment", "a name that isn't there", "a message", "a trace")]
 ROUNDS, TYPED = 2, " # as one types"
-BROWSER_SECONDS = 3600  # some 50 where nothing else runs
 KEYSTROKES = 5
 
 

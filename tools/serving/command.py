@@ -1,12 +1,11 @@
 """The command line of tools/language_server."""
 
 from argparse import SUPPRESS, ArgumentTypeError, RawDescriptionHelpFormatter
+from importlib import import_module
 
 from command_line import Parser
 from program import add_program_option
-from serving.judging import judge_all
 from serving.lengths import length_of
-from serving.server import serve_editor
 
 ABOUT = """Speaks the Language Server Protocol with an editor, over standard input and standard output: what tools/check
 says of the documents that are open, with fixes; what a name is, where it stands, and its renaming; completion, layout,
@@ -33,4 +32,6 @@ def main(words=None):
     parser.add_argument("--judge", action="store_true", help=SUPPRESS)
     add_program_option(parser)
     options = parser.parse_args(words)
-    return judge_all(options.program) if options.judge else serve_editor(options.program, options.tick)
+    if options.judge:  # which begins soon, as it needs few modules
+        return import_module("serving.judging").judge_all(options.program)
+    return import_module("serving.server").serve_editor(options.program, options.tick)

@@ -23,6 +23,8 @@ static unsigned row_counts[32];
 static unsigned long long drawn;
 static unsigned long long spins;
 static atomic_uint raises[16];
+static atomic_uint raises_in_time[16];
+static unsigned long long least_last_tick; /* a time before which the last tick is not */
 static atomic_bool may_raise;
 
 void it_overrun(uint32_t task, uint32_t instance, uint64_t tick)
@@ -63,6 +65,20 @@ static void keep(unsigned task, unsigned instance, unsigned count, const int64_t
     for (unsigned at = 0; at < count; at++) {
         own->outs[at] = outs[at];
     }
+}
+
+static unsigned long long monotonic_now(void)
+{
+    struct timespec now;
+    clock_gettime(CLOCK_MONOTONIC, &now);
+    return (unsigned long long)now.tv_sec * 1000000000ULL + (unsigned long long)now.tv_nsec;
+}
+
+/* Counts an event that was raised; one that was raised before the last tick occurs in the run. */
+static void count_raise(unsigned event)
+{
+    atomic_fetch_add(&raises_in_time[event], monotonic_now() < least_last_tick);
+    atomic_fetch_add(&raises[event], 1);
 }
 
 /* INPUTS */
@@ -125,6 +141,7 @@ int main(int count, char **words)
     sigaction(SIGUSR1, &action, NULL);
     action.sa_handler = on_stop;
     sigaction(SIGTERM, &action, NULL);
+    least_last_tick = monotonic_now() + strtoull(words[5], NULL, 10);
     atomic_store(&may_raise, true);
     pthread_create(&raiser, NULL, raise_often, NULL);
     pthread_create(&forbidder, NULL, forbid_raises, &raising);
@@ -139,7 +156,7 @@ int main(int count, char **words)
         printf("overrun %u %u %llu\n", overruns[at].task, overruns[at].instance, overruns[at].tick);
     }
     for (unsigned event = 0; event < 16; event++) {
-        printf("raised %u %u\n", event, atomic_load(&raises[event]));
+        printf("raised %u %u %u\n", event, atomic_load(&raises_in_time[event]), atomic_load(&raises[event]));
     }
     for (unsigned task = 0; task < 32; task++) {
         for (unsigned at = 0; at < row_counts[task]; at++) {
