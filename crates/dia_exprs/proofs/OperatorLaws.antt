@@ -47,9 +47,6 @@ written-is so (Some u) o e = either (so (notation_of u)) refl
     either true is = let same : Some u ≡ Some o = rw is at e in (same, cc)
     either false is = let wrong : None ≡ Some o = rw is at e in absurd cc
 
-pub not-written : (so : Notation → Bool) (o : BinOp) → so (notation_of o) ≡ false → if_written so (Some o) ≡ None
-not-written so o e = rw e refl
-
 pub is-written : (so : Notation → Bool) (o : BinOp) → so (notation_of o) ≡ true → if_written so (operator_of (operator_token o)) ≡ Some o
 is-written so o e = rw (listed o, e) refl
 

@@ -21,7 +21,7 @@ Readers = ℕ → Reader
 abbrev pub of_level : Level → Readers
 of_level l n = reader n l
 
--- what stands after a parenthesis that opens, after `min` or `max`, and after `if`
+-- what stands after a parenthesis that opens, after an operator that is called, and after `if`
 abbrev pub of_inside : Readers
 of_inside n = inside_at (reader n Whole)
 

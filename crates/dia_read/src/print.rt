@@ -152,8 +152,9 @@ fn print_body(alloc: Global, body: &Body) -> Result<Vec<u8>, NoMemory>
 }
 
 /// The canonical text of the body: one space between tokens except around the point, after `(`, before `)` and the
-/// comma and after `min` and `max`; two spaces before the lines of a body; parentheses around each operand of an operator
-/// and each part of an `if` that is an operator other than `min` and `max`, or an `if`; no comments and no blank lines.
+/// comma, and between the operator of a call and its `(`; two spaces before the lines of a body; parentheses around each
+/// operand of an operator and each part of an `if` that is an operator but no call, or an `if`; no comments and no blank
+/// lines.
 /// docs/LANGUAGE.md has the rules. Each body that `read_doc` returns can be printed. It takes memory for one text that
 /// grows.
 pub fn print_doc(alloc: Global, body: &Body) -> Result<Vec<u8>, NoMemory>
