@@ -34,13 +34,13 @@ from refuse_memory import COMMANDS, NUMBER, READING_NOTHING, SIZE, TASK, tasks_o
 from running import program
 
 OK, REFUSED, STOPPED = 0, 1, 130
-BLOCK = 20  # documents of a worker's turn
+BLOCK = 50  # documents of a worker's turn
 TOLD_EACH = 60  # seconds after which it says how far it is
 REFUSED_CALLS = 5  # commands besides `mean` that a refused document is given to
 MOST_TRIES = 2000  # calls in which a document is made smaller
 WITH_THREADS = ("run", "soak")
 RECORDS = (("sim", "--record"), ("cpus", "--record"))
-SCRIPTED = (*2 * (["replay"], ["replay", "--ranked"]), ["form"], ["upgrade"], ["rank"], ["mean"])
+SCRIPTED = (*2 * (("replay",), ("replay", "--ranked")), ("form",), ("upgrade",), ("rank",), ("mean",))
 OTHER_NAMES = ("a", "nothing", "dbp", "every", "a_name_of_24_characters_", "x" * 25, "9", "")
 REFUSAL = re.compile(rb"refused: (?:line [0-9]+: )?([0-9]+)")
 
@@ -89,27 +89,43 @@ class Compared:
 
 
 class Comparison:
-    """The comparison of two programs on the document of a number."""
+    """The comparison of two programs on the document of a number: it goes on from commands to commands."""
 
-    def __init__(self, programs, chain, options, number):
-        self.programs, self.chain, self.number = programs, chain, number
-        self.text, self.draw = drawn_text(options.seed, number), random.Random(f"calls {options.seed} {number}")
-        self.found, self.has_threads = Compared(), number % options.threads_each == 0
+    def __init__(self, options, number):
+        self.number, self.text = number, drawn_text(options.seed, number)
+        self.draw, self.has_threads = random.Random(f"calls {options.seed} {number}"), number % options.threads_each == 0
+        self.found, self.turns = Compared(), self.commands_in_turn()
+        self.asked = next(self.turns)
 
-    def compare(self, commands):
-        """Compares commands on the document, and returns the first program's answer to each."""
-        answers = {}
-        for words, it in zip(commands, self.differences([tuple(map(self.drawn_word, words)) for words in commands])):
-            answers[tuple(words)] = it.answers[0]
-            self.found.counts[" ".join(it.words[:1]), it.answers[0][0]] += 1
-            self.found.differences += [it] if it.differs() else []
-        return answers
+    def calls(self):
+        """Returns the calls that come next, each with the number and the text of the document."""
+        return [(self.number, self.text, words) for words in self.asked]
 
-    def differences(self, commands):
-        """Returns the answers to each command, which may differ."""
-        self.chain.give(self.text)
-        answers = iter(self.chain.answers([[path, *words] for words in commands for path in self.programs]))
-        return [Difference(self.number, words, self.text, (next(answers), next(answers))) for words in commands]
+    def go_on(self, found):
+        """Takes what came of the calls."""
+        self.found.counts.update((" ".join(it.words[:1]), it.answers[0][0]) for it in found)
+        self.found.differences += [it for it in found if it.differs()]
+        self.asked = self.turns.send([it.answers[0] for it in found])
+
+    def commands_in_turn(self):
+        """Yields the commands for the document, and those for one with a script that is made of it; it is sent answers."""
+        ((status, _),) = yield [("mean",)]
+        commands = self.commands() if status != REFUSED else self.draw.sample(self.commands(), REFUSED_CALLS)
+        answers = yield [tuple(map(self.drawn_word, words)) for words in commands]
+        told = dict(zip(map(tuple, commands), answers))
+        recorded, record = told.get(self.draw.choice(RECORDS), (REFUSED, b""))
+        if status != REFUSED and recorded == OK:
+            self.text = with_changed_steps(self.draw, told["form",][1], record)
+            yield self.draw.sample(SCRIPTED, 4)
+        yield []
+
+    def commands(self):
+        """Returns the commands for the document besides `mean`, and at times others, without those whose threads take long."""
+        found = [it for it in COMMANDS if it != ["mean"] and (it != ["run"] or self.has_threads)]
+        others = [it for it in READING_NOTHING if it[0] not in WITH_THREADS or self.has_threads]
+        if self.has_threads or self.draw.randrange(20) == 0:
+            found += [self.draw.choice(others), self.draw.choice(made("words").NO_COMMANDS).split()]
+        return found
 
     def drawn_word(self, word):
         """Returns a word of a command, or a drawn one for a word that stands for others."""
@@ -120,37 +136,27 @@ class Comparison:
             return str(draw.choice((0, 1, draw.randrange(1000), draw.randrange(2**64), 2**64)))
         return str(draw.choice((1, 2, draw.randrange(1, 33), 33))) if word == SIZE else word
 
-    def commands(self):
-        """Returns the commands for the document besides `mean`, and at times others, without those whose threads take long."""
-        found = [it for it in COMMANDS if it != ["mean"] and (it != ["run"] or self.has_threads)]
-        others = [it for it in READING_NOTHING if it[0] not in WITH_THREADS or self.has_threads]
-        if self.has_threads or self.draw.randrange(20) == 0:
-            found += [self.draw.choice(others), self.draw.choice(made("words").NO_COMMANDS).split()]
-        return found
 
-    def compared(self):
-        """Compares commands on the document, and on one with a script that is made of it."""
-        is_accepted = self.compare([["mean"]])["mean",][0] != REFUSED
-        commands = self.commands()
-        answers = self.compare(commands if is_accepted else self.draw.sample(commands, REFUSED_CALLS))
-        status, record = answers.get(self.draw.choice(RECORDS), (REFUSED, b""))
-        if is_accepted and status == OK:
-            self.text = with_changed_steps(self.draw, answers["form",][1], record)
-            self.compare(self.draw.sample(SCRIPTED, 4))
-        return self.found
+def answered(chain, options, calls):
+    """Returns the answers of both programs to calls, each with the number and the text of a document; they may differ."""
+    programs = options.program, options.other
+    answers = iter(chain.answers([(text, [path, *words]) for _, text, words in calls for path in programs]))
+    return [Difference(number, words, text, (next(answers), next(answers))) for number, text, words in calls]
 
-    def smaller(self, difference):
-        """Returns a difference of the same kind in a small document."""
-        tries = iter(range(MOST_TRIES))
 
-        def differs(parts):
-            self.text = b"".join(parts)
-            tried = next(tries, None) is not None and self.differences([difference.words])[0]
-            return tried and tried.differs() and tried.kind() == difference.kind()
+def smaller(chain, options, difference):
+    """Returns a difference of the same kind in a small document."""
+    tries = iter(range(MOST_TRIES))
 
-        lines = least(re.findall(rb"[^\n]*\n|[^\n]+", difference.text), differs)
-        self.text = b"".join(least(re.findall(rb"\w+|\s|.", b"".join(lines)), differs))
-        return self.differences([difference.words])[0]
+    def tried(parts):
+        return answered(chain, options, [(difference.number, b"".join(parts), difference.words)])[0]
+
+    def differs(parts):
+        found = next(tries, None) is not None and tried(parts)
+        return found and found.differs() and found.kind() == difference.kind()
+
+    lines = least(re.findall(rb"[^\n]*\n|[^\n]+", difference.text), differs)
+    return tried(least(re.findall(rb"\w+|\s|.", b"".join(lines)), differs))
 
 
 def least(parts, differs):
@@ -170,11 +176,16 @@ def least(parts, differs):
 
 def compared_block(library, options, numbers):
     """Compares the documents of some numbers, in a process of its own."""
-    found = Compared()
+    found, going_on = Compared(), [Comparison(options, number) for number in numbers]
     with tempfile.TemporaryDirectory() as folder:
         chain = Chain(folder, library)
-        for number in numbers:
-            found.add(Comparison((options.program, options.other), chain, options, number).compared())
+        while going_on:
+            answers = iter(answered(chain, options, [call for it in going_on for call in it.calls()]))
+            for it in going_on:
+                it.go_on([next(answers) for _ in it.asked])
+                if not it.asked:
+                    found.add(it.found)
+            going_on = [it for it in going_on if it.asked]
     return found
 
 
@@ -213,8 +224,8 @@ def tell(options, library, found, seconds):
     with tempfile.TemporaryDirectory() as folder:
         for differences in kinds.values():
             first = min(differences, key=lambda it: len(it.text))
-            comparison = Comparison((options.program, options.other), Chain(folder, library), options, first.number)
-            print(f"{len(differences)} like this: {comparison.smaller(first).told()}\n{comparison.text.decode('latin-1')}")
+            least_one = smaller(Chain(folder, library), options, first)
+            print(f"{len(differences)} like this: {least_one.told()}\n{least_one.text.decode('latin-1')}")
     for (word, status), count in sorted(found.counts.items()):
         print(f"{word or 'no word'}, status {status}: {count}")
     print(f"{found}, {found.calls() / seconds:.0f} in a second")

@@ -11,6 +11,8 @@ from pathlib import Path
 
 from running import kill
 
+MOST_STEPS = 1000  # of a chain; the library reads 256 bytes for each
+
 FOLLOWING = r"""
 #define _GNU_SOURCE
 #include <fcntl.h>
@@ -74,45 +76,44 @@ def built(folder):
 
 
 class Chain:
-    """Calls of programs on one document after another, in the main thread of a process."""
+    """Calls of programs on documents one after another, in the main thread of a process."""
 
     def __init__(self, folder, library, limit=600):
         self.folder, self.limit, self.child = folder, limit, None
-        self.document, self.steps, self.told = (f"{folder}/{it}" for it in ("document", "steps", "told"))
+        self.steps, self.told = f"{folder}/steps", f"{folder}/told"
         self.environment = {**os.environ, "LD_PRELOAD": library, "CHAIN": self.steps, "CHAIN_TOLD": self.told}
         signal.signal(signal.SIGALRM, lambda *_: kill(self.child))
 
-    def give(self, document):
-        """Keeps the document that the next calls read."""
-        Path(self.document).write_bytes(document)
-
-    def answers(self, commands):
-        """Returns the exit status and the output of each command. One that a signal ends, or that is killed at the limit, has
-        its number as a negative status, and the others are run all the same."""
-        found = []
-        while len(found) < len(commands):
-            found += self.first_answers(commands[len(found) :])
+    def answers(self, calls):
+        """Returns the exit status and the output of each call, which is a document and a command. One that a signal ends, or
+        that is killed at the limit, has its number as a negative status, and the others are made all the same."""
+        files = {text: f"{self.folder}/document{number}" for number, text in enumerate({text for text, _ in calls})}
+        for text, file in files.items():
+            Path(file).write_bytes(text)
+        found, steps = [], [(files[text], words) for text, words in calls]
+        while len(found) < len(steps):
+            found += self.first_answers(steps[len(found) :][:MOST_STEPS])
         return found
 
     def sink(self, number):
         """Returns the file that gets the output of a command."""
         return f"{self.folder}/written{number}"
 
-    def first_answers(self, commands):
+    def first_answers(self, steps):
         """Returns the answers of the commands up to the first one that a signal ends."""
-        parts = [[str(len(words)), *words, self.document, self.sink(number)] for number, words in enumerate(commands)]
+        parts = [[str(len(words)), *words, file, self.sink(number)] for number, (file, words) in enumerate(steps)]
         texts = [b"".join(os.fsencode(it) + b"\0" for it in part) for part in parts]
         Path(self.steps).write_bytes(b"".join(texts))
         Path(self.told).write_bytes(b"")
-        ended = self.end_of_chain(commands[0], len(texts[0]))
+        ended = self.end_of_chain(*steps[0], len(texts[0]))
         statuses = [*Path(self.told).read_bytes()]
-        statuses += [ended] if len(statuses) < len(commands) else []
+        statuses += [ended] if len(statuses) < len(steps) else []
         return [(status, Path(self.sink(number)).read_bytes()) for number, status in enumerate(statuses)]
 
-    def end_of_chain(self, words, following):
+    def end_of_chain(self, file, words, following):
         """Runs the chain from its first command on, and returns how its last one ended."""
         sink = (os.POSIX_SPAWN_OPEN, 1, self.sink(0), os.O_WRONLY | os.O_CREAT | os.O_TRUNC, 0o600)
-        streams = [(os.POSIX_SPAWN_OPEN, 0, self.document, os.O_RDONLY, 0), sink, (os.POSIX_SPAWN_OPEN, 2, os.devnull, os.O_WRONLY, 0)]
+        streams = [(os.POSIX_SPAWN_OPEN, 0, file, os.O_RDONLY, 0), sink, (os.POSIX_SPAWN_OPEN, 2, os.devnull, os.O_WRONLY, 0)]
         environment = {**self.environment, "CHAIN_AT": str(following)}
         self.child = os.posix_spawn(words[0], words, environment, file_actions=streams)
         signal.setitimer(signal.ITIMER_REAL, self.limit)
