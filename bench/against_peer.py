@@ -1,12 +1,13 @@
 #!/usr/bin/env python3
 """Compares the exit status and every byte of all commands of two programs on documents that are drawn (bench/drawn_texts.py).
 
-  bench/against_peer.py [--calls N] [--seed SEED] [--from NUMBER] [--documents N] [--at-once N] [--keep FOLDER]
-                        PROGRAM OTHER
+  bench/against_peer.py [--calls N] [--seed SEED] [--from NUMBER] [--documents N] [--at-once N] [--threads-each N]
+                        [--keep FOLDER] PROGRAM OTHER
 
 Each document that `mean` doesn't refuse is given to each command, another one to `mean` and some that are drawn. What a
 simulation recorded becomes a script, with changes: that document is given to `replay` and `replay --ranked` and to others.
-Commands that read nothing, and words that are no command, are tried between. It ends after so many calls (20,000; a call
+Commands that read nothing, and words that are no command, are tried between. Beside other programs `run` and `soak` take as
+long as a hundred other calls: --threads-each says how seldom these are. It ends after so many calls (20,000; a call
 is one of each program) or so many documents. The document of a number is the same whenever the seed is.
 
 Differences are told at the end: one of each kind (a command, both statuses and the codes of refusals), with the smallest
@@ -27,18 +28,19 @@ from dataclasses import dataclass, field
 from functools import partial
 from pathlib import Path
 
+from chained import Chain, built
 from drawn_texts import drawn_text, made, with_changed_steps
 from refuse_memory import COMMANDS, NUMBER, READING_NOTHING, SIZE, TASK, tasks_of
-from running import Calls, program
+from running import program
 
 OK, REFUSED, STOPPED = 0, 1, 130
-BLOCK = 20  # documents of a worker's turn
+BLOCK = 50  # documents of a worker's turn
 TOLD_EACH = 60  # seconds after which it says how far it is
 REFUSED_CALLS = 5  # commands besides `mean` that a refused document is given to
 MOST_TRIES = 2000  # calls in which a document is made smaller
-RARELY = 4  # the threads of `run` take as long as ten other calls: it gets one of so many documents
+WITH_THREADS = ("run", "soak")
 RECORDS = (("sim", "--record"), ("cpus", "--record"))
-SCRIPTED = (*2 * (["replay"], ["replay", "--ranked"]), ["form"], ["upgrade"], ["rank"], ["mean"])
+SCRIPTED = (*2 * (("replay",), ("replay", "--ranked")), ("form",), ("upgrade",), ("rank",), ("mean",))
 OTHER_NAMES = ("a", "nothing", "dbp", "every", "a_name_of_24_characters_", "x" * 25, "9", "")
 REFUSAL = re.compile(rb"refused: (?:line [0-9]+: )?([0-9]+)")
 
@@ -55,6 +57,10 @@ class Difference:
     def kind(self):
         """Returns what differences of one kind have in common."""
         return (self.words[:1], *((status, *REFUSAL.findall(written)[:1]) for status, written in self.answers))
+
+    def differs(self):
+        """Whether the programs differ."""
+        return self.answers[0] != self.answers[1]
 
     def told(self):
         """Returns a line that tells the difference."""
@@ -83,25 +89,43 @@ class Compared:
 
 
 class Comparison:
-    """The comparison of two programs on the document of a number."""
+    """The comparison of two programs on the document of a number: it goes on from commands to commands."""
 
-    def __init__(self, programs, calls, seed, number):
-        self.programs, self.calls, self.number, self.text = programs, calls, number, drawn_text(seed, number)
-        self.draw, self.found = random.Random(f"calls {seed} {number}"), Compared()
+    def __init__(self, options, number):
+        self.number, self.text = number, drawn_text(options.seed, number)
+        self.draw, self.has_threads = random.Random(f"calls {options.seed} {number}"), number % options.threads_each == 0
+        self.found, self.turns = Compared(), self.commands_in_turn()
+        self.asked = next(self.turns)
 
-    def call(self, words):
-        """Compares a command, and returns the first program's answer."""
-        words = tuple(self.drawn_word(it) for it in words)
-        found = self.difference(words)
-        self.found.counts[" ".join(words[:1]), found.answers[0][0]] += 1
-        if found.answers[0] != found.answers[1]:
-            self.found.differences.append(found)
-        return found.answers[0]
+    def calls(self):
+        """Returns the calls that come next, each with the number and the text of the document."""
+        return [(self.number, self.text, words) for words in self.asked]
 
-    def difference(self, words):
-        """Returns how the answers to the document differ, if they do."""
-        self.calls.give(self.text)
-        return Difference(self.number, words, self.text, tuple(self.calls.answer(it, words) for it in self.programs))
+    def go_on(self, found):
+        """Takes what came of the calls."""
+        self.found.counts.update((" ".join(it.words[:1]), it.answers[0][0]) for it in found)
+        self.found.differences += [it for it in found if it.differs()]
+        self.asked = self.turns.send([it.answers[0] for it in found])
+
+    def commands_in_turn(self):
+        """Yields the commands for the document, and those for one with a script that is made of it; it is sent answers."""
+        ((status, _),) = yield [("mean",)]
+        commands = self.commands() if status != REFUSED else self.draw.sample(self.commands(), REFUSED_CALLS)
+        answers = yield [tuple(map(self.drawn_word, words)) for words in commands]
+        told = dict(zip(map(tuple, commands), answers))
+        recorded, record = told.get(self.draw.choice(RECORDS), (REFUSED, b""))
+        if status != REFUSED and recorded == OK:
+            self.text = with_changed_steps(self.draw, told["form",][1], record)
+            yield self.draw.sample(SCRIPTED, 4)
+        yield []
+
+    def commands(self):
+        """Returns the commands for the document besides `mean`, and at times others, without those whose threads take long."""
+        found = [it for it in COMMANDS if it != ["mean"] and (it != ["run"] or self.has_threads)]
+        others = [it for it in READING_NOTHING if it[0] not in WITH_THREADS or self.has_threads]
+        if self.has_threads or self.draw.randrange(20) == 0:
+            found += [self.draw.choice(others), self.draw.choice(made("words").NO_COMMANDS).split()]
+        return found
 
     def drawn_word(self, word):
         """Returns a word of a command, or a drawn one for a word that stands for others."""
@@ -112,39 +136,27 @@ class Comparison:
             return str(draw.choice((0, 1, draw.randrange(1000), draw.randrange(2**64), 2**64)))
         return str(draw.choice((1, 2, draw.randrange(1, 33), 33))) if word == SIZE else word
 
-    def compared(self):
-        """Compares commands on the document, and on one with a script that is made of it."""
-        status, _ = self.call(["mean"])
-        others = [it for it in COMMANDS if it != ["mean"] and (it != ["run"] or self.draw.randrange(RARELY) == 0)]
-        others = self.draw.sample(others, REFUSED_CALLS) if status == REFUSED else others
-        answers = {tuple(words): self.call(words) for words in others}
-        if self.draw.randrange(20) == 0:
-            self.call(self.draw.choice(READING_NOTHING))
-            self.call(self.draw.choice(made("words").NO_COMMANDS).split())
-        if status != REFUSED:
-            self.compare_scripts(answers)
-        return self.found
 
-    def compare_scripts(self, answers):
-        """Compares commands on the document with a script, if a simulation recorded one."""
-        status, record = answers.get(self.draw.choice(RECORDS), (REFUSED, b""))
-        if status == OK:
-            self.text = with_changed_steps(self.draw, answers["form",][1], record)
-            for words in self.draw.sample(SCRIPTED, 4):
-                self.call(words)
+def answered(chain, options, calls):
+    """Returns the answers of both programs to calls, each with the number and the text of a document; they may differ."""
+    programs = options.program, options.other
+    answers = iter(chain.answers([(text, [path, *words]) for _, text, words in calls for path in programs]))
+    return [Difference(number, words, text, (next(answers), next(answers))) for number, text, words in calls]
 
-    def smaller(self, difference):
-        """Returns a difference of the same kind in a small document."""
-        tries = iter(range(MOST_TRIES))
 
-        def differs(parts):
-            self.text = b"".join(parts)
-            tried = next(tries, None) is not None and self.difference(difference.words)
-            return tried and tried.answers[0] != tried.answers[1] and tried.kind() == difference.kind()
+def smaller(chain, options, difference):
+    """Returns a difference of the same kind in a small document."""
+    tries = iter(range(MOST_TRIES))
 
-        lines = least(re.findall(rb"[^\n]*\n|[^\n]+", difference.text), differs)
-        self.text = b"".join(least(re.findall(rb"\w+|\s|.", b"".join(lines)), differs))
-        return self.difference(difference.words)
+    def tried(parts):
+        return answered(chain, options, [(difference.number, b"".join(parts), difference.words)])[0]
+
+    def differs(parts):
+        found = next(tries, None) is not None and tried(parts)
+        return found and found.differs() and found.kind() == difference.kind()
+
+    lines = least(re.findall(rb"[^\n]*\n|[^\n]+", difference.text), differs)
+    return tried(least(re.findall(rb"\w+|\s|.", b"".join(lines)), differs))
 
 
 def least(parts, differs):
@@ -162,13 +174,18 @@ def least(parts, differs):
     return parts
 
 
-def compared_block(programs, seed, numbers):
+def compared_block(library, options, numbers):
     """Compares the documents of some numbers, in a process of its own."""
-    found = Compared()
+    found, going_on = Compared(), [Comparison(options, number) for number in numbers]
     with tempfile.TemporaryDirectory() as folder:
-        calls = Calls(folder)
-        for number in numbers:
-            found.add(Comparison(programs, calls, seed, number).compared())
+        chain = Chain(folder, library)
+        while going_on:
+            answers = iter(answered(chain, options, [call for it in going_on for call in it.calls()]))
+            for it in going_on:
+                it.go_on([next(answers) for _ in it.asked])
+                if not it.asked:
+                    found.add(it.found)
+            going_on = [it for it in going_on if it.asked]
     return found
 
 
@@ -179,10 +196,10 @@ def blocks_of(options):
         yield range(first, min(first + BLOCK, last))
 
 
-def all_compared(options):
+def all_compared(options, library):
     """Yields what came of each block, until there were enough calls."""
     blocks, made_calls = blocks_of(options), 0
-    call = partial(compared_block, (options.program, options.other), options.seed)
+    call = partial(compared_block, library, options)
     with ProcessPoolExecutor(options.at_once, initializer=signal.signal, initargs=(signal.SIGINT, signal.SIG_IGN)) as pool:
         pending = set()
         while True:
@@ -199,7 +216,7 @@ def all_compared(options):
                 yield found
 
 
-def tell(options, found, seconds):
+def tell(options, library, found, seconds):
     """Prints one difference of each kind, and the counts."""
     kinds = {}
     for difference in found.differences:
@@ -207,8 +224,8 @@ def tell(options, found, seconds):
     with tempfile.TemporaryDirectory() as folder:
         for differences in kinds.values():
             first = min(differences, key=lambda it: len(it.text))
-            comparison = Comparison((options.program, options.other), Calls(folder), options.seed, first.number)
-            print(f"{len(differences)} like this: {comparison.smaller(first).told()}\n{comparison.text.decode('latin-1')}")
+            least_one = smaller(Chain(folder, library), options, first)
+            print(f"{len(differences)} like this: {least_one.told()}\n{least_one.text.decode('latin-1')}")
     for (word, status), count in sorted(found.counts.items()):
         print(f"{word or 'no word'}, status {status}: {count}")
     print(f"{found}, {found.calls() / seconds:.0f} in a second")
@@ -224,6 +241,7 @@ def read_options():
     parser.add_argument("--from", dest="first", type=int, default=0, metavar="NUMBER", help="the first document's number (0)")
     parser.add_argument("--documents", type=int, help="how many documents (as many as the calls need)")
     parser.add_argument("--at-once", type=int, default=1, help="processes that compare side by side (1)")
+    parser.add_argument("--threads-each", type=int, default=20, metavar="N", help="one of so many documents has commands with threads (20)")
     parser.add_argument("--keep", type=Path, metavar="FOLDER", help="gets the documents that differ")
     return parser.parse_args()
 
@@ -241,14 +259,16 @@ def main():
     """Compares until there were enough calls, and returns the exit status."""
     options, all_found, start, told = read_options(), Compared(), time.monotonic(), 0
     try:
-        for found in all_compared(options):
-            keep(options.keep, found.differences)
-            all_found.add(found)
-            seconds = time.monotonic() - start
-            if seconds // TOLD_EACH > told:
-                told = seconds // TOLD_EACH
-                print(f"{seconds:.0f} s: {all_found}", file=sys.stderr, flush=True)
-        tell(options, all_found, time.monotonic() - start)
+        with tempfile.TemporaryDirectory() as folder:
+            library = built(folder)
+            for found in all_compared(options, library):
+                keep(options.keep, found.differences)
+                all_found.add(found)
+                seconds = time.monotonic() - start
+                if seconds // TOLD_EACH > told:
+                    told = seconds // TOLD_EACH
+                    print(f"{seconds:.0f} s: {all_found}", file=sys.stderr, flush=True)
+            tell(options, library, all_found, time.monotonic() - start)
     except KeyboardInterrupt:
         return STOPPED
     return 1 if all_found.differences else 0
