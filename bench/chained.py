@@ -113,7 +113,8 @@ class Chain:
     def end_of_chain(self, file, words, following):
         """Runs the chain from its first command on, and returns how its last one ended."""
         sink = (os.POSIX_SPAWN_OPEN, 1, self.sink(0), os.O_WRONLY | os.O_CREAT | os.O_TRUNC, 0o600)
-        streams = [(os.POSIX_SPAWN_OPEN, 0, file, os.O_RDONLY, 0), sink, (os.POSIX_SPAWN_OPEN, 2, os.devnull, os.O_WRONLY, 0)]
+        errors = (os.POSIX_SPAWN_OPEN, 2, os.devnull, os.O_WRONLY, 0)
+        streams = [(os.POSIX_SPAWN_OPEN, 0, file, os.O_RDONLY, 0), sink, errors]
         environment = {**self.environment, "CHAIN_AT": str(following)}
         self.child = os.posix_spawn(words[0], words, environment, file_actions=streams)
         signal.setitimer(signal.ITIMER_REAL, self.limit)
