@@ -225,7 +225,7 @@ def tell(options, library, found, seconds):
         for differences in kinds.values():
             first = min(differences, key=lambda it: len(it.text))
             least_one = smaller(Chain(folder, library), options, first)
-            print(f"{len(differences)} like this: {least_one.told()}\n{least_one.text.decode('latin-1')}")
+            print(f"{len(differences)} like this: {least_one.told()}\n{least_one.text.decode('latin-1')}", flush=True)
     for (word, status), count in sorted(found.counts.items()):
         print(f"{word or 'no word'}, status {status}: {count}")
     print(f"{found}, {found.calls() / seconds:.0f} in a second")

@@ -78,7 +78,7 @@ def built(folder):
 class Chain:
     """Calls of programs on documents one after another, in the main thread of a process."""
 
-    def __init__(self, folder, library, limit=600):
+    def __init__(self, folder, library, limit=3600):
         self.folder, self.limit, self.child = folder, limit, None
         self.steps, self.told = f"{folder}/steps", f"{folder}/told"
         self.environment = {**os.environ, "LD_PRELOAD": library, "CHAIN": self.steps, "CHAIN_TOLD": self.told}
