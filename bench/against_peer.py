@@ -225,7 +225,7 @@ def tell(options, library, found, seconds):
         for differences in kinds.values():
             first = min(differences, key=lambda it: len(it.text))
             least_one = smaller(Chain(folder, library), options, first)
-            print(f"{len(differences)} like this: {least_one.told()}\n{least_one.text.decode('latin-1')}")
+            print(f"{len(differences)} like this: {least_one.told()}\n{least_one.text.decode('latin-1')}", flush=True)
     for (word, status), count in sorted(found.counts.items()):
         print(f"{word or 'no word'}, status {status}: {count}")
     print(f"{found}, {found.calls() / seconds:.0f} in a second")
@@ -241,7 +241,8 @@ def read_options():
     parser.add_argument("--from", dest="first", type=int, default=0, metavar="NUMBER", help="the first document's number (0)")
     parser.add_argument("--documents", type=int, help="how many documents (as many as the calls need)")
     parser.add_argument("--at-once", type=int, default=1, help="processes that compare side by side (1)")
-    parser.add_argument("--threads-each", type=int, default=20, metavar="N", help="one of so many documents has commands with threads (20)")
+    parser.add_argument("--threads-each", type=int, default=20, metavar="N",
+                        help="one of so many documents has commands with threads (20)")
     parser.add_argument("--keep", type=Path, metavar="FOLDER", help="gets the documents that differ")
     return parser.parse_args()
 

@@ -78,7 +78,7 @@ def built(folder):
 class Chain:
     """Calls of programs on documents one after another, in the main thread of a process."""
 
-    def __init__(self, folder, library, limit=600):
+    def __init__(self, folder, library, limit=3600):
         self.folder, self.limit, self.child = folder, limit, None
         self.steps, self.told = f"{folder}/steps", f"{folder}/told"
         self.environment = {**os.environ, "LD_PRELOAD": library, "CHAIN": self.steps, "CHAIN_TOLD": self.told}
@@ -113,7 +113,8 @@ class Chain:
     def end_of_chain(self, file, words, following):
         """Runs the chain from its first command on, and returns how its last one ended."""
         sink = (os.POSIX_SPAWN_OPEN, 1, self.sink(0), os.O_WRONLY | os.O_CREAT | os.O_TRUNC, 0o600)
-        streams = [(os.POSIX_SPAWN_OPEN, 0, file, os.O_RDONLY, 0), sink, (os.POSIX_SPAWN_OPEN, 2, os.devnull, os.O_WRONLY, 0)]
+        errors = (os.POSIX_SPAWN_OPEN, 2, os.devnull, os.O_WRONLY, 0)
+        streams = [(os.POSIX_SPAWN_OPEN, 0, file, os.O_RDONLY, 0), sink, errors]
         environment = {**self.environment, "CHAIN_AT": str(following)}
         self.child = os.posix_spawn(words[0], words, environment, file_actions=streams)
         signal.setitimer(signal.ITIMER_REAL, self.limit)

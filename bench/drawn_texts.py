@@ -2,7 +2,7 @@
 
 A text is one of the examples and cases, or comes from a drawer: those of .ci, that of scenarios, and the one below, which
 draws every line of the language. Then it may get version 2, other blanks, comments and numbers with zeros, a script made of
-steps that a program took, or the changes of bench/mutants.py.
+steps that a program took, other names and numbers, or the changes of bench/mutants.py.
 """
 
 import importlib.util
@@ -20,8 +20,8 @@ from drawn_documents import NUMBERS, Draw  # noqa: E402
 from mutants import mutant_of  # noqa: E402
 from scenario_texts import drawn_document as drawn_scenario  # noqa: E402
 
-LATEST = 1_000_000_000
 NAMES = ("a", "B", "_", "x9", "time", "T", "t", "a_name_of_24_characters_", "dbp_", "on_", "e1", "level")
+LIMITS = tuple(b"%d" % it for it in (0, 1, 2, 7, 8, 9, 32, 99_999, 100_001, 10**6, 10**6 + 1, 10**9, 10**9 + 1, 2**63 - 1, 2**63))
 BLANKS = (" ", " ", " ", "  ", "\t", " \t ")
 MOST_STEPS = 400
 
@@ -77,15 +77,14 @@ class Drawing:
         clock = f"every {period * self.scale}{start}"
         if self.events and draw.randrange(3) == 0:
             clock = f"on {draw.choice(self.events)}"
-        is_given = {"prio": self.policy == "fp" or draw.randrange(3) == 0, "deadline": self.policy == "edf" or draw.randrange(3) == 0}
-        is_fixed, other = self.policy == "fp", draw.randrange(1, 9)
-        prio = f" prio {self.ranks[place] if is_fixed else other}" if is_given["prio"] else ""
-        deadline = f" deadline {(other if is_fixed else self.ranks[place]) * self.scale}" if is_given["deadline"] else ""
+        is_fixed, has_both, other = self.policy == "fp", draw.randrange(3) == 0, draw.randrange(1, 9)
+        prio = f" prio {self.ranks[place] if is_fixed else other}" if is_fixed or has_both else ""
+        deadline = f" deadline {(other if is_fixed else self.ranks[place]) * self.scale}" if has_both or not is_fixed else ""
         when, cpu = "", ""
         if self.version == 2:
             when = f" when {draw.choice(self.inputs)}" if self.inputs and draw.randrange(4) == 0 else ""
             cpu = f" cpu {draw.randrange(8)}" if draw.randrange(3) else ""
-        return f"task {self.tasks[place]} {clock}{when}{prio}{deadline} cost {min(self.costs[place] * self.scale, LATEST)}{cpu}"
+        return f"task {self.tasks[place]} {clock}{when}{prio}{deadline} cost {self.costs[place] * self.scale}{cpu}"
 
     def is_above(self, place, other):
         """Whether a task is ranked above another one."""
@@ -168,6 +167,19 @@ def in_version_2(draw, text):
     return b"\n".join(found)
 
 
+def with_other_tokens(draw, text):
+    """Returns a text in which some names are others of its names, and some numbers others or at the limits."""
+    for _ in range(draw.randint(1, 3)):
+        kind = draw.choice((rb"[A-Za-z_]\w*", rb"[0-9]+"))
+        found = [*re.finditer(rb"(?<!\w)%s(?!\w)" % kind, text)]
+        if found:
+            place, other = draw.choice(found), draw.choice(found)[0]
+            if place[0].isdigit() and draw.randrange(2):
+                other = draw.choice(LIMITS)
+            text = text[: place.start()] + other + text[place.end() :]
+    return text
+
+
 def padded(draw, text):
     """Returns a text with so many comments before it that it is about as long as a document may be."""
     return draw.choice((b"", b" ", b"#\n", b"\n"))[: draw.randrange(3)] + filled(text, b"#" * 99)
@@ -223,13 +235,13 @@ SOURCES = (
 
 
 def drawn_text(seed, number):
-    """Returns the document of a number; half of them are changed, so that most of those have a fault."""
+    """Returns the document of a number; half of them are changed, and most of those have a fault."""
     draw = random.Random(f"{seed} {number}")
     text = draw.choice(SOURCES)(draw)
     if draw.randrange(8) == 0:
         text = in_version_2(draw, text)
     if draw.randrange(4) == 0:
         text = spelled_otherwise(draw, text)
-    if draw.randrange(2):
-        text = mutant_of(draw, text)
+    change = draw.choice((None, None, None, mutant_of, with_other_tokens, with_other_tokens))
+    text = change(draw, text) if change else text
     return padded(draw, text) if draw.randrange(500) == 0 else text

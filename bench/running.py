@@ -81,7 +81,8 @@ class Calls:
     def answer(self, path, words, environment=os.environ):
         """Returns the exit status of a program and what it writes; after the limit it is killed, and the status is -9."""
         sink = (os.POSIX_SPAWN_OPEN, 1, self.sink, os.O_WRONLY | os.O_CREAT | os.O_TRUNC, 0o600)
-        streams = [(os.POSIX_SPAWN_OPEN, 0, self.source, os.O_RDONLY, 0), sink, (os.POSIX_SPAWN_OPEN, 2, os.devnull, os.O_WRONLY, 0)]
+        errors = (os.POSIX_SPAWN_OPEN, 2, os.devnull, os.O_WRONLY, 0)
+        streams = [(os.POSIX_SPAWN_OPEN, 0, self.source, os.O_RDONLY, 0), sink, errors]
         self.child = os.posix_spawn(path, [path, *words], environment, file_actions=streams)
         signal.setitimer(signal.ITIMER_REAL, self.limit)
         _, status = os.waitpid(self.child, 0)
