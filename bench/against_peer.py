@@ -8,7 +8,7 @@ Each document that `mean` doesn't refuse is given to each command, another one t
 simulation recorded becomes a script, with changes: that document is given to `replay` and `replay --ranked` and to others.
 Commands that read nothing, and words that are no command, are tried between. Beside other programs `run` and `soak` take as
 long as a hundred other calls: --threads-each says how seldom these are. It ends after so many calls (20,000; a call
-is one of each program) or so many documents. The document of a number is the same whenever the seed is.
+is one of each program), so many documents, or an interrupt. The document of a number is the same whenever the seed is.
 
 Differences are told at the end: one of each kind (a command, both statuses and the codes of refusals), with the smallest
 document that is found to differ likewise. The last lines count the calls by command and status, and the differences. The
@@ -256,23 +256,30 @@ def keep(folder, differences):
             (folder / f"{it.number}_{'_'.join(it.words)}.dbp").write_bytes(it.text)
 
 
-def main():
-    """Compares until there were enough calls, and returns the exit status."""
-    options, all_found, start, told = read_options(), Compared(), time.monotonic(), 0
+def compare_all(options, library, all_found):
+    """Compares until there were enough calls or it is interrupted, and returns whether it was."""
+    start, told = time.monotonic(), 0
     try:
-        with tempfile.TemporaryDirectory() as folder:
-            library = built(folder)
-            for found in all_compared(options, library):
-                keep(options.keep, found.differences)
-                all_found.add(found)
-                seconds = time.monotonic() - start
-                if seconds // TOLD_EACH > told:
-                    told = seconds // TOLD_EACH
-                    print(f"{seconds:.0f} s: {all_found}", file=sys.stderr, flush=True)
-            tell(options, library, all_found, time.monotonic() - start)
+        for found in all_compared(options, library):
+            keep(options.keep, found.differences)
+            all_found.add(found)
+            seconds = time.monotonic() - start
+            if seconds // TOLD_EACH > told:
+                told = seconds // TOLD_EACH
+                print(f"{seconds:.0f} s: {all_found}", file=sys.stderr, flush=True)
     except KeyboardInterrupt:
-        return STOPPED
-    return 1 if all_found.differences else 0
+        return True
+    return False
+
+
+def main():
+    """Compares the programs, tells what was found, and returns the exit status."""
+    options, all_found, start = read_options(), Compared(), time.monotonic()
+    with tempfile.TemporaryDirectory() as folder:
+        library = built(folder)
+        is_stopped = compare_all(options, library, all_found)
+        tell(options, library, all_found, time.monotonic() - start)
+    return STOPPED if is_stopped else 1 if all_found.differences else 0
 
 
 if __name__ == "__main__":
