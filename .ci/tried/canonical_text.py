@@ -35,7 +35,7 @@ def body_of(task):
 
 def lines_of(document):
     """Yields the lines that a document was read from, those of a body and of the declarations in another order."""
-    yield from (f"dbp {document.version}", f"policy {document.policy.value}", f"until {document.until}")
+    yield from (f"dbp {document.version}", f"policy {document.policy.word}", f"until {document.until}")
     yield from (f"input {it.name} = {it.first}" for it in document.inputs)
     yield from (f"event {name}" for name in document.events)
     for task in document.tasks:
