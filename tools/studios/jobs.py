@@ -173,6 +173,7 @@ class Jobs:
         self.numbers = count(1)
         self.lock = Lock()
         self.running = {}
+        self.newest = {}
         self.channel, other = socket.socketpair(socket.AF_UNIX, socket.SOCK_SEQPACKET)
         if not os.fork():
             self.channel.close()
@@ -182,18 +183,30 @@ class Jobs:
                 os._exit(0)
         other.close()
 
-    def begin(self, kind, text, **asked):
-        """Begins a job in place of the last one of its kind; returns its number, and the pipe of its events."""
+    def begin(self, kind, text, turn, **asked):
+        """Begins a job in place of the last one of its kind; returns its number, and the pipe of its events.
+
+        The turn is the page that asks, and how often it had asked before. Questions may come in another order than they
+        were asked in: one that is older than the last one of its page begins nothing, and its pipe has no events.
+        """
         source, sink = os.pipe()
         with self.lock, open(os.memfd_create("text"), "wb") as memory:
             memory.write(text)
             memory.flush()
-            if kind in self.running:
-                self.send({"stop": self.running[kind]})
-            job = self.running[kind] = next(self.numbers)
-            self.send({"job": job, "kind": kind, **asked}, memory.fileno(), sink)
+            job = next(self.numbers)
+            if not self.is_older(kind, turn):
+                self.newest[kind] = turn
+                if kind in self.running:
+                    self.send({"stop": self.running[kind]})
+                self.running[kind] = job
+                self.send({"job": job, "kind": kind, **asked}, memory.fileno(), sink)
         os.close(sink)
         return job, source
+
+    def is_older(self, kind, turn):
+        """Returns whether the page of a turn has asked for this kind later already."""
+        page, number = self.newest.get(kind, (None, 0))
+        return turn[0] == page and turn[1] < number
 
     def stop(self, job):
         """Ends a job, if it hasn't ended yet."""

@@ -303,12 +303,12 @@ class Handler(BaseHTTPRequestHandler):
 
     def work(self):
         """Begins a job in place of the last one of its kind, and sends its events."""
-        number = self.asked.get("number", "0")
-        if not NUMBER.fullmatch(number):
+        number, turn = (self.asked.get(it, "0") for it in ("number", "turn"))
+        if not (NUMBER.fullmatch(number) and NUMBER.fullmatch(turn)):
             raise Refusal(HTTPStatus.BAD_REQUEST, "this isn't a number")
         name, text = self.asked.get("name", "text")[:200], self.body()
         given = {"program": self.server.program, "name": name, "number": number}
-        job, source = self.server.jobs.begin(self.kind, text, **given)
+        job, source = self.server.jobs.begin(self.kind, text, (self.asked.get("page"), int(turn)), **given)
         try:
             self.begin(HTTPStatus.OK, "application/x-ndjson")
             self.relay(source)

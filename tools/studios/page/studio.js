@@ -16,15 +16,17 @@ const say = (place, text, cls = "") => { place.textContent = text; place.classNa
 // What is asked of the server, newest first: an answer to an older question is dropped.
 
 class Questions {
-  constructor() { this.asked = {}; }
+  constructor() { Object.assign(this, { asked: {}, page: performance.timeOrigin, turn: 0 }); }
 
-  // Asks a question in place of the last one of its kind, and hands each event of the answer on.
+  // Asks a question in place of the last one of its kind, and hands each event of the answer on. The server may get questions
+  // in another order, and goes by their turns.
   async ask(kind, words, body, take) {
     this.stop(kind);
     const control = new AbortController();
     this.asked[kind] = control;
     try {
-      const answer = await fetch(`${kind}?${new URLSearchParams(words)}`, { method: "POST", body, signal: control.signal });
+      const asked = new URLSearchParams({ ...words, page: this.page, turn: ++this.turn });
+      const answer = await fetch(`${kind}?${asked}`, { method: "POST", body, signal: control.signal });
       if (!answer.ok) throw new Error((await answer.text()).trim());
       for await (const line of linesOf(answer.body)) {
         if (this.asked[kind] !== control) return;
