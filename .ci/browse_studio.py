@@ -297,6 +297,7 @@ def saving(driver, job):
     file.write_text(job["other"])
     found.append(warned(driver))
     driver.find_element(By.ID, "load").click()
+    wait_until(driver, TEXT, lambda it: it == job["other"])
     keep("saved")
     driver.execute_script(GO_TO, 1, 0)
     typed(driver, "z", control=True)
