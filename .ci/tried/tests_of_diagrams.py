@@ -36,6 +36,7 @@ from checking.trees import Tree  # noqa: E402
 from drawn_documents import drawn_document  # noqa: E402
 from installed import Wrong, must  # noqa: E402
 from program import run_program  # noqa: E402
+from served import own_signals  # noqa: E402
 from stand_ins import between  # noqa: E402
 from testing.beside import declared_in  # noqa: E402
 from testing.drawing import Drawer  # noqa: E402
@@ -625,7 +626,8 @@ def is_running(process):
 def compare_interrupt(program, number, room):
     """Compares what an interrupt leaves of a call with several processes: none of them, and no file."""
     words = ["--traces", "100000", "--jobs", "2", "--junit", str(room / "a.xml"), "--keep", str(room), str(CRUISE)]
-    child = subprocess.Popen([sys.executable, "-S", TEST, "--program", program, *words], stderr=subprocess.PIPE)
+    call = [sys.executable, "-S", TEST, "--program", program, *words]
+    child = subprocess.Popen(call, stderr=subprocess.PIPE, preexec_fn=own_signals)
     listed = Path(f"/proc/{child.pid}/task/{child.pid}/children")
     children = wait_for(lambda: listed.read_text().split(), lambda it: len(it) == 2)
     child.send_signal(number)
