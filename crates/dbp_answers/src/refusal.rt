@@ -113,7 +113,7 @@ fn push_read_code(text: &mut Vec<u8>, code: ReadCode) -> Result<(), NoMemory>
     push_name(text, code.number(), code.name())?;
     if let ReadCode::LimitHit(limit) = code {
         text.push(b' ')?;
-        text.extend_from_slice(limit.word().as_bytes())?;
+        text.extend_from_slice(limit.name().as_bytes())?;
     }
     Ok(())
 }

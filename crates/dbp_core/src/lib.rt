@@ -9,8 +9,8 @@
 //! hands on the types and laws of `dbp_rules`.
 #![tactic(auto)]
 
-mod arms;
 mod conditions;
+mod dispatch;
 mod look_up;
 mod machine;
 mod making;

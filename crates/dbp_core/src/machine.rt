@@ -8,7 +8,7 @@ ghost use Rattle.dbp_rules.specs.Sound.{Sound};
 ghost use Rattle.dbp_rules.specs.Wired.{wiring_of};
 ghost use Rattle.dbp_core.specs.Unfinished.{HasUnfinished};
 
-use crate::arms::advance;
+use crate::dispatch::advance;
 use crate::making::make;
 use crate::rank_mask::RankMask;
 use dbp_plan::{NoMemory, Plan, Row};

@@ -7,7 +7,7 @@ ghost use Rattle.dbp_rules.specs.Shapes.{IsShape};
 
 use crate::look_up::{declared_at, task_at};
 use crate::releaser::{aim, claim, open, see};
-use crate::steps::{end, finish, hear, is_open, look, put, read_word, shut, start, take};
+use crate::steps::{end, finish, hear, is_open, look, put, read_value, shut, start, take};
 use dbp_plan::Plan;
 use dbp_rules::{Heard, Place, State, Step, Wiring};
 
@@ -96,7 +96,7 @@ fn make_take(plan: &Plan, wiring: &Wiring, state: &mut State, i: u32, read: u32)
     let Place::Take(n) = task_at(state, i).part.place else {
         unreachable!()
     };
-    let word = read_word(wiring, state, i, n);
+    let word = read_value(wiring, state, i, n);
     let declared = declared_at(plan, i);
     let kept = (declared.states.len() + declared.senses.len() + read) as usize;
     take(wiring, state, i, n, kept, word);

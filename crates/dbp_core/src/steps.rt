@@ -85,7 +85,7 @@ pub(crate) fn read_slot<'a>(wiring: &Wiring, state: &'a State, i: u32, n: u32) -
     &task_at(state, read.writer).words.slots.items()[order.slot as usize]
 }
 
-pub(crate) fn read_word(wiring: &Wiring, state: &State, i: u32, n: u32) -> i64
+pub(crate) fn read_value(wiring: &Wiring, state: &State, i: u32, n: u32) -> i64
     requires wired { i < length wiring.now.tasks }
     requires task { i < length state.now.tasks }
     requires at { rule.turn_at (task state.now i).part.place ≡ n }
@@ -94,7 +94,7 @@ pub(crate) fn read_word(wiring: &Wiring, state: &State, i: u32, n: u32) -> i64
     requires writer { (read_at (wired_task wiring.now i) n).writer < length state.now.tasks }
     requires slot { (rule.read_order wiring.now state.now i n).slot < length (task state.now (read_at (wired_task wiring.now i) n).writer).words.slots }
     requires port { (read_at (wired_task wiring.now i) n).port < length (rule.read_slot wiring.now state.now i n).words }
-    ensures { result ≡ rule.read_word wiring.now state.now i n }
+    ensures { result ≡ rule.read_value wiring.now state.now i n }
 {
     let port = wired_at(wiring, i).reads.items()[n as usize].port;
     read_slot(wiring, state, i, n).words.items()[port as usize]

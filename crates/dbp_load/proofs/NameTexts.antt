@@ -10,7 +10,7 @@ use Rattle.std.proofs.lemmas.Slice.Eq.{bytes_eq-Decides}
 use Rattle.dbp_plan.specs.Name.{IsName, is_name_byte}
 use Rattle.dia_tokens.specs.Pieces.{name}
 use Rattle.dia_tokens.specs.Printable.{IsPrintableName}
-use Rattle.dia_tokens.specs.Words.{word_of}
+use Rattle.dia_tokens.specs.Keywords.{keyword_of}
 use Rattle.dia_check.proofs.PlaceLaws.{only-one}
 use Rattle.dbp_load.specs.Bodies.{task_name, read_name}
 
@@ -65,8 +65,8 @@ read-name j small = record {
 
 -- ---- they are no reserved words
 
-t-word : (ds : List ℕ) → 0 < length ds → get_or ds 0 0 ≤ 57 → word_of (116 ∷ ds) ≡ name (116 ∷ ds)
-unfolding word_of
+t-word : (ds : List ℕ) → 0 < length ds → get_or ds 0 0 ≤ 57 → keyword_of (116 ∷ ds) ≡ name (116 ∷ ds)
+unfolding keyword_of
 t-word [] some low = absurd (omega arith)
 t-word (d ∷ ds) some low =
     let a : (97 == d) ≡ false = ne_eqb 97 d (λ e. absurd (omega arith)) in
@@ -74,8 +74,8 @@ t-word (d ∷ ds) some low =
     let r : (114 == d) ≡ false = ne_eqb 114 d (λ e. absurd (omega arith)) in
     rw (a, h, r) refl
 
-r-word : (ds : List ℕ) → 0 < length ds → get_or ds 0 0 ≤ 57 → word_of (114 ∷ ds) ≡ name (114 ∷ ds)
-unfolding word_of
+r-word : (ds : List ℕ) → 0 < length ds → get_or ds 0 0 ≤ 57 → keyword_of (114 ∷ ds) ≡ name (114 ∷ ds)
+unfolding keyword_of
 r-word [] some low = absurd (omega arith)
 r-word (d ∷ ds) some low =
     let e : (101 == d) ≡ false = ne_eqb 101 d (λ e. absurd (omega arith)) in
@@ -112,23 +112,23 @@ g0-name = record {
 }
 
 pub s-prints : IsPrintableName (codes "s")
-unfolding word_of
+unfolding keyword_of
 s-prints = (s-name, refl)
 
 pub g-prints : IsPrintableName (codes "g")
-unfolding word_of
+unfolding keyword_of
 g-prints = (g-name, refl)
 
 pub q-prints : IsPrintableName (codes "q")
-unfolding word_of
+unfolding keyword_of
 q-prints = (q-name, refl)
 
 pub y-prints : IsPrintableName (codes "y")
-unfolding word_of
+unfolding keyword_of
 y-prints = (y-name, refl)
 
 pub g0-prints : IsPrintableName (codes "g0")
-unfolding word_of
+unfolding keyword_of
 g0-prints = (g0-name, refl)
 
 -- ---- names of different tasks differ

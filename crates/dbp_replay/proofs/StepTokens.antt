@@ -15,7 +15,7 @@ use Rattle.dia_lines.proofs.DelayLaws.{given_delay, longer-tokens, short-given}
 use Rattle.dia_tokens.specs.declared.edge.Edge.TheVariants.{Loose}
 use Rattle.dia_tokens.specs.declared.token.Token.{Token}
 use Rattle.dia_tokens.specs.declared.token.Token.TheVariants as token
-use Rattle.dia_tokens.specs.declared.token.Word.TheVariants.{Pre}
+use Rattle.dia_tokens.specs.declared.token.Keyword.TheVariants.{Pre}
 use Rattle.dia_tokens.specs.KeepsSigns.{KeepsSigns}
 use Rattle.dia_tokens.specs.Line.{Spells}
 use Rattle.dia_tokens.specs.Printable.{IsPrintableName, IsPrintableToken}
@@ -88,10 +88,10 @@ small-given (suc d) = refl
 
 delay-printable : (d : ℕ) (n : List ℕ) → d ≤ max_delay → IsPrintableName n → All IsPrintableToken (delay_tokens d ++ token.Name n ∷ [])
 delay-printable zero n short printable = All-cons IsPrintableToken (token.Name n) [] printable (All-nil IsPrintableToken)
-delay-printable (suc zero) n short printable = All-cons IsPrintableToken (token.Word Pre) (token.Name n ∷ []) tt (All-cons IsPrintableToken (token.Name n) [] printable (All-nil IsPrintableToken))
+delay-printable (suc zero) n short printable = All-cons IsPrintableToken (token.Keyword Pre) (token.Name n ∷ []) tt (All-cons IsPrintableToken (token.Name n) [] printable (All-nil IsPrintableToken))
 delay-printable (suc (suc d)) n short printable =
     let number : IsPrintableToken (token.Number (pos (suc (suc d)))) = omega (arith, short, max_delay-le) in
-    rw (longer-tokens d) (All-cons IsPrintableToken (token.Word Pre) (token.Number (pos (suc (suc d))) ∷ token.Name n ∷ []) tt
+    rw (longer-tokens d) (All-cons IsPrintableToken (token.Keyword Pre) (token.Number (pos (suc (suc d))) ∷ token.Name n ∷ []) tt
     (All-cons IsPrintableToken (token.Number (pos (suc (suc d)))) (token.Name n ∷ []) number (All-cons IsPrintableToken (token.Name n) [] printable (All-nil IsPrintableToken))))
 
 delay-unsigned : (d : ℕ) (n : List ℕ) → KeepsSigns false (delay_tokens d ++ token.Name n ∷ [])

@@ -20,7 +20,7 @@ use Rattle.dbp_plan.specs.declared.plan.Plan.{Plan}
 use Rattle.dbp_replay.proofs.Zipped.{zip_at, zip_push}
 use Rattle.dbp_replay.proofs.OneReplay.{text-not-refused}
 use Rattle.dbp_replay.specs.Texts.{heard_line}
-use Rattle.dbp_replay.specs.Replays.{AreTaken, IsIllegal, IsReplay, first, taken_text, with_heard}
+use Rattle.dbp_replay.specs.Replays.{AreTaken, IsIllegal, IsReplay, first, transcript, with_heard}
 
 -- ---- one step more
 
@@ -88,17 +88,17 @@ refused-at p count steps place s new taken e why t here answer = record {
 
 -- the line of the step at a place comes after the lines before
 pub line-more : (d : Diagram) (steps : List Step) (heard : List Heard) (place : ℕ) (e : Step) (h : Heard) → place < length steps → place < length heard
-    → taken_text d (take (place + 1) (zip steps heard)) ≡ taken_text d (take place (zip steps heard)) ++ heard_line d (get_or steps place e) (get_or heard place h)
+    → transcript d (take (place + 1) (zip steps heard)) ≡ transcript d (take place (zip steps heard)) ++ heard_line d (get_or steps place e) (get_or heard place h)
 line-more d steps heard place e h below beside =
     let pair : Step × Heard = (get_or steps place e, get_or heard place h) in
-    let before = taken_text d (take place (zip steps heard)) in
-    ap (taken_text d) (take_push (zip steps heard) place pair (zip_at steps heard place e h below beside))
+    let before = transcript d (take place (zip steps heard)) in
+    ap (transcript d) (take_push (zip steps heard) place pair (zip_at steps heard place e h below beside))
     ∙ flat_map-append (λ (x : Step × Heard). heard_line d x.0 x.1) (take place (zip steps heard)) (pair ∷ [])
     ∙ ap (λ l. before ++ l) (append-nil (heard_line d (get_or steps place e) (get_or heard place h)))
 
-pub taken-replay : (p : Plan) (count : Count) (steps : List Step) (taken : List (Step × Heard)) (text : List ℕ) → AreTaken p count steps taken → text ≡ taken_text p.diagram taken → IsReplay p count steps text
-taken-replay p count steps taken text t is = record { state = t.state; leads = t.leads; told = is ∙ ap (taken_text p.diagram) t.told }
+pub taken-replay : (p : Plan) (count : Count) (steps : List Step) (taken : List (Step × Heard)) (text : List ℕ) → AreTaken p count steps taken → text ≡ transcript p.diagram taken → IsReplay p count steps text
+taken-replay p count steps taken text t is = record { state = t.state; leads = t.leads; told = is ∙ ap (transcript p.diagram) t.told }
 
 pub taken-not-refused : (p : Plan) (count : Count) (steps : List Step) (taken : List (Step × Heard)) (number : ℕ) (why : Illegal) → AreTaken p count steps taken → IsIllegal p count steps number why → ⊥
 taken-not-refused p count steps taken number why t illegal =
-    text-not-refused p count steps (taken_text p.diagram taken) number why (taken-replay p count steps taken (taken_text p.diagram taken) t refl) illegal
+    text-not-refused p count steps (transcript p.diagram taken) number why (taken-replay p count steps taken (transcript p.diagram taken) t refl) illegal

@@ -27,11 +27,11 @@ with_heard p w s [] = []
 with_heard p w s (e ∷ es) = (e, hears w s e) ∷ with_heard p w (next p w s e) es
 
 -- their lines
-abbrev pub taken_text : Diagram → List (Step × Heard) → List ℕ
-taken_text d taken = flat_map (λ x. heard_line d x.0 x.1) taken
+abbrev pub transcript : Diagram → List (Step × Heard) → List ℕ
+transcript d taken = flat_map (λ x. heard_line d x.0 x.1) taken
 
 abbrev pub heard_lines : Plan → Wiring → State → List Step → List ℕ
-heard_lines p w s steps = taken_text p.diagram (with_heard p w s steps)
+heard_lines p w s steps = transcript p.diagram (with_heard p w s steps)
 
 -- all steps are allowed, and these are the steps, each with what it hears
 pub record AreTaken (p : Plan) (count : Count) (steps : List Step) (taken : List (Step × Heard)) : Type 0 where

@@ -10,7 +10,7 @@ use Rattle.dia_lines.specs.Delays.{delay_at}
 use Rattle.dia_lines.specs.Limits.{delay_fits}
 use Rattle.dia_tokens.specs.declared.token.Token.{Token}
 use Rattle.dia_tokens.specs.declared.token.Token.TheVariants as token
-use Rattle.dia_tokens.specs.Words.{word_text}
+use Rattle.dia_tokens.specs.Keywords.{keyword_text}
 use Rattle.dbp_plan.specs.Lookups.{task_at}
 use Rattle.dbp_replay.specs.declared.fail.ScriptCode.{ScriptCode}
 use Rattle.dbp_replay.specs.declared.fail.ScriptCode.TheVariants.{BadStep, StepName}
@@ -54,10 +54,10 @@ kind_with text = kind_among all_kinds text
 
 -- ---- the form of tokens
 
--- the text of a name or a reserved word
+-- the text of a name or a keyword
 abbrev pub name_text : Token → List ℕ
 name_text (token.Name n) = n
-name_text (token.Word w) = word_text w
+name_text (token.Keyword w) = keyword_text w
 name_text _ = []
 
 -- a slot's number is from 0 to 4294967295

@@ -77,7 +77,7 @@ impl From<NoMemory> for ScriptFail {
 
 /// The first step, counted from 1, that isn't allowed after those before it, and why it isn't.
 #[derive(Clone, Copy)]
-pub(crate) struct Refused {
+pub(crate) struct IllegalStep {
     pub(crate) step: u32,
     pub(crate) why: Illegal,
 }
@@ -91,10 +91,10 @@ pub enum ReplayFail {
     NoMemory,
 }
 
-impl From<Refused> for ReplayFail {
+impl From<IllegalStep> for ReplayFail {
     ghost from_gives = { λ refused e. e ≡ replay_fail.Illegal refused.step refused.why };
 
-    fn from(refused: Refused) -> ReplayFail {
+    fn from(refused: IllegalStep) -> ReplayFail {
         ReplayFail::Illegal {
             step: refused.step,
             why: refused.why,

@@ -28,13 +28,13 @@ pub(crate) struct Form {
     pub(crate) operand: Operand,
 }
 
-/// The text of a name or a reserved word.
+/// The text of a name or a keyword.
 fn name_text(token: &Token) -> &[u8]
     ensures { result.now ≡ name_text token.now }
 {
     match token {
         Token::Name(name) => name.bytes(),
-        Token::Word(word) => word.text(),
+        Token::Keyword(keyword) => keyword.text(),
         _ => b"",
     }
 }

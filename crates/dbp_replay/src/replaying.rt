@@ -3,7 +3,7 @@
 ghost use Rattle.std.specs.Prelude.{◌≡◌, ◌<◌, ◌≤◌, ◌^◌, ℕ, [], All, Err, IfErr, IfOk, length, vec_capacity, vec_len, zip};
 ghost use Rattle.dbp_core.specs.Cores.{count_in, plan_in, state_in};
 ghost use Rattle.dbp_replay.specs.NamedItems.{IsThere};
-ghost use Rattle.dbp_replay.specs.Replays.{IsIllegal, IsReplay, IsReplayRefusal, first, taken_text};
+ghost use Rattle.dbp_replay.specs.Replays.{IsIllegal, IsReplay, IsReplayRefusal, first, transcript};
 ghost use Rattle.dbp_replay.specs.declared.fail.ReplayFail.TheVariants as replay_fail;
 ghost use Rattle.dbp_rules.specs.declared.step.Illegal.{Illegal as Refusal};
 
@@ -74,11 +74,11 @@ pub fn replay_in(
 {
     let mut core = core;
     let all_heard = walk(&mut core, steps, room)?;
-    Ok(taken_text(alloc, &core.plan().diagram, steps, &all_heard)?)
+    Ok(transcript(alloc, &core.plan().diagram, steps, &all_heard)?)
 }
 
 /// The lines of steps, each with what it heard.
-fn taken_text(
+fn transcript(
     alloc: Global,
     diagram: &Diagram,
     steps: &[Step],
@@ -87,7 +87,7 @@ fn taken_text(
     requires there { All (IsThere diagram.now) steps.now }
     requires size { length all_heard.now ≡ length steps.now }
     ensures { IfOk result
-        (λ text. text.items ≡ taken_text diagram.now (zip steps.now all_heard.now)) }
+        (λ text. text.items ≡ transcript diagram.now (zip steps.now all_heard.now)) }
 {
     let mut text = Vec::new(alloc);
     for (place, heard) in all_heard.iter().enumerate() {

@@ -73,12 +73,12 @@ fn step_on(
 {
     match tokens_into(line, tokens) {
         Ok(()) => Ok(step_of(diagram, tokens)),
-        Err(fail) => Err(want_of_memory(fail)),
+        Err(fail) => Err(out_of_memory(fail)),
     }
 }
 
 /// Why a line that has tokens gave none.
-fn want_of_memory(fail: LineFail) -> NoMemory
+fn out_of_memory(fail: LineFail) -> NoMemory
     requires { fail ≡ OutOfMemory }
 {
     match fail {

@@ -5,12 +5,16 @@ ghost use Rattle.dbp_core.specs.Cores.{count_in, plan_in, state_in};
 ghost use Rattle.dbp_replay.specs.NamedItems.{IsThere};
 ghost use Rattle.dbp_replay.specs.Replays.{AreTaken, IsIllegal, first};
 
-use crate::fail::Refused;
+use crate::fail::IllegalStep;
 use dbp_core::{Core, Heard, Step};
 
 /// What the steps hear, taken in order by a core from its start on; else the first that isn't allowed after those before
 /// it. There is room for what all of them hear, so no memory is taken.
-pub(crate) fn walk(core: &mut Core, steps: &[Step], room: Vec<Heard>) -> Result<Vec<Heard>, Refused>
+pub(crate) fn walk(
+    core: &mut Core,
+    steps: &[Step],
+    room: Vec<Heard>,
+) -> Result<Vec<Heard>, IllegalStep>
     requires there { All (IsThere (plan_in core.old).diagram) steps.now }
     requires few { length steps.now < 2 ^ 32 }
     requires start { state_in core.old ≡ first (plan_in core.old) (count_in core.old) }
@@ -30,7 +34,7 @@ pub(crate) fn walk(core: &mut Core, steps: &[Step], room: Vec<Heard>) -> Result<
         match core.step(*step) {
             Ok(heard) => all_heard.push(heard).unwrap(),
             Err(why) => {
-                return Err(Refused {
+                return Err(IllegalStep {
                     step: place as u32 + 1,
                     why,
                 });

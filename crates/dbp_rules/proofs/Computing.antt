@@ -16,7 +16,7 @@ pub computed_is : (task : Task) (old : List ℤ) (w : WorkWords) → IsClosedSom
 computed_is task old w (inputs, events, links, closed) size same given lets after outs =
     let front : List ℤ = take (let_base task) old in
     let fits : length front ≡ let_base task = length-take-le (let_base task) old (omega arith) in
-    let mine : IsEnvFrom task front w.now = record { size = same ∙ size; given_words = λ j below. given j below ∙ sym (take_place old (let_base task) j below); lets = lets } in
+    let mine : IsEnvFrom task front w.now = record { size = same ∙ size; given_values = λ j below. given j below ∙ sym (take_place old (let_base task) j below); lets = lets } in
     let env : w.now ≡ env_from task front = one_env task front w.now (env_from task front) closed.order mine (env_from-is task front closed.order fits) in
     let states : length (take (length task.states) w.now) ≡ length task.states = length-take-le (length task.states) w.now (omega arith) in
     let later : w.later ≡ states_after task w.now (take (length task.states) w.now) =

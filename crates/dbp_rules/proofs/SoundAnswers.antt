@@ -9,7 +9,7 @@ use Rattle.dbp_rules.specs.Promises.{IsClaimFilled}
 use Rattle.dbp_rules.specs.Rules as rule
 use Rattle.dbp_rules.specs.Shapes.{TaskShape, heard_by, running_count}
 use Rattle.dbp_rules.specs.Sound.{Sound}
-use Rattle.dbp_rules.specs.SoundParts.{Stands, TaskSound, meant_word}
+use Rattle.dbp_rules.specs.SoundParts.{Stands, TaskSound, meant_value}
 use Rattle.dbp_rules.specs.declared.parts.Place.{Place}
 use Rattle.dbp_rules.specs.declared.parts.Place.TheVariants as place
 use Rattle.dbp_rules.specs.declared.state.State.{State}
@@ -31,13 +31,13 @@ module _ (p : Plan) (w : Wiring) (rows : ℕ → ℕ → List ℤ) (s : State) (
   named_read i r kind next q at = ap (λ (x : Place). (rule.place_kind (wired_task w i) x).1) (sym at) ∙ (next_none broken.TaskPlace (rule.place_kind (wired_task w i) (task s i).part.place) kind r next).1
 
   -- each allowed take hears the word that the meaning gives the read in the running instance
-  pub take_hears : (i r : ℕ) → i < length p.diagram.tasks → rule.refusal w s (Take i r) ≡ None → rule.hears w s (Take i r) ≡ heard.Word (meant_word p rows i ((task s i).part.ended + 1) (get_or (declared_task p i).reads r no_read))
+  pub take_hears : (i r : ℕ) → i < length p.diagram.tasks → rule.refusal w s (Take i r) ≡ None → rule.hears w s (Take i r) ≡ heard.Word (meant_value p rows i ((task s i).part.ended + 1) (get_or (declared_task p i).reads r no_read))
   take_hears i r named free =
       let below : i < length w.tasks = omega (arith, named, own.whole.tasks) in
       let n : ℕ = rule.turn_at (task s i).part.place in
       let at : (task s i).part.place ≡ place.Take n = at_take w s i r free in
       let read : (read_at (wired_task w i) n).read ≡ r = named_read i r 8 (or_else_none (rule.steps_next w s i 8 r) _ free).0 (place.Take n) at in
-      ap (λ (x : ℤ). heard.Word x) (take_word p w rows s own sound i n below at ∙ ap (λ (m : ℕ). meant_word p rows i ((task s i).part.ended + 1) (get_or (declared_task p i).reads m no_read)) read)
+      ap (λ (x : ℤ). heard.Word x) (take_word p w rows s own sound i n below at ∙ ap (λ (m : ℕ). meant_value p rows i ((task s i).part.ended + 1) (get_or (declared_task p i).reads m no_read)) read)
 
   ready_hears : (i r : ℕ) → rule.is_ready w s i (rule.turn_at (task s i).part.place) ≡ true → rule.hears w s (Look i r) ≡ heard.Ready
   ready_hears i r is = rw is refl

@@ -14,7 +14,7 @@ use Rattle.sync_meaning.specs.SomeMeaningRows.{Solves, env_at, given_at, states_
 use Rattle.dbp_plan.specs.ListItems.{same_item}
 use Rattle.dbp_rules.specs.Moves as move
 use Rattle.dbp_rules.specs.Lookups.{read_at, time, wired_task}
-use Rattle.dbp_rules.specs.SoundParts.{meant_word, place_of_read, read_of}
+use Rattle.dbp_rules.specs.SoundParts.{meant_value, place_of_read, read_of}
 use Rattle.dbp_rules.specs.Work.{WorkWords}
 use Rattle.dbp_rules.specs.declared.wiring.Wiring.{Wiring}
 use Rattle.dbp_rules.proofs.SoundOwn.{IsOwn}
@@ -30,7 +30,7 @@ take_rest (x ∷ xs) ys (suc n) r size =
 pub record HasItsWords (p : Plan) (w : Wiring) (rows : ℕ → ℕ → List ℤ) (i m : ℕ) (work : WorkWords) : Type 0 where
   pub size : length work.now ≡ place_count (declared_task p i)
   pub states : take (length (declared_task p i).states) work.now ≡ states_at p.diagram p.samples p.batches rows i (declared_task p i) m
-  pub taken : (n : ℕ) → n < length (wired_task w i).reads → get_or work.now (place_of_read p w i n) (pos 0) ≡ meant_word p rows i (m + 1) (read_of p w i n)
+  pub taken : (n : ℕ) → n < length (wired_task w i).reads → get_or work.now (place_of_read p w i n) (pos 0) ≡ meant_value p rows i (m + 1) (read_of p w i n)
 
 -- what it has computed in that instance: the row, and its next states; what it has computed with stays
 pub record HasComputed (p : Plan) (w : Wiring) (rows : ℕ → ℕ → List ℤ) (i m : ℕ) (work : WorkWords) : Type 0 where
@@ -71,14 +71,14 @@ module _ (p : Plan) (w : Wiring) (rows : ℕ → ℕ → List ℤ) (own : IsOwn 
   words_size = length-map d.reads _
 
   -- the word of a read, if the task has put it
-  read_word : (j : ℕ) → j < length d.reads → get_or work.now (length d.states + length d.senses + j) (pos 0) ≡ get_or words j (pos 0)
-  read_word j inside =
+  read_value : (j : ℕ) → j < length d.reads → get_or work.now (length d.states + length d.senses + j) (pos 0) ≡ get_or words j (pos 0)
+  read_value j inside =
       let n : (n : ℕ) × (n < length (wired_task w i).reads) × ((read_at (wired_task w i) n).read ≡ j) = own.turned i j below inside in
-      let taken : get_or work.now (place_of_read p w i n.0) (pos 0) ≡ meant_word p rows i (m + 1) (read_of p w i n.0) = has.taken n.0 n.1 in
+      let taken : get_or work.now (place_of_read p w i n.0) (pos 0) ≡ meant_value p rows i (m + 1) (read_of p w i n.0) = has.taken n.0 n.1 in
       let time : m + 1 - 1 ≡ m = omega arith in
       ap (λ (x : ℕ). get_or work.now (length d.states + length d.senses + x) (pos 0)) (sym n.2)
       ∙ taken
-      ∙ ap (λ (x : ℕ). meant_word p rows i (m + 1) (get_or d.reads x no_read)) n.2
+      ∙ ap (λ (x : ℕ). meant_value p rows i (m + 1) (get_or d.reads x no_read)) n.2
       ∙ ap (λ (x : ℕ). word_at p.diagram p.samples p.batches rows (get_or (times_of p.batches i) x 0) (get_or d.reads j no_read)) time
       ∙ sym (get_or-map (word_at p.diagram p.samples p.batches rows now) d.reads j no_read (pos 0) inside)
 
@@ -97,7 +97,7 @@ module _ (p : Plan) (w : Wiring) (rows : ℕ → ℕ → List ℤ) (own : IsOwn 
       get_or-take (length d.reads) rest j (pos 0) inside
       ∙ get_or-drop (length d.states + length senses) work.now j (pos 0)
       ∙ ap (λ (x : ℕ). get_or work.now (x + j) (pos 0)) place
-      ∙ read_word j inside) in
+      ∙ read_value j inside) in
       let joined : length (front ++ senses) ≡ length d.states + length d.senses = length-append front senses ∙ omega (arith, front_size, size) in
       ap (λ xs. take (let_base d) xs) (sym (append_assoc front senses rest))
       ∙ take_rest (front ++ senses) rest (length d.states + length d.senses) (length d.reads) joined
@@ -118,19 +118,19 @@ module _ (p : Plan) (w : Wiring) (rows : ℕ → ℕ → List ℤ) (own : IsOwn 
       ext_get_or (pos 0) (take (length d.states) env) states (size ∙ sym states_size) (λ j less.
       let inside : j < length d.states = omega arith in
       get_or-take (length d.states) env j (pos 0) inside
-      ∙ same_item env given j (pos 0) (env_is.given_words j (omega arith))
+      ∙ same_item env given j (pos 0) (env_is.given_values j (omega arith))
       ∙ get_or_append_left (states ++ sense_values) words (pos 0) j (omega (arith, length-append states sense_values, states_size))
       ∙ get_or_append_left states sense_values (pos 0) j (omega (arith, states_size)))
 
-  env_reads : (n : ℕ) → n < length (wired_task w i).reads → get_or env (place_of_read p w i n) (pos 0) ≡ meant_word p rows i (m + 1) (read_of p w i n)
+  env_reads : (n : ℕ) → n < length (wired_task w i).reads → get_or env (place_of_read p w i n) (pos 0) ≡ meant_value p rows i (m + 1) (read_of p w i n)
   env_reads n few =
       let r : ℕ = (read_at (wired_task w i) n).read in
       let inside : r < length d.reads = ((own.whole.each_task i below).each_read n few).read in
       let joined : length (states ++ sense_values) ≡ length d.states + length d.senses = length-append states sense_values ∙ omega (arith, states_size, sensed_size) in
-      same_item env given (place_of_read p w i n) (pos 0) (env_is.given_words (place_of_read p w i n) (omega arith))
+      same_item env given (place_of_read p w i n) (pos 0) (env_is.given_values (place_of_read p w i n) (omega arith))
       ∙ ap (λ (x : ℕ). get_or given (x + r) (pos 0)) (sym joined)
       ∙ get_or-append-add (states ++ sense_values) words r (pos 0)
-      ∙ sym (read_word r inside)
+      ∙ sym (read_value r inside)
       ∙ has.taken n few
 
   row_is : outs_in d env ≡ rows i (m + 1)

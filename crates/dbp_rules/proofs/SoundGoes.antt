@@ -7,7 +7,7 @@ use Rattle.sync_meaning.specs.SomeMeaningRows.{states_at}
 use Rattle.dbp_rules.specs.Moves as move
 use Rattle.dbp_rules.specs.Lookups.{is_counted, link, slot_at, wired_task}
 use Rattle.dbp_rules.specs.Shapes.{link_in, running_count}
-use Rattle.dbp_rules.specs.SoundParts.{LinkSound, TaskSound, filled_by, last_filled, last_shut, meant_word, last_passed, place_of_read, put_by, read_of, shut_by, taken_by}
+use Rattle.dbp_rules.specs.SoundParts.{LinkSound, TaskSound, filled_by, last_filled, last_shut, meant_value, last_passed, place_of_read, put_by, read_of, shut_by, taken_by}
 use Rattle.dbp_rules.specs.Work.{WorkWords}
 use Rattle.dbp_rules.specs.declared.parts.LinkEntry.{LinkEntry}
 use Rattle.dbp_rules.specs.declared.parts.Place.{Place}
@@ -132,7 +132,7 @@ pub task_goes : (p : Plan) (w : Wiring) (rows : ℕ → ℕ → List ℤ) (i : �
     → IsEarly t.part.place → IsEarly part.place → part.ended ≡ t.part.ended
     → (0 < length part.heard.items → move.heard_order part 0 ≡ t.words.aim)
     → take (length (declared_task p i).states) work.now ≡ take (length (declared_task p i).states) t.work.now
-    → ((n : ℕ) → n < taken_by (length (wired_task w i).reads) part.place → get_or work.now (place_of_read p w i n) (pos 0) ≡ meant_word p rows i (t.part.ended + 1) (read_of p w i n))
+    → ((n : ℕ) → n < taken_by (length (wired_task w i).reads) part.place → get_or work.now (place_of_read p w i n) (pos 0) ≡ meant_value p rows i (t.part.ended + 1) (read_of p w i n))
     → work.row ≡ t.work.row
     → TaskSound p w rows i e (record { words = t.words; part = part; work = work })
 task_goes p w rows i e t part work ok from to same heard states taken row = record {
@@ -148,7 +148,7 @@ task_goes p w rows i e t part work ok from to same heard states taken row = reco
   kept = ok.kept;
   kept_apart = ok.kept_apart;
   states = states ∙ ok.states ∙ ap (λ n. states_at p.diagram p.samples p.batches rows i (declared_task p i) n) (sym same);
-  taken = λ n below. taken n below ∙ ap (λ m. meant_word p rows i (m + 1) (read_of p w i n)) (sym same);
+  taken = λ n below. taken n below ∙ ap (λ m. meant_value p rows i (m + 1) (read_of p w i n)) (sym same);
   row = row ∙ ok.row ∙ ap (rows i) (omega (arith, from.shut, to.shut, same));
   later = λ some. absurd (omega (arith, to.shut));
 }

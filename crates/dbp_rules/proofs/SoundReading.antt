@@ -17,7 +17,7 @@ use Rattle.dbp_rules.specs.Lookups.{link, link_entry, no_order, order, read_at, 
 use Rattle.dbp_rules.specs.Rules as rule
 use Rattle.dbp_rules.specs.Shapes.{IsShape, TaskShape, heard_by, link_in, place_number, running_count}
 use Rattle.dbp_rules.specs.Sound.{Sound}
-use Rattle.dbp_rules.specs.SoundParts.{LinkSound, TaskSound, meant_word, place_of_read, read_of, taken_by}
+use Rattle.dbp_rules.specs.SoundParts.{LinkSound, TaskSound, meant_value, place_of_read, read_of, taken_by}
 use Rattle.dbp_rules.specs.Work.{WorkWords}
 use Rattle.dbp_rules.specs.declared.parts.Order.{Order}
 use Rattle.dbp_rules.specs.declared.parts.Place.{Place}
@@ -48,7 +48,7 @@ module _ (p : Plan) (w : Wiring) (rows : ℕ → ℕ → List ℤ) (s : State) (
       → IsEarly (task s i).part.place → IsEarly part.place → part.ended ≡ (task s i).part.ended
       → (0 < length part.heard.items → move.heard_order part 0 ≡ (task s i).words.aim)
       → take (length (declared_task p i).states) work.now ≡ take (length (declared_task p i).states) (task s i).work.now
-      → ((n : ℕ) → n < taken_by (length (wired_task w i).reads) part.place → get_or work.now (place_of_read p w i n) (pos 0) ≡ meant_word p rows i ((task s i).part.ended + 1) (read_of p w i n))
+      → ((n : ℕ) → n < taken_by (length (wired_task w i).reads) part.place → get_or work.now (place_of_read p w i n) (pos 0) ≡ meant_value p rows i ((task s i).part.ended + 1) (read_of p w i n))
       → work.row ≡ (task s i).work.row
       → ((k : ℕ) → k < length w.links → (link w k).reader ≡ i → (j : ℕ) → j + 1 < length part.heard.items → link_in (wired_task w i) j ≡ k → move.heard_order part (j + 1) ≡ move.claim_order (link_entry s k))
       → ((k : ℕ) → k < length w.links → (link w k).reader ≡ i → (n : ℕ) → part.place ≡ place.Take n → (read_of p w i n).link ≡ k → (slot_at (task s (link w k).writer).words.slots (link_entry s k).slot).stamp ≡ (link_entry s k).number + 1)
@@ -197,7 +197,7 @@ module _ (p : Plan) (w : Wiring) (rows : ℕ → ℕ → List ℤ) (s : State) (
       ∙ ap (λ (x : ℕ). count_until (times_of p.batches (link w k).writer) (time_of p.batches x ((task s i).part.ended + 1)) - (link w k).delay) is
 
   -- each take loads the word that the meaning gives the read
-  pub take_word : (i n : ℕ) → i < length w.tasks → (task s i).part.place ≡ place.Take n → rule.read_word w s i n ≡ meant_word p rows i ((task s i).part.ended + 1) (read_of p w i n)
+  pub take_word : (i n : ℕ) → i < length w.tasks → (task s i).part.place ≡ place.Take n → rule.read_value w s i n ≡ meant_value p rows i ((task s i).part.ended + 1) (read_of p w i n)
   take_word i n below at =
       let few : n < length (wired_task w i).reads = place_in p w s sound.shape i (place.Take n) below at in
       let all : heard_by (1 + length (wired_task w i).links) (task s i).part.place ≡ 1 + length (wired_task w i).links = ap (heard_by (1 + length (wired_task w i).links)) at in
@@ -232,14 +232,14 @@ module _ (p : Plan) (w : Wiring) (rows : ℕ → ℕ → List ℤ) (s : State) (
       let spot : ℕ = length (declared_task p i).states + length (declared_task p i).senses + r in
       let here : place_of_read p w i n ≡ spot = ap (λ (x : ℕ). length (declared_task p i).states + length (declared_task p i).senses + x) number in
       let room : spot < length (task s i).work.now = omega (arith, shape.now, number, ((own.whole.each_task i below).each_read n few).read) in
-      let word : ℤ = rule.read_word w s i n in
-      goes_sound i (move.after_take (wired_task w i) (task s i).part n) (move.with_read (declared_task p i) (task s i).work r (rule.read_word w s i n)) below (step_kept p w s sound.shape (Take i r) named free)
+      let word : ℤ = rule.read_value w s i n in
+      goes_sound i (move.after_take (wired_task w i) (task s i).part n) (move.with_read (declared_task p i) (task s i).work r (rule.read_value w s i n)) below (step_kept p w s sound.shape (Take i r) named free)
       (subst (λ (q : Place). IsEarly q) (sym at) (early_take n)) (early_read (length (wired_task w i).reads) (n + 1)) refl ok.heard
-      (take_past (length (declared_task p i).states) spot (task s i).work.now (rule.read_word w s i n) (omega arith))
+      (take_past (length (declared_task p i).states) spot (task s i).work.now (rule.read_value w s i n) (omega arith))
       (λ m less. elim (cases_eq m n) [
-        | inl same ↦ rw (same, here, get_or-set_same (task s i).work.now spot (rule.read_word w s i n) (pos 0) room) (take_word i n below at)
+        | inl same ↦ rw (same, here, get_or-set_same (task s i).work.now spot (rule.read_value w s i n) (pos 0) room) (take_word i n below at)
         | inr other ↦
             let apart : place_of_read p w i m ≢ spot = λ also. other (own.turns i m n below (omega arith) few (omega (arith, also, number))) in
-            get_or-set_other (task s i).work.now spot (place_of_read p w i m) (rule.read_word w s i n) (pos 0) apart ∙ ok.taken m (omega arith)
+            get_or-set_other (task s i).work.now spot (place_of_read p w i m) (rule.read_value w s i n) (pos 0) apart ∙ ok.taken m (omega arith)
       ])
       refl (old_orders i) (λ k fits into m takes. absurd (take_read (length (wired_task w i).reads) (n + 1) m takes))

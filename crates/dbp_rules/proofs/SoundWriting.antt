@@ -10,7 +10,7 @@ use Rattle.dbp_rules.specs.Lookups.{link, link_entry, no_slot, slot_at, task, ta
 use Rattle.dbp_rules.specs.Rules as rule
 use Rattle.dbp_rules.specs.Shapes.{EntryShape, IsShape, PlaceIn, TaskShape, heard_by, place_number, running_count}
 use Rattle.dbp_rules.specs.Sound.{Sound}
-use Rattle.dbp_rules.specs.SoundParts.{LinkSound, Stands, TaskSound, filled_by, last_shut, meant_word, place_of_read, put_by, read_of, shut_by, taken_by}
+use Rattle.dbp_rules.specs.SoundParts.{LinkSound, Stands, TaskSound, filled_by, last_shut, meant_value, place_of_read, put_by, read_of, shut_by, taken_by}
 use Rattle.dbp_rules.specs.Work.{WorkWords}
 use Rattle.dbp_rules.specs.declared.parts.LinkEntry.{LinkEntry}
 use Rattle.dbp_rules.specs.declared.parts.Place.{Place}
@@ -50,7 +50,7 @@ pub record Writes (p : Plan) (w : Wiring) (rows : ℕ → ℕ → List ℤ) (i m
   pub filling : filled_by q < shut_by q → x.stamp ≡ 0
   pub put : (port : ℕ) → port < put_by (wired_task w i).ports q → get_or x.words port (pos 0) ≡ get_or (rows i (m + 1)) port (pos 0)
   pub states : take (length (declared_task p i).states) work.now ≡ states_at p.diagram p.samples p.batches rows i (declared_task p i) m
-  pub taken : (n : ℕ) → n < taken_by (length (wired_task w i).reads) q → get_or work.now (place_of_read p w i n) (pos 0) ≡ meant_word p rows i (m + 1) (read_of p w i n)
+  pub taken : (n : ℕ) → n < taken_by (length (wired_task w i).reads) q → get_or work.now (place_of_read p w i n) (pos 0) ≡ meant_value p rows i (m + 1) (read_of p w i n)
   pub row : work.row ≡ rows i (m + shut_by q)
   pub later : 0 < shut_by q → work.later ≡ states_at p.diagram p.samples p.batches rows i (declared_task p i) (m + 1)
 

@@ -76,7 +76,7 @@ module _ (p : Plan) (w : Wiring) (rows : ℕ → ℕ → List ℤ) (s : State) (
   spared (Hear i) named free k fits live = inl (slots_stay i k (record (task s i) { part = move.after_hear (wired_task w i) (task s i).part (rule.hears_at (task s i).part.place) (rule.order_word w s i (rule.hears_at (task s i).part.place)) }) named refl)
   spared (Look i r) named free k fits live = inl (slots_stay i k (record (task s i) { part = move.after_look (task s i).part (rule.turn_at (task s i).part.place) (rule.is_ready w s i (rule.turn_at (task s i).part.place)) }) named refl)
   spared (Take i r) named free k fits live =
-      inl (slots_stay i k (record { words = (task s i).words; part = move.after_take (wired_task w i) (task s i).part (rule.turn_at (task s i).part.place); work = move.with_read (declared_task p i) (task s i).work r (rule.read_word w s i (rule.turn_at (task s i).part.place)) }) named refl)
+      inl (slots_stay i k (record { words = (task s i).words; part = move.after_take (wired_task w i) (task s i).part (rule.turn_at (task s i).part.place); work = move.with_read (declared_task p i) (task s i).work r (rule.read_value w s i (rule.turn_at (task s i).part.place)) }) named refl)
   spared (Shut i) named free k fits live =
       fills i 9 0 (Shut i) (record { words = move.with_stamp (task s i).words (move.own_slot (task s i).part) 0; part = move.at_place (task s i).part (place.Put 0); work = move.after_compute (declared_task p i) (rule.sense_values p w s i) (task s i).work })
       (record (slot_at (task s i).words.slots (move.own_slot (task s i).part)) { stamp = 0 }) named free (λ n. refl) (λ n. refl) refl refl k fits live

@@ -128,10 +128,10 @@ module _ (p : Plan) (w : Wiring) (s : State) (shape : IsShape p w s) where
   take_on : (i r n : ℕ) → i < length w.tasks → (task s i).part.place ≡ place.Take n → IsShape p w (rule.next p w s (Take i r))
   take_on i r n below at =
       let ok : TaskShape w (declared_task p i) i (task_entry s i).aimed (task s i) = shape.each_task i below in
-      let work : WorkWords = move.with_read (declared_task p i) (task s i).work r (rule.read_word w s i n) in
+      let work : WorkWords = move.with_read (declared_task p i) (task s i).work r (rule.read_value w s i n) in
       rw at (task_changes p w s i (record { words = (task s i).words; part = move.after_take (wired_task w i) (task s i).part n; work = work }) shape below
       (goes_on w (declared_task p i) i (task_entry s i).aimed (task s i) ok (move.read_place (length (wired_task w i).reads) (n + 1)) (task s i).words work (ap running_count at) (ap (heard_by (1 + length (wired_task w i).links)) at)
-      (goes_to_read (wired_task w i) (n + 1)) refl refl ok.slots (length-set (task s i).work.now (length (declared_task p i).states + length (declared_task p i).senses + r) (rule.read_word w s i n) ∙ ok.now) ok.later ok.row))
+      (goes_to_read (wired_task w i) (n + 1)) refl refl ok.slots (length-set (task s i).work.now (length (declared_task p i).states + length (declared_task p i).senses + r) (rule.read_value w s i n) ∙ ok.now) ok.later ok.row))
 
   shut_on : (i : ℕ) → i < length w.tasks → (task s i).part.place ≡ place.Shut → IsShape p w (rule.next p w s (Shut i))
   shut_on i below at =

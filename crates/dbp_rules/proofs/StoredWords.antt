@@ -186,7 +186,7 @@ module _ (p : Plan) (w : Wiring) (s : State) (shape : IsShape p w s) where
   words_kept (Hear i) named free q other = words_stay s i (move.after_hear (wired_task w i) (task s i).part (rule.hears_at (task s i).part.place) (rule.order_word w s i (rule.hears_at (task s i).part.place))) (task s i).work q (there i named)
   words_kept (Look i r) named free q other = words_stay s i (move.after_look (task s i).part (rule.turn_at (task s i).part.place) (rule.is_ready w s i (rule.turn_at (task s i).part.place))) (task s i).work q (there i named)
   words_kept (Take i r) named free q other =
-      words_stay s i (move.after_take (wired_task w i) (task s i).part (rule.turn_at (task s i).part.place)) (move.with_read (declared_task p i) (task s i).work r (rule.read_word w s i (rule.turn_at (task s i).part.place))) q (there i named)
+      words_stay s i (move.after_take (wired_task w i) (task s i).part (rule.turn_at (task s i).part.place)) (move.with_read (declared_task p i) (task s i).work r (rule.read_value w s i (rule.turn_at (task s i).part.place))) q (there i named)
   words_kept (Shut i) named free q other =
       let inside : move.own_slot (task s i).part < length (task s i).words.slots = own_inside i 9 0 (rule.blocker_refusal w.count w s i) named free (λ n. refl) in
       value_task s i (record { words = move.with_stamp (task s i).words (move.own_slot (task s i).part) 0; part = move.at_place (task s i).part (place.Put 0); work = move.after_compute (declared_task p i) (rule.sense_values p w s i) (task s i).work }) q (there i named)

@@ -18,7 +18,7 @@ use Rattle.dbp_rules.specs.Promises.{TakesTheMeaning}
 use Rattle.dbp_rules.specs.Rules as rule
 use Rattle.dbp_rules.specs.Shapes.{PlaceIn, TaskShape, running_count}
 use Rattle.dbp_rules.specs.Sound.{Sound}
-use Rattle.dbp_rules.specs.SoundParts.{last_shut, meant_word}
+use Rattle.dbp_rules.specs.SoundParts.{last_shut, meant_value}
 use Rattle.dbp_rules.specs.declared.parts.Place.{Place}
 use Rattle.dbp_rules.specs.declared.parts.Place.TheVariants as place
 use Rattle.dbp_rules.specs.declared.state.State.{State}
@@ -55,7 +55,7 @@ take_meant p w table s i r own meaning sound named free =
     let is : IsRead p.diagram.links (λ v. count_until (times_of p.batches v) (get_or (times_of p.batches i) (task s i).part.ended 0)) table read (word_at p.diagram p.samples p.batches (table_row table) (get_or (times_of p.batches i) (task s i).part.ended 0) (get_or (declared_task p i).reads r no_read)) =
     read_is p.diagram p.samples p.batches table meaning i (task s i).part.ended r (declared_task p i) (get_or (declared_task p i).reads r no_read) there room has in
     record {
-      word = meant_word p (table_row table) i ((task s i).part.ended + 1) (get_or (declared_task p i).reads r no_read);
+      word = meant_value p (table_row table) i ((task s i).part.ended + 1) (get_or (declared_task p i).reads r no_read);
       hears = take_hears p w (table_row table) s own sound i r named free;
       meant = record {
         read = get_or (declared_task p i).reads r no_read;

@@ -105,8 +105,8 @@ abbrev pub is_ready : Wiring → State → ℕ → ℕ → Bool
 is_ready w s i n = is_stamp_of (read_order w s i n) (read_slot w s i n).stamp
 
 -- the word of the read's port in it
-abbrev pub read_word : Wiring → State → ℕ → ℕ → ℤ
-read_word w s i n = slice_index_or (read_slot w s i n).words (read_at (wired_task w i) n).port (pos 0)
+abbrev pub read_value : Wiring → State → ℕ → ℕ → ℤ
+read_value w s i n = slice_index_or (read_slot w s i n).words (read_at (wired_task w i) n).port (pos 0)
 
 -- what stands in the word that the step loads
 abbrev pub loaded_value : Wiring → State → Step → Loaded
@@ -114,7 +114,7 @@ loaded_value w s (Seen i) = a_number (task s i).words.ended
 loaded_value w s (Start i) = a_number (task s i).words.gate
 loaded_value w s (Hear i) = an_order (order_word w s i (hears_at (task s i).part.place))
 loaded_value w s (Look i r) = a_number (read_slot w s i (turn_at (task s i).part.place)).stamp
-loaded_value w s (Take i r) = a_value (read_word w s i (turn_at (task s i).part.place))
+loaded_value w s (Take i r) = a_value (read_value w s i (turn_at (task s i).part.place))
 loaded_value w s _ = no_word
 
 -- the values of the task's senses at the release of its running instance
@@ -148,7 +148,7 @@ hears w s (Seen i) = heard.Ended (task s i).words.ended
 hears w s (Start i) = if is_open s i then heard.Started else heard.Closed
 hears w s (Hear i) = let o = order_word w s i (hears_at (task s i).part.place) in heard.Order o.slot o.number
 hears w s (Look i r) = if is_ready w s i (turn_at (task s i).part.place) then heard.Ready else heard.NotYet
-hears w s (Take i r) = heard.Word (read_word w s i (turn_at (task s i).part.place))
+hears w s (Take i r) = heard.Word (read_value w s i (turn_at (task s i).part.place))
 hears w s _ = heard.Stored
 
 -- the task with another part
@@ -174,7 +174,7 @@ next p w s (Look i r) = with_part s i (next_part w s i (Look i r))
 next p w s (Take i r) = with_task s i (record {
   words = (task s i).words;
   part = next_part w s i (Take i r);
-  work = move.with_read (declared_task p i) (task s i).work r (read_word w s i (turn_at (task s i).part.place));
+  work = move.with_read (declared_task p i) (task s i).work r (read_value w s i (turn_at (task s i).part.place));
 })
 next p w s (Shut i) = with_task s i (record {
   words = move.with_stamp (task s i).words (move.own_slot (task s i).part) 0;

@@ -79,8 +79,8 @@ abbrev pub place_of_read : Plan → Wiring → ℕ → ℕ → ℕ
 place_of_read p w i n = length (declared_task p i).states + length (declared_task p i).senses + (read_at (wired_task w i) n).read
 
 -- the word that the meaning gives the read in the instance
-abbrev pub meant_word : Plan → (ℕ → ℕ → List ℤ) → ℕ → ℕ → Read → ℤ
-meant_word p rows i n r = word_at p.diagram p.samples p.batches rows (time_of p.batches i n) r
+abbrev pub meant_value : Plan → (ℕ → ℕ → List ℤ) → ℕ → ℕ → Read → ℤ
+meant_value p rows i n r = word_at p.diagram p.samples p.batches rows (time_of p.batches i n) r
 
 -- ---- the parts
 
@@ -111,7 +111,7 @@ pub record TaskSound (p : Plan) (w : Wiring) (rows : ℕ → ℕ → List ℤ) (
   pub kept_apart : 0 < e.aimed → (j : ℕ) → j < (wired_task w i).kept → slice_index_or e.kept j 0 ≢ e.current
   -- the states are those before the instance, the words taken are those of the meaning, the row is the last computed one
   pub states : take (length (declared_task p i).states) t.work.now ≡ states_at p.diagram p.samples p.batches rows i (declared_task p i) t.part.ended
-  pub taken : (n : ℕ) → n < taken_by (length (wired_task w i).reads) t.part.place → slice_index_or t.work.now (place_of_read p w i n) (pos 0) ≡ meant_word p rows i (t.part.ended + 1) (read_of p w i n)
+  pub taken : (n : ℕ) → n < taken_by (length (wired_task w i).reads) t.part.place → slice_index_or t.work.now (place_of_read p w i n) (pos 0) ≡ meant_value p rows i (t.part.ended + 1) (read_of p w i n)
   pub row : t.work.row ≡ rows i (last_shut t)
   pub later : 0 < shut_by t.part.place → t.work.later ≡ states_at p.diagram p.samples p.batches rows i (declared_task p i) (t.part.ended + 1)
 

@@ -11,7 +11,7 @@ use Rattle.dbp_rules.specs.Moves.{heard_order, claim_order}
 use Rattle.dbp_rules.specs.Lookups.{is_counted, link, link_entry, order, slot_at, task, task_entry, wired_task}
 use Rattle.dbp_rules.specs.Rules.{order_word}
 use Rattle.dbp_rules.specs.Shapes.{PlaceIn, SlotsFit, heard_by, running_count}
-use Rattle.dbp_rules.specs.SoundParts.{Stands, last_filled, last_shut, meant_word, place_of_read, put_by, read_of, shut_by, taken_by}
+use Rattle.dbp_rules.specs.SoundParts.{Stands, last_filled, last_shut, meant_value, place_of_read, put_by, read_of, shut_by, taken_by}
 use Rattle.dbp_rules.specs.declared.parts.Place.TheVariants.{Take}
 use Rattle.dbp_rules.specs.declared.parts.TaskEntry.{TaskEntry}
 use Rattle.dbp_rules.specs.declared.state.Slot.{Slot}
@@ -137,7 +137,7 @@ ClaimsOnCurrent p w s = (k : ℕ) → k < length w.links → IsStanding w s k �
 -- it is about to take, the claimed slot holds the claimed row.
 pub record TaskWork (p : Plan) (w : Wiring) (rows : ℕ → ℕ → List ℤ) (s : State) (i : ℕ) (t : TaskState) : Type 0 where
   pub states : take (length (declared_task p i).states) t.work.now ≡ states_at p.diagram p.samples p.batches rows i (declared_task p i) t.part.ended
-  pub taken : (n : ℕ) → n < taken_by (length (wired_task w i).reads) t.part.place → slice_index_or t.work.now (place_of_read p w i n) (pos 0) ≡ meant_word p rows i (t.part.ended + 1) (read_of p w i n)
+  pub taken : (n : ℕ) → n < taken_by (length (wired_task w i).reads) t.part.place → slice_index_or t.work.now (place_of_read p w i n) (pos 0) ≡ meant_value p rows i (t.part.ended + 1) (read_of p w i n)
   pub ready : (n : ℕ) → t.part.place ≡ Take n → (slot_of_claim w s (read_of p w i n).link).stamp ≡ (link_entry s (read_of p w i n).link).number + 1
   pub row : t.work.row ≡ rows i (last_shut t)
   pub later : 0 < shut_by t.part.place → t.work.later ≡ states_at p.diagram p.samples p.batches rows i (declared_task p i) (t.part.ended + 1)

@@ -15,6 +15,7 @@
 mod aiming;
 mod kind;
 mod laws;
+mod make_wiring;
 mod next_steps;
 mod parts;
 mod party_laws;
@@ -25,7 +26,6 @@ mod start;
 mod state;
 mod step;
 mod task_steps;
-mod wire;
 mod wiring;
 mod word;
 mod word_laws;
@@ -36,6 +36,7 @@ pub use laws::{
     a_delayed_look_is_ready, a_ranked_look_is_ready, a_step_changes_no_claimed_row,
     a_take_hears_the_meaning, allowed_steps_lead_to_sound_states, an_aim_names_no_claimed_slot,
 };
+pub use make_wiring::wire_plan;
 pub use parts::{LinkEntry, MAX_ORDERS, Order, Place, ReleaserPart, TaskEntry, TaskPart};
 pub use party_laws::{
     a_party_keeps_its_part, a_releaser_has_a_free_slot, a_step_is_refused_by_its_party,
@@ -51,7 +52,6 @@ pub use soundness::{
 pub use start::start_state;
 pub use state::{Slot, State, TaskState, TaskWords};
 pub use step::{Broken, Count, Heard, Illegal, Step};
-pub use wire::wire_plan;
 pub use wiring::{LinkEnd, ReadWiring, TaskWiring, Wiring};
 pub use word::{first_values_have_64_bits, value_from_word, value_to_word};
 pub use word_laws::{

@@ -1,4 +1,4 @@
--- The rows of the table of commands, and that no two of them fit the same words.
+-- The rows of the table of commands, and that no two of them fit the same arguments.
 use Rattle.std.proofs.Common.{◌≡◌, ℕ, zero, suc, ◌<◌, Bool, true, Some, List, [], ◌∷◌, ◌++◌, length, map, get_or, refl, sym, ap, subst, ◌∙◌, arith}
 use Rattle.std.specs.Prelude.{◌&&◌, slice_get, string_bytes}
 use Rattle.std.specs.List.{list_all, flat_map}
@@ -13,9 +13,9 @@ use Rattle.dbp_answers.specs.declared.command.Command.{Command}
 use Rattle.dbp_top.specs.declared.operands.Maker.TheVariants as maker
 use Rattle.dbp_top.specs.declared.operands.Operands.{Operands}
 use Rattle.dbp_top.specs.declared.table.Row.{Row}
-use Rattle.dbp_top.proofs.WordForms.{all-fit-once, are_apart, not-both}
+use Rattle.dbp_top.proofs.ArgumentForms.{all-fit-once, are_apart, not-both}
 
--- no words fit two of the rows
+-- no arguments fit two of the rows
 abbrev pub are_distinct : List CommandRow → Bool
 are_distinct [] = true
 are_distinct (l ∷ ls) = list_all (λ m. are_apart l.0 m.0) ls && are_distinct ls
@@ -40,9 +40,9 @@ one-row (n ∷ ls) (suc k) zero l m ws b x y distinct at here fit other =
 one-row (n ∷ ls) (suc k) (suc j) l m ws b x y distinct at here fit other =
     one-row ls k j l m ws b x y (and_parts (list_all (λ m. are_apart n.0 m.0) ls) (are_distinct ls) distinct).1 at here fit other
 
-pub one-command : (words : List (String Global)) (c d : Command) → Names words c → Names words d → c ≡ d
-one-command words c d (by_row k l _ at (x, fit, makes)) (by_row j m _ here (y, other, also)) =
-    let ws : List (List ℕ) = map (λ (w : String Global). string_bytes w) words in
+pub one-command : (arguments : List (String Global)) (c d : Command) → Names arguments c → Names arguments d → c ≡ d
+one-command arguments c d (by_row k l _ at (x, fit, makes)) (by_row j m _ here (y, other, also)) =
+    let ws : List (List ℕ) = map (λ (w : String Global). string_bytes w) arguments in
     let same : l ≡ m = one-row command_table k j l m ws first_operands x y refl at here fit other in
     let given : x ≡ y = all-fit-once m.0 ws first_operands x y (subst (λ (z : CommandRow). AllFit z.0 ws first_operands x) same fit) other in
     same_Some c d (sym makes ∙ (λ i. made (same i).1 (given i)) ∙ also)

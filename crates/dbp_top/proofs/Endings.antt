@@ -43,28 +43,28 @@ module _ {S K : Type 0} (left : S → Option (List ℕ)) (source_faults source_e
         no_fault = wrote.1;
       })
 
-  -- the words of a call that ended as its command's
-  pub ends-named : (serves : Command → Bool) (words : List (String Global)) (command : Command) (source new_source : S) (sink new_sink : K) (status : Status) → Names words command → serves command ≡ true
-      → EndsAs left source_faults source_ends written sink_faults command source new_source sink new_sink status → Ends left source_faults source_ends written sink_faults serves words source new_source sink new_sink status
-  ends-named serves words command s t k l Ok named served ends = (command, named, served, ends)
-  ends-named serves words command s t k l Refused named served ends = (command, named, served, ends)
-  ends-named serves words command s t k l Overrun named served ends = (command, named, served, ends)
-  ends-named serves words command s t k l Usage named served ends = absurd ends
-  ends-named serves words command s t k l ReadFault named served ends = (command, named, served, ends)
-  ends-named serves words command s t k l WriteFault named served ends = (command, named, served, ends)
-  ends-named serves words command s t k l NoMemory named served ends = (command, named, served, ends)
-  ends-named serves words command s t k l TooLarge named served ends = (command, named, served, ends)
+  -- the arguments of a call that ended as its command's
+  pub ends-named : (serves : Command → Bool) (arguments : List (String Global)) (command : Command) (source new_source : S) (sink new_sink : K) (status : Status) → Names arguments command → serves command ≡ true
+      → EndsAs left source_faults source_ends written sink_faults command source new_source sink new_sink status → Ends left source_faults source_ends written sink_faults serves arguments source new_source sink new_sink status
+  ends-named serves arguments command s t k l Ok named served ends = (command, named, served, ends)
+  ends-named serves arguments command s t k l Refused named served ends = (command, named, served, ends)
+  ends-named serves arguments command s t k l Overrun named served ends = (command, named, served, ends)
+  ends-named serves arguments command s t k l Usage named served ends = absurd ends
+  ends-named serves arguments command s t k l ReadFault named served ends = (command, named, served, ends)
+  ends-named serves arguments command s t k l WriteFault named served ends = (command, named, served, ends)
+  ends-named serves arguments command s t k l NoMemory named served ends = (command, named, served, ends)
+  ends-named serves arguments command s t k l TooLarge named served ends = (command, named, served, ends)
 
   -- if nothing failed, the call was answered
-  pub answered-without-faults : (serves : Command → Bool) (words : List (String Global)) (source new_source : S) (sink new_sink : K) (status : Status)
-      → Ends left source_faults source_ends written sink_faults serves words source new_source sink new_sink status
+  pub answered-without-faults : (serves : Command → Bool) (arguments : List (String Global)) (source new_source : S) (sink new_sink : K) (status : Status)
+      → Ends left source_faults source_ends written sink_faults serves arguments source new_source sink new_sink status
       → (Rose (source_faults source) (source_faults new_source) → ⊥) → (Rose (sink_faults sink) (sink_faults new_sink) → ⊥)
-      → Answered left source_faults source_ends written sink_faults serves words source new_source sink new_sink status
-  answered-without-faults serves words s t k l Ok ends reads writes = whole ends.0 Ok text ends.1 ends.2 ends.3
-  answered-without-faults serves words s t k l Refused ends reads writes = whole ends.0 Refused refusal ends.1 ends.2 ends.3
-  answered-without-faults serves words s t k l Overrun ends reads writes = whole ends.0 Overrun overrun ends.1 ends.2 ends.3
-  answered-without-faults serves words s t k l Usage ends reads writes = no_command ends.0 ends.1 ends.2
-  answered-without-faults serves words s t k l ReadFault ends reads writes = absurd (reads ends.3.1.fault)
-  answered-without-faults serves words s t k l WriteFault ends reads writes = absurd (writes ends.3.fault)
-  answered-without-faults serves words s t k l NoMemory ends reads writes = no_memory ends.0 ends.1 ends.2 ends.3
-  answered-without-faults serves words s t k l TooLarge ends reads writes = too_large ends.0 ends.1 ends.2 ends.3.0 ends.3.1
+      → Answered left source_faults source_ends written sink_faults serves arguments source new_source sink new_sink status
+  answered-without-faults serves arguments s t k l Ok ends reads writes = whole ends.0 Ok text ends.1 ends.2 ends.3
+  answered-without-faults serves arguments s t k l Refused ends reads writes = whole ends.0 Refused refusal ends.1 ends.2 ends.3
+  answered-without-faults serves arguments s t k l Overrun ends reads writes = whole ends.0 Overrun overrun ends.1 ends.2 ends.3
+  answered-without-faults serves arguments s t k l Usage ends reads writes = no_command ends.0 ends.1 ends.2
+  answered-without-faults serves arguments s t k l ReadFault ends reads writes = absurd (reads ends.3.1.fault)
+  answered-without-faults serves arguments s t k l WriteFault ends reads writes = absurd (writes ends.3.fault)
+  answered-without-faults serves arguments s t k l NoMemory ends reads writes = no_memory ends.0 ends.1 ends.2 ends.3
+  answered-without-faults serves arguments s t k l TooLarge ends reads writes = too_large ends.0 ends.1 ends.2 ends.3.0 ends.3.1

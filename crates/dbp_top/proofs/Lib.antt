@@ -3,4 +3,4 @@ pub mod CrewRuns
 pub mod Endings
 pub mod NamedSizes
 pub mod Streams
-pub mod WordForms
+pub mod ArgumentForms

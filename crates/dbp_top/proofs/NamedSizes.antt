@@ -1,4 +1,4 @@
--- The sizes of documents that words name.
+-- The sizes of documents that arguments name.
 use Rattle.std.proofs.Common.{◌≡◌, ℕ, ◌≤◌, true, false, List, [], ◌∷◌, Option, Some, None, map, sym, subst, arith}
 use Rattle.std.specs.Prelude.{string_bytes}
 use Rattle.std.specs.declared.alloc.Global.{Global}
@@ -6,7 +6,7 @@ use Rattle.std.specs.declared.string.String.{String}
 use Rattle.std.specs.Option.{option_map}
 use Rattle.std.proofs.lemmas.Option.{none-some, same_Some}
 use Rattle.dbp_top.specs.Commands.{Names, by_row, first_operands, made}
-use Rattle.dbp_top.specs.Patterns.{AllFit, Fits, WordForm, name, number, size, word}
+use Rattle.dbp_top.specs.Patterns.{AllFit, Fits, ArgumentForm, name, number, size, argument}
 use Rattle.dbp_answers.specs.declared.command.Command.{Command}
 use Rattle.dbp_answers.specs.declared.command.Command.TheVariants.{Cpus, Form, Gen, Mean, Need, Plan, Rank, Replay, Rta, Run, Sim, Soak, Upgrade}
 use Rattle.dbp_top.specs.declared.operands.Maker.{Maker}
@@ -16,13 +16,13 @@ use Rattle.dbp_top.specs.declared.operands.Operands.{Operands}
 abbrev pub HasSize : Operands → Type 0
 HasSize given = (1 ≤ given.size) × (given.size ≤ 32)
 
-fits-size : (f : WordForm) (w : List ℕ) (before after : Operands) → HasSize before → Fits f w before after → HasSize after
-fits-size (word text) w before after has fit = subst HasSize (sym fit.1) has
+fits-size : (f : ArgumentForm) (w : List ℕ) (before after : Operands) → HasSize before → Fits f w before after → HasSize after
+fits-size (argument text) w before after has fit = subst HasSize (sym fit.1) has
 fits-size (number prefix) w before after has fit = subst HasSize (sym fit.3) has
 fits-size size w before after has fit = subst HasSize (sym fit.1) (fit.0.least, fit.0.most)
 fits-size name w before after has fit = subst HasSize (sym fit.1) has
 
-all-fit-size : (fs : List WordForm) (ws : List (List ℕ)) (before after : Operands) → HasSize before → AllFit fs ws before after → HasSize after
+all-fit-size : (fs : List ArgumentForm) (ws : List (List ℕ)) (before after : Operands) → HasSize before → AllFit fs ws before after → HasSize after
 all-fit-size [] [] before after has fit = subst HasSize (sym fit) has
 all-fit-size [] (w ∷ ws) before after has fit = absurd fit
 all-fit-size (f ∷ fs) [] before after has fit = absurd fit
@@ -60,6 +60,6 @@ made-size maker.Soak given command has makes = subst IsSized (same_Some (Soak gi
 first-size : HasSize first_operands
 first-size = (omega arith, omega arith)
 
-pub named-size : (words : List (String Global)) (command : Command) → Names words command → IsSized command
-named-size words command (by_row k row c at (given, fit, makes)) =
-    made-size row.1 given c (all-fit-size row.0 (map (λ (w : String Global). string_bytes w) words) first_operands given first-size fit) makes
+pub named-size : (arguments : List (String Global)) (command : Command) → Names arguments command → IsSized command
+named-size arguments command (by_row k row c at (given, fit, makes)) =
+    made-size row.1 given c (all-fit-size row.0 (map (λ (w : String Global). string_bytes w) arguments) first_operands given first-size fit) makes

@@ -1,4 +1,4 @@
--- The commands, and the words that name them.
+-- The commands, and the arguments that name them.
 use Rattle.std.specs.Prelude.{◌≡◌, ℕ, Bool, true, false, Option, Some, None, List, [], ◌∷◌, map, codes, slice_get, string_bytes}
 use Rattle.std.specs.List.{flat_map}
 use Rattle.std.specs.Option.{option_map}
@@ -10,35 +10,35 @@ use Rattle.dbp_top.specs.declared.operands.Maker.{Maker}
 use Rattle.dbp_top.specs.declared.operands.Maker.TheVariants as maker
 use Rattle.dbp_top.specs.declared.operands.Operands.{Operands}
 use Rattle.dbp_top.specs.declared.table.Row.{Row}
-use Rattle.dbp_top.specs.Patterns.{AllFit, WordForm, form_of, listed_forms, name, number, size, word}
+use Rattle.dbp_top.specs.Patterns.{AllFit, ArgumentForm, form_of, listed_forms, name, number, size, argument}
 
--- the forms of a command's words, and what makes the command of the operands among them
+-- the forms of a command's arguments, and what makes the command of the operands among them
 abbrev pub CommandRow : Type 0
-CommandRow = List WordForm × Maker
+CommandRow = List ArgumentForm × Maker
 
 -- all commands, in the order in which they are listed
 abbrev pub command_table : List CommandRow
 command_table =
-    (word (codes "mean") ∷ [], maker.Mean)
-    ∷ (word (codes "sim") ∷ [], maker.Sim)
-    ∷ (word (codes "sim") ∷ word (codes "--record") ∷ [], maker.SimRecord)
-    ∷ (word (codes "cpus") ∷ [], maker.Cpus)
-    ∷ (word (codes "cpus") ∷ word (codes "--record") ∷ [], maker.CpusRecord)
-    ∷ (word (codes "run") ∷ [], maker.Run)
-    ∷ (word (codes "run") ∷ word (codes "--turns") ∷ number [] ∷ [], maker.RunTurns)
-    ∷ (word (codes "run") ∷ number (codes "--turns=") ∷ [], maker.RunTurns)
-    ∷ (word (codes "form") ∷ [], maker.Form)
-    ∷ (word (codes "upgrade") ∷ [], maker.Upgrade)
-    ∷ (word (codes "rank") ∷ [], maker.Rank)
-    ∷ (word (codes "plan") ∷ [], maker.Plan)
-    ∷ (word (codes "rta") ∷ [], maker.Rta)
-    ∷ (word (codes "need") ∷ name ∷ [], maker.Need)
-    ∷ (word (codes "replay") ∷ [], maker.Replay)
-    ∷ (word (codes "replay") ∷ word (codes "--ranked") ∷ [], maker.ReplayRanked)
-    ∷ (word (codes "gen") ∷ number [] ∷ [], maker.Gen)
-    ∷ (word (codes "gen") ∷ number [] ∷ size ∷ [], maker.Gen)
-    ∷ (word (codes "soak") ∷ number [] ∷ [], maker.Soak)
-    ∷ (word (codes "soak") ∷ number [] ∷ size ∷ [], maker.Soak)
+    (argument (codes "mean") ∷ [], maker.Mean)
+    ∷ (argument (codes "sim") ∷ [], maker.Sim)
+    ∷ (argument (codes "sim") ∷ argument (codes "--record") ∷ [], maker.SimRecord)
+    ∷ (argument (codes "cpus") ∷ [], maker.Cpus)
+    ∷ (argument (codes "cpus") ∷ argument (codes "--record") ∷ [], maker.CpusRecord)
+    ∷ (argument (codes "run") ∷ [], maker.Run)
+    ∷ (argument (codes "run") ∷ argument (codes "--turns") ∷ number [] ∷ [], maker.RunTurns)
+    ∷ (argument (codes "run") ∷ number (codes "--turns=") ∷ [], maker.RunTurns)
+    ∷ (argument (codes "form") ∷ [], maker.Form)
+    ∷ (argument (codes "upgrade") ∷ [], maker.Upgrade)
+    ∷ (argument (codes "rank") ∷ [], maker.Rank)
+    ∷ (argument (codes "plan") ∷ [], maker.Plan)
+    ∷ (argument (codes "rta") ∷ [], maker.Rta)
+    ∷ (argument (codes "need") ∷ name ∷ [], maker.Need)
+    ∷ (argument (codes "replay") ∷ [], maker.Replay)
+    ∷ (argument (codes "replay") ∷ argument (codes "--ranked") ∷ [], maker.ReplayRanked)
+    ∷ (argument (codes "gen") ∷ number [] ∷ [], maker.Gen)
+    ∷ (argument (codes "gen") ∷ number [] ∷ size ∷ [], maker.Gen)
+    ∷ (argument (codes "soak") ∷ number [] ∷ [], maker.Soak)
+    ∷ (argument (codes "soak") ∷ number [] ∷ size ∷ [], maker.Soak)
     ∷ []
 
 -- the command that is made of the operands: none if it wants a name that isn't given
@@ -61,7 +61,7 @@ made maker.ReplayRanked given = Some (Replay true)
 made maker.Gen given = Some (Gen given.number given.size)
 made maker.Soak given = Some (Soak given.number given.size)
 
--- what is given before the first word: a size that isn't said is 8
+-- what is given before the first argument: a size that isn't said is 8
 abbrev pub first_operands : Operands
 first_operands = record { number = 0; size = 8; name = None }
 
@@ -73,13 +73,13 @@ row_of row = (map form_of row.patterns.now, row.maker)
 abbrev pub HasAllCommands : List Row → Type 0
 HasAllCommands rows = map row_of rows ≡ command_table
 
--- the words name the command by the row: each is of its form, and it is made of their operands
+-- the arguments name the command by the row: each is of its form, and it is made of their operands
 abbrev pub NamesBy : CommandRow → List (String Global) → Command → Type 0
-NamesBy row words command = (given : Operands) × AllFit row.0 (map (λ w. string_bytes w) words) first_operands given × (made row.1 given ≡ Some command)
+NamesBy row arguments command = (given : Operands) × AllFit row.0 (map (λ w. string_bytes w) arguments) first_operands given × (made row.1 given ≡ Some command)
 
 -- they name it by a row of the table
-pub data Names (words : List (String Global)) : Command → Type 0 where
-  by_row : (k : ℕ) (row : CommandRow) (command : Command) → slice_get command_table k ≡ Some row → NamesBy row words command → Names words command
+pub data Names (arguments : List (String Global)) : Command → Type 0 where
+  by_row : (k : ℕ) (row : CommandRow) (command : Command) → slice_get command_table k ≡ Some row → NamesBy row arguments command → Names arguments command
 
 -- ---- who serves a command
 
@@ -99,13 +99,13 @@ runner_of _ = nobody
 abbrev pub serves_all : Command → Bool
 serves_all _ = true
 
--- the words name no command that the call serves
+-- the arguments name no command that the call serves
 abbrev pub NamesNone : (Command → Bool) → List (String Global) → Type 0
-NamesNone serves words = (command : Command) → Names words command → serves command ≡ true → ⊥
+NamesNone serves arguments = (command : Command) → Names arguments command → serves command ≡ true → ⊥
 
--- the words name a command that the call serves, and of which this holds
+-- the arguments name a command that the call serves, and of which this holds
 abbrev pub NamesSome : (Command → Bool) → List (String Global) → (Command → Type 0) → Type 0
-NamesSome serves words P = (command : Command) × Names words command × (serves command ≡ true) × P command
+NamesSome serves arguments P = (command : Command) × Names arguments command × (serves command ≡ true) × P command
 
 -- the lines that list all commands
 abbrev pub command_list : List ℕ

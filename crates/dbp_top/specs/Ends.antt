@@ -88,20 +88,20 @@ module _ {S K : Type 0} (left : S → Option (List ℕ)) (source_faults source_e
   EndsAs command source new_source sink new_sink NoMemory = RanOut source new_source sink new_sink command
   EndsAs command source new_source sink new_sink TooLarge = (reads_input command ≡ true) × ReadTooMuch source new_source sink new_sink
 
-  -- What each status says of the words, the source and the sink, of a call that serves these commands: its words name one
+  -- What each status says of the arguments, the source and the sink, of a call that serves these commands: its arguments name one
   -- of them, and the call ended as this command's; or they name none, and nothing was read or written.
   abbrev pub Ends : (Command → Bool) → List (String Global) → S → S → K → K → Status → Type 0
-  Ends serves words source new_source sink new_sink Usage = NamesNone serves words × (new_source ≡ source) × (new_sink ≡ sink)
-  Ends serves words source new_source sink new_sink status = NamesSome serves words (λ command. EndsAs command source new_source sink new_sink status)
+  Ends serves arguments source new_source sink new_sink Usage = NamesNone serves arguments × (new_source ≡ source) × (new_sink ≡ sink)
+  Ends serves arguments source new_source sink new_sink status = NamesSome serves arguments (λ command. EndsAs command source new_source sink new_sink status)
 
-  -- How a call ends in which nothing failed: the words name no command that it serves, and nothing was read or written; or
+  -- How a call ends in which nothing failed: the arguments name no command that it serves, and nothing was read or written; or
   -- the input is too large, or memory ran out, and nothing was written; or the input was read to its end, and the
   -- command's answer to it was written whole.
-  pub data Answered (serves : Command → Bool) (words : List (String Global)) (source new_source : S) (sink new_sink : K) : Status → Type 0 where
-    no_command : NamesNone serves words → new_source ≡ source → new_sink ≡ sink → Answered serves words source new_source sink new_sink Usage
-    too_large : (command : Command) → Names words command → serves command ≡ true → reads_input command ≡ true → ReadTooMuch source new_source sink new_sink
-        → Answered serves words source new_source sink new_sink TooLarge
-    no_memory : (command : Command) → Names words command → serves command ≡ true → RanOut source new_source sink new_sink command
-        → Answered serves words source new_source sink new_sink NoMemory
-    whole : (command : Command) (status : Status) → PrintsAnswer status → Names words command → serves command ≡ true → WroteWhole source new_source sink new_sink command status
-        → Answered serves words source new_source sink new_sink status
+  pub data Answered (serves : Command → Bool) (arguments : List (String Global)) (source new_source : S) (sink new_sink : K) : Status → Type 0 where
+    no_command : NamesNone serves arguments → new_source ≡ source → new_sink ≡ sink → Answered serves arguments source new_source sink new_sink Usage
+    too_large : (command : Command) → Names arguments command → serves command ≡ true → reads_input command ≡ true → ReadTooMuch source new_source sink new_sink
+        → Answered serves arguments source new_source sink new_sink TooLarge
+    no_memory : (command : Command) → Names arguments command → serves command ≡ true → RanOut source new_source sink new_sink command
+        → Answered serves arguments source new_source sink new_sink NoMemory
+    whole : (command : Command) (status : Status) → PrintsAnswer status → Names arguments command → serves command ≡ true → WroteWhole source new_source sink new_sink command status
+        → Answered serves arguments source new_source sink new_sink status

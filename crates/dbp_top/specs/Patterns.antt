@@ -1,21 +1,21 @@
--- The forms of a command's words, and the operands in them.
+-- The forms of a command's arguments, and the operands in them.
 use Rattle.std.specs.Prelude.{◌≡◌, ℕ, ◌≤◌, ◌<◌, ◌^◌, List, [], ◌∷◌, ◌++◌, codes, length, Some}
 use Rattle.std.specs.List.{flat_map}
 use Rattle.std.specs.Str.Parse.{IsNumeral, digits_value}
 use Rattle.dbp_plan.specs.Name.{IsName}
 use Rattle.dbp_top.specs.declared.operands.Operands.{Operands}
 use Rattle.dbp_top.specs.declared.pattern.Pattern.{Pattern}
-use Rattle.dbp_top.specs.declared.pattern.Pattern.TheVariants.{Name, Number, Size, Word}
+use Rattle.dbp_top.specs.declared.pattern.Pattern.TheVariants.{Exact, Name, Number, Size}
 
--- the form of a word: this text, a number after a prefix, a size, or a name
-pub data WordForm : Type 0 where
-  word : List ℕ → WordForm
-  number : List ℕ → WordForm
-  size : WordForm
-  name : WordForm
+-- the form of an argument: this text, a number after a prefix, a size, or a name
+pub data ArgumentForm : Type 0 where
+  argument : List ℕ → ArgumentForm
+  number : List ℕ → ArgumentForm
+  size : ArgumentForm
+  name : ArgumentForm
 
-abbrev pub form_of : Pattern → WordForm
-form_of (Word text) = word text.now
+abbrev pub form_of : Pattern → ArgumentForm
+form_of (Exact text) = argument text.now
 form_of (Number prefix) = number prefix.now
 form_of Size = size
 form_of Name = name
@@ -42,28 +42,28 @@ with_size before n = record before { size = n }
 abbrev pub with_name : Operands → List ℕ → Operands
 with_name before n = record before { name = Some n }
 
--- the word is of this form, and these are the operands after it
-abbrev pub Fits : WordForm → List ℕ → Operands → Operands → Type 0
-Fits (word text) w before after = (w ≡ text) × (after ≡ before)
+-- the argument is of this form, and these are the operands after it
+abbrev pub Fits : ArgumentForm → List ℕ → Operands → Operands → Type 0
+Fits (argument text) w before after = (w ≡ text) × (after ≡ before)
 Fits (number prefix) w before after =
     (digits : List ℕ) × (w ≡ prefix ++ digits) × IsNumber digits × (after ≡ with_number before (digits_value 10 digits))
 Fits size w before after = IsSize w × (after ≡ with_size before (digits_value 10 w))
 Fits name w before after = IsName w × (after ≡ with_name before w)
 
--- each word is of its form, and these are the operands after them
-abbrev pub AllFit : List WordForm → List (List ℕ) → Operands → Operands → Type 0
+-- each argument is of its form, and these are the operands after them
+abbrev pub AllFit : List ArgumentForm → List (List ℕ) → Operands → Operands → Type 0
 AllFit [] [] before after = after ≡ before
 AllFit [] (w ∷ ws) before after = ⊥
 AllFit (f ∷ fs) [] before after = ⊥
 AllFit (f ∷ fs) (w ∷ ws) before after = (between : Operands) × Fits f w before between × AllFit fs ws between after
 
 -- what a user reads of a form
-abbrev pub form_text : WordForm → List ℕ
-form_text (word text) = text
+abbrev pub form_text : ArgumentForm → List ℕ
+form_text (argument text) = text
 form_text (number prefix) = prefix ++ codes "N"
 form_text size = codes "SIZE"
 form_text name = codes "TASK"
 
--- the line that lists words of these forms: a space, each of them after a space (32), and LF (10)
-abbrev pub listed_forms : List WordForm → List ℕ
+-- the line that lists arguments of these forms: a space, each of them after a space (32), and LF (10)
+abbrev pub listed_forms : List ArgumentForm → List ℕ
 listed_forms forms = 32 ∷ flat_map (λ f. 32 ∷ form_text f) forms ++ 10 ∷ []

@@ -60,10 +60,10 @@ module _ {C : Type 0} (runs : C → List CrewEntry) where
       (new_crew ≡ crew) × RunsAfter status input (turn_runs turns) (turn_runs new_turns) × (seed_of new_turns ≡ seed)
       × HasDrawn seed (turn_runs turns) (turn_runs new_turns) (last_seed_of new_turns)
 
-  -- both crews after a call with these words
-  pub record Crews (words : List (String Global)) (status : Status) (input : Option (List ℕ)) (crew new_crew : C) (turns new_turns : TurnCrew) : Type 0 where
-    pub named : (command : Command) → Names words command → CrewsAfter (runner_of command) status (text_to_run command input) crew new_crew turns new_turns
-    pub unnamed : ((command : Command) → Names words command → ⊥) → (new_crew ≡ crew) × (new_turns ≡ turns)
+  -- both crews after a call with these arguments
+  pub record Crews (arguments : List (String Global)) (status : Status) (input : Option (List ℕ)) (crew new_crew : C) (turns new_turns : TurnCrew) : Type 0 where
+    pub named : (command : Command) → Names arguments command → CrewsAfter (runner_of command) status (text_to_run command input) crew new_crew turns new_turns
+    pub unnamed : ((command : Command) → Names arguments command → ⊥) → (new_crew ≡ crew) × (new_turns ≡ turns)
 
 -- one run of the plan was made, or memory ran out before or after it
 abbrev pub RanOnce : {A E : Type 0} → Plan → List CrewEntry → List CrewEntry → Result A E → Type 0

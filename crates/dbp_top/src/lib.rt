@@ -1,9 +1,9 @@
-//! The top call: what the program does with its words, its source and its sink.
+//! The top call: what the program does with its arguments, its source and its sink.
 //!
-//! What a command answers to an input is `dbp_answers`' (`Answers`). Here stand the words that name a command, the
+//! What a command answers to an input is `dbp_answers`' (`Answers`). Here stand the arguments that name a command, the
 //! streams, and the crews that run tasks. How a call ends is said three times, for three readers: `Ends` goes by the
-//! status, `Answered` by what holds if no read and no write failed, and `Crews` says how both crews stand. The words are
-//! one table, `command_table`: that no two rows fit the same words is computed from it, and the list for a faulty
+//! status, `Answered` by what holds if no read and no write failed, and `Crews` says how both crews stand. The arguments are
+//! one table, `command_table`: that no two rows fit the same arguments is computed from it, and the list for a faulty
 //! command line is made of it. Room is made before bytes are asked for, so a text that is too large is known before
 //! memory runs out.
 #![tactic(auto)]

@@ -1,4 +1,4 @@
-// The operands among the words of a command, and the command that is made of them.
+// The operands among the arguments of a command, and the command that is made of them.
 
 ghost use Rattle.std.specs.Prelude.{◌≡◌};
 ghost use Rattle.dbp_top.specs.Commands.{made};
@@ -6,7 +6,7 @@ ghost use Rattle.dbp_top.specs.Commands.{made};
 use dbp_answers::Command;
 use dbp_plan::Name;
 
-/// The operands among the words of a command.
+/// The operands among the arguments of a command.
 #[derive(Clone, Copy, Debug, PartialEq, Eq)]
 pub(crate) struct Operands {
     /// A number below 2 ^ 64.
@@ -17,7 +17,7 @@ pub(crate) struct Operands {
     pub(crate) name: Option<Name>,
 }
 
-/// What makes a command of the operands among its words. The table of commands is a static, which can hold no command that
+/// What makes a command of the operands among its arguments. The table of commands is a static, which can hold no command that
 /// names a task.
 #[derive(Clone, Copy, Debug, PartialEq, Eq)]
 pub(crate) enum Maker {

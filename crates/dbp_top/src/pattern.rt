@@ -1,4 +1,4 @@
-// What may stand where a command has a word, and the operands in words.
+// What may stand where a command has an argument, and the operands in arguments.
 
 ghost use Rattle.std.specs.Prelude.{◌≡◌, ◌↔◌, ℕ, Some};
 ghost use Rattle.std.specs.Str.Parse.{digits_value};
@@ -8,10 +8,10 @@ ghost use Rattle.dbp_top.specs.declared.operands.Operands.{Operands as Given};
 use crate::operands::Operands;
 use dbp_plan::Name;
 
-/// What may stand where a command has a word.
+/// What may stand where a command has an argument.
 pub(crate) enum Pattern {
-    /// This word.
-    Word(&'static str),
+    /// This argument.
+    Exact(&'static str),
     /// A number after these bytes.
     Number(&'static str),
     /// A size.
@@ -20,23 +20,33 @@ pub(crate) enum Pattern {
     Name,
 }
 
-/// The operands that are known after the word, if it fits the pattern.
-pub(crate) fn after_word(pattern: &Pattern, word: &str, operands: Operands) -> Option<Operands>
+/// The operands that are known after the argument, if it fits the pattern.
+pub(crate) fn after_argument(
+    pattern: &Pattern,
+    argument: &str,
+    operands: Operands,
+) -> Option<Operands>
     ensures { (after : Given) → result ≡ Some after
-        ↔ Fits (form_of pattern.now) word.now operands after }
+        ↔ Fits (form_of pattern.now) argument.now operands after }
 {
     match pattern {
-        Pattern::Word(text) => { if word == *text { Some(operands) } else { None } }
+        Pattern::Exact(text) => {
+            if argument == *text {
+                Some(operands)
+            } else {
+                None
+            }
+        }
         Pattern::Number(prefix) => {
-            let number = number_in(word.strip_prefix(*prefix)?)?;
+            let number = number_in(argument.strip_prefix(*prefix)?)?;
             Some(Operands { number, ..operands })
         }
         Pattern::Size => {
-            let size = size_in(word)?;
+            let size = size_in(argument)?;
             Some(Operands { size, ..operands })
         }
         Pattern::Name => {
-            let name = Name::of(word.as_bytes())?;
+            let name = Name::of(argument.as_bytes())?;
             Some(Operands {
                 name: Some(name),
                 ..operands

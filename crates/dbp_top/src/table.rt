@@ -1,4 +1,4 @@
-// The table of commands: the words that name each.
+// The table of commands: the arguments that name each.
 
 ghost use Rattle.std.specs.Prelude.{◌≡◌, ◌++◌, ◌↔◌, List as Items, ℕ, Some, map, string_bytes, IfOk, OnOk};
 ghost use Rattle.dbp_top.specs.Commands.{HasAllCommands, Names, NamesBy, command_list, first_operands, row_of};
@@ -7,12 +7,12 @@ ghost use Rattle.dbp_answers.specs.declared.command.Command.{Command as Named};
 ghost use Rattle.dbp_top.specs.declared.operands.Operands.{Operands as Given};
 
 use crate::operands::{Maker, Operands, made};
-use crate::pattern::{Pattern, after_word};
+use crate::pattern::{Pattern, after_argument};
 use dbp_answers::Command;
 use dbp_plan::NoMemory;
 use std::alloc::Global;
 
-// What the words of a command are, and what makes it of the operands among them.
+// What the arguments of a command are, and what makes it of the operands among them.
 struct Row {
     patterns: &'static [Pattern],
     maker: Maker,
@@ -21,87 +21,87 @@ struct Row {
 // All commands. What a user reads of them is made of this table too.
 static ROWS: [Row; 20] = [
     Row {
-        patterns: &[Pattern::Word("mean")],
+        patterns: &[Pattern::Exact("mean")],
         maker: Maker::Mean,
     },
     Row {
-        patterns: &[Pattern::Word("sim")],
+        patterns: &[Pattern::Exact("sim")],
         maker: Maker::Sim,
     },
     Row {
-        patterns: &[Pattern::Word("sim"), Pattern::Word("--record")],
+        patterns: &[Pattern::Exact("sim"), Pattern::Exact("--record")],
         maker: Maker::SimRecord,
     },
     Row {
-        patterns: &[Pattern::Word("cpus")],
+        patterns: &[Pattern::Exact("cpus")],
         maker: Maker::Cpus,
     },
     Row {
-        patterns: &[Pattern::Word("cpus"), Pattern::Word("--record")],
+        patterns: &[Pattern::Exact("cpus"), Pattern::Exact("--record")],
         maker: Maker::CpusRecord,
     },
     Row {
-        patterns: &[Pattern::Word("run")],
+        patterns: &[Pattern::Exact("run")],
         maker: Maker::Run,
     },
     Row {
         patterns: &[
-            Pattern::Word("run"),
-            Pattern::Word("--turns"),
+            Pattern::Exact("run"),
+            Pattern::Exact("--turns"),
             Pattern::Number(""),
         ],
         maker: Maker::RunTurns,
     },
     Row {
-        patterns: &[Pattern::Word("run"), Pattern::Number("--turns=")],
+        patterns: &[Pattern::Exact("run"), Pattern::Number("--turns=")],
         maker: Maker::RunTurns,
     },
     Row {
-        patterns: &[Pattern::Word("form")],
+        patterns: &[Pattern::Exact("form")],
         maker: Maker::Form,
     },
     Row {
-        patterns: &[Pattern::Word("upgrade")],
+        patterns: &[Pattern::Exact("upgrade")],
         maker: Maker::Upgrade,
     },
     Row {
-        patterns: &[Pattern::Word("rank")],
+        patterns: &[Pattern::Exact("rank")],
         maker: Maker::Rank,
     },
     Row {
-        patterns: &[Pattern::Word("plan")],
+        patterns: &[Pattern::Exact("plan")],
         maker: Maker::Plan,
     },
     Row {
-        patterns: &[Pattern::Word("rta")],
+        patterns: &[Pattern::Exact("rta")],
         maker: Maker::Rta,
     },
     Row {
-        patterns: &[Pattern::Word("need"), Pattern::Name],
+        patterns: &[Pattern::Exact("need"), Pattern::Name],
         maker: Maker::Need,
     },
     Row {
-        patterns: &[Pattern::Word("replay")],
+        patterns: &[Pattern::Exact("replay")],
         maker: Maker::Replay,
     },
     Row {
-        patterns: &[Pattern::Word("replay"), Pattern::Word("--ranked")],
+        patterns: &[Pattern::Exact("replay"), Pattern::Exact("--ranked")],
         maker: Maker::ReplayRanked,
     },
     Row {
-        patterns: &[Pattern::Word("gen"), Pattern::Number("")],
+        patterns: &[Pattern::Exact("gen"), Pattern::Number("")],
         maker: Maker::Gen,
     },
     Row {
-        patterns: &[Pattern::Word("gen"), Pattern::Number(""), Pattern::Size],
+        patterns: &[Pattern::Exact("gen"), Pattern::Number(""), Pattern::Size],
         maker: Maker::Gen,
     },
     Row {
-        patterns: &[Pattern::Word("soak"), Pattern::Number("")],
+        patterns: &[Pattern::Exact("soak"), Pattern::Number("")],
         maker: Maker::Soak,
     },
     Row {
-        patterns: &[Pattern::Word("soak"), Pattern::Number(""), Pattern::Size],
+        patterns: &[Pattern::Exact("soak"), Pattern::Number(""), Pattern::Size],
         maker: Maker::Soak,
     },
 ];
@@ -113,35 +113,35 @@ fn rows() -> &'static [Row]
     &ROWS
 }
 
-/// The command that the words name. A size that isn't said is 8. It takes no memory.
-pub fn command_of(words: &[String]) -> Option<Command>
-    ensures { (command : Named) → result ≡ Some command ↔ Names words.now command }
+/// The command that the arguments name. A size that isn't said is 8. It takes no memory.
+pub fn command_of(arguments: &[String]) -> Option<Command>
+    ensures { (command : Named) → result ≡ Some command ↔ Names arguments.now command }
 {
     for row in rows() {
-        if let Some(command) = command_by(row, words) {
+        if let Some(command) = command_by(row, arguments) {
             return Some(command);
         }
     }
     None
 }
 
-// The command that the words name by this row.
-fn command_by(row: &Row, words: &[String]) -> Option<Command>
-    ensures { (command : Named) → result ≡ Some command ↔ NamesBy (row_of row.now) words.now command }
+// The command that the arguments name by this row.
+fn command_by(row: &Row, arguments: &[String]) -> Option<Command>
+    ensures { (command : Named) → result ≡ Some command ↔ NamesBy (row_of row.now) arguments.now command }
 {
-    match operands_in(row.patterns, words) {
+    match operands_in(row.patterns, arguments) {
         Some(given) => made(row.maker, given),
         None => None,
     }
 }
 
-// The operands in the words, if each word fits its pattern.
-fn operands_in(patterns: &[Pattern], words: &[String]) -> Option<Operands>
+// The operands in the arguments, if each argument fits its pattern.
+fn operands_in(patterns: &[Pattern], arguments: &[String]) -> Option<Operands>
     ensures { (given : Given) → result ≡ Some given
         ↔ AllFit (map form_of patterns.now)
-        (map (λ w. string_bytes w) words.now) first_operands given }
+        (map (λ w. string_bytes w) arguments.now) first_operands given }
 {
-    if patterns.len() != words.len() {
+    if patterns.len() != arguments.len() {
         return None;
     }
     // a size that isn't said
@@ -151,12 +151,12 @@ fn operands_in(patterns: &[Pattern], words: &[String]) -> Option<Operands>
         name: None,
     };
     for (place, pattern) in patterns.iter().enumerate() {
-        operands = after_word(pattern, words[place].as_str(), operands)?;
+        operands = after_argument(pattern, arguments[place].as_str(), operands)?;
     }
     Some(operands)
 }
 
-/// The words of each command, a line for each row of the table of commands. Numbers stand there as N, sizes as SIZE, names
+/// The arguments of each command, a line for each row of the table of commands. Numbers stand there as N, sizes as SIZE, names
 /// as TASK.
 pub fn command_lines(alloc: Global) -> Result<String, NoMemory>
     ensures { IfOk result (λ text. string_bytes text ≡ command_list) }
@@ -182,13 +182,13 @@ fn push_patterns(text: &mut String, patterns: &[Pattern]) -> Result<(), NoMemory
     Ok(())
 }
 
-// Adds what stands for a word.
+// Adds what stands for an argument.
 fn push_pattern(text: &mut String, pattern: &Pattern) -> Result<(), NoMemory>
     ensures { OnOk result (string_bytes text.new
         ≡ string_bytes text.old ++ form_text (form_of pattern.now)) }
 {
     match pattern {
-        Pattern::Word(word) => Ok(text.push_str(word)?),
+        Pattern::Exact(argument) => Ok(text.push_str(argument)?),
         Pattern::Number(prefix) => {
             text.push_str(prefix)?;
             Ok(text.push_str("N")?)

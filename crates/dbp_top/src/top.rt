@@ -27,7 +27,7 @@ pub const MAX_DOCUMENT: usize = 1_048_576;
 
 const _: () = prove!(MAX_DOCUMENT == 1_048_576);
 
-/// The whole program: compares the words with the commands, reads the source to its end, makes the command's text and
+/// The whole program: compares the arguments with the commands, reads the source to its end, makes the command's text and
 /// writes it. `run` runs the tasks by `crew`, and `run --turns N` by `turns`, which draws from N. Clause `ends` says for each
 /// status when it comes, and what was read and written then; clause `answered` says the same of a call in which nothing
 /// failed; clause `crews` says for each status which runs the crews then have made (docs/PROVED.md has them as tables). It
@@ -35,58 +35,58 @@ const _: () = prove!(MAX_DOCUMENT == 1_048_576);
 pub fn dbp_main<R: Threads + Wait + Sync, S: Source, K: Sink, C: Crew>(
     rt: &R,
     alloc: Global,
-    words: &[String],
+    arguments: &[String],
     source: &mut S,
     sink: &mut K,
     crew: &mut C,
     turns: &mut TurnCrew,
 ) -> Status
     // What each status says.
-    ensures ends { Ends S.left S.faults S.ends K.written K.faults serves_all words.now source.old source.new sink.old sink.new result }
+    ensures ends { Ends S.left S.faults S.ends K.written K.faults serves_all arguments.now source.old source.new sink.old sink.new result }
     // If no read and no write failed, the call was answered.
     ensures answered { (Rose (S.faults source.old) (S.faults source.new) → ⊥)
         → (Rose (K.faults sink.old) (K.faults sink.new) → ⊥)
-        → Answered S.left S.faults S.ends K.written K.faults serves_all words.now source.old source.new sink.old sink.new result }
+        → Answered S.left S.faults S.ends K.written K.faults serves_all arguments.now source.old source.new sink.old sink.new result }
     // What the crews ran.
-    ensures crews { Crews C.runs words.now result
+    ensures crews { Crews C.runs arguments.now result
         (S.left source.old) crew.old crew.new turns.old turns.new }
 {
-    ending(rt, alloc, words, source, sink, crew, turns)
+    ending(rt, alloc, arguments, source, sink, crew, turns)
 }
 
 /// `dbp_main` for the commands that run no tasks; those that do are no command to it. It waits for nobody, and always
 /// returns.
 pub fn plain_main<S: Source, K: Sink>(
     alloc: Global,
-    words: &[String],
+    arguments: &[String],
     source: &mut S,
     sink: &mut K,
 ) -> Status
     // What each status says.
-    ensures ends { Ends S.left S.faults S.ends K.written K.faults serves_plain words.now source.old source.new sink.old sink.new result }
+    ensures ends { Ends S.left S.faults S.ends K.written K.faults serves_plain arguments.now source.old source.new sink.old sink.new result }
     // If no read and no write failed, the call was answered.
     ensures answered { (Rose (S.faults source.old) (S.faults source.new) → ⊥)
         → (Rose (K.faults sink.old) (K.faults sink.new) → ⊥)
-        → Answered S.left S.faults S.ends K.written K.faults serves_plain words.now source.old source.new sink.old sink.new result }
+        → Answered S.left S.faults S.ends K.written K.faults serves_plain arguments.now source.old source.new sink.old sink.new result }
 {
-    plain_ending(alloc, words, source, sink)
+    plain_ending(alloc, arguments, source, sink)
 }
 
-// How a call of these words ends, and what the crews ran.
+// How a call of these arguments ends, and what the crews ran.
 fn ending<R: Threads + Wait + Sync, S: Source, K: Sink, C: Crew>(
     rt: &R,
     alloc: Global,
-    words: &[String],
+    arguments: &[String],
     source: &mut S,
     sink: &mut K,
     crew: &mut C,
     turns: &mut TurnCrew,
 ) -> Status
-    ensures ends { Ends S.left S.faults S.ends K.written K.faults serves_all words.now source.old source.new sink.old sink.new result }
-    ensures crews { Crews C.runs words.now result
+    ensures ends { Ends S.left S.faults S.ends K.written K.faults serves_all arguments.now source.old source.new sink.old sink.new result }
+    ensures crews { Crews C.runs arguments.now result
         (S.left source.old) crew.old crew.new turns.old turns.new }
 {
-    match command_of(words) {
+    match command_of(arguments) {
         Some(Command::Run { turns: None }) => run_ending(rt, alloc, source, sink, crew),
         Some(Command::Run { turns: Some(seed) }) => {
             turns.seed(seed);
@@ -95,20 +95,20 @@ fn ending<R: Threads + Wait + Sync, S: Source, K: Sink, C: Crew>(
         Some(Command::Soak { seed, size }) => {
             soak_ending(rt, alloc, seed, size, source, sink, crew)
         }
-        _ => plain_main(alloc, words, source, sink),
+        _ => plain_main(alloc, arguments, source, sink),
     }
 }
 
 // How a call without crews ends.
 fn plain_ending<S: Source, K: Sink>(
     alloc: Global,
-    words: &[String],
+    arguments: &[String],
     source: &mut S,
     sink: &mut K,
 ) -> Status
-    ensures { Ends S.left S.faults S.ends K.written K.faults serves_plain words.now source.old source.new sink.old sink.new result }
+    ensures { Ends S.left S.faults S.ends K.written K.faults serves_plain arguments.now source.old source.new sink.old sink.new result }
 {
-    match command_of(words) {
+    match command_of(arguments) {
         None | Some(Command::Run { .. } | Command::Soak { .. }) => Status::Usage,
         Some(Command::Gen { seed, size }) => gen_ending(alloc, seed, size, source, sink),
         Some(command) => command_ending(alloc, command, source, sink),

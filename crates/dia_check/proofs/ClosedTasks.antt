@@ -35,7 +35,7 @@ use Rattle.dia_read.specs.declared.document.Body.{Body}
 use Rattle.dia_read.specs.declared.document.RawTask.{RawTask}
 use Rattle.expr_eval.specs.LetOrders.{IsFrontOrder}
 use Rattle.dia_check.specs.Diagrams.{clock_of, when_of, state_of, sense_of, read_of, let_of, next_of, out_of, lets_of, task_of, input_of, IsTaskOf, IsDiagramOf}
-use Rattle.dia_check.specs.Faults.{is_repeated, is_unknown, is_self_link, is_past_cost, is_unknown_clock, is_unknown_when, task_fault, part_fault, has_strange, base_of, IsWhole}
+use Rattle.dia_check.specs.Faults.{is_repeated, is_unknown, is_self_link, is_past_cost, is_unknown_clock, is_unknown_when, task_fault, part_fault, has_unbound, base_of, IsWhole}
 use Rattle.dia_check.specs.Names.{input_name, event_name, state_name, sense_name, read_name, let_name, next_name, out_name, env_names}
 use Rattle.dia_check.specs.Placed.{placed_expr}
 use Rattle.dia_check.proofs.Faultless.{IsFaultless}
@@ -188,10 +188,10 @@ module _ (body : Body) (t : RawTask) (fine : (j : ℕ) (p : Part) → slice_get 
   names-known : (j : ℕ) (p : Part) → slice_get t.parts j ≡ Some p → is_unknown body t p ≡ false
   names-known j p at = (clean body t (take j t.parts) p (fine j p at)).1
 
-  next-known : (j : ℕ) (p : Part) (n : List ℕ) (e : Expr (List ℕ)) → slice_get t.parts j ≡ Some p → p ≡ part.Next n e → (is_among (flat_map state_name t.parts) n ≡ true) × (has_strange (env_names t.parts) e ≡ false)
+  next-known : (j : ℕ) (p : Part) (n : List ℕ) (e : Expr (List ℕ)) → slice_get t.parts j ≡ Some p → p ≡ part.Next n e → (is_among (flat_map state_name t.parts) n ≡ true) × (has_unbound (env_names t.parts) e ≡ false)
   next-known j p n e at is =
       let tested : is_unknown body t (part.Next n e) ≡ false = subst (λ q. is_unknown body t q ≡ false) is (names-known j p at) in
-      let both : (not (is_among (flat_map state_name t.parts) n) ≡ false) × (has_strange (env_names t.parts) e ≡ false) = or_parts _ _ tested in
+      let both : (not (is_among (flat_map state_name t.parts) n) ≡ false) × (has_unbound (env_names t.parts) e ≡ false) = or_parts _ _ tested in
       (not-false (is_among (flat_map state_name t.parts) n) both.0, both.1)
 
   pub let-variables-below : All (λ l. VariablesBelow (length (env_names t.parts)) l.expr.nodes) (lets_of t)

@@ -13,7 +13,7 @@ use Rattle.dia_lines.specs.declared.item.Part.{Part}
 use Rattle.dia_lines.specs.declared.item.Part.TheVariants.{State, Sense, Read, Let, Next, Out}
 use Rattle.dia_read.specs.declared.document.RawTask.{RawTask}
 use Rattle.dia_check.specs.Names.{next_name, declared_name, input_name, event_name, decl_name, task_names, state_name, sense_name, read_name, let_name, out_name, env_names}
-use Rattle.dia_check.specs.Tests.{is_input, is_event, is_decl, is_task, is_state, is_out, is_next, is_place, is_declared}
+use Rattle.dia_check.specs.Tests.{is_input, is_event, is_decl, is_task, is_state, is_out, is_next, binds, is_declared}
 
 among-inputs-each : (n : List ℕ) (d : Decl) → is_among (input_name d) n ≡ is_input n d
 among-inputs-each n (Input m v) = or-false (bytes_eq m n)
@@ -109,7 +109,7 @@ env-four n ps =
     let rs = flat_map read_name ps in
     list_any-append test (ss ++ es ++ rs) (flat_map let_name ps) ∙ rw (list_any-append test (ss ++ es) rs, list_any-append test ss es) refl
 
-four-is : (n : List ℕ) (ps : List Part) → four n ps ≡ list_any (is_place n) ps
+four-is : (n : List ℕ) (ps : List Part) → four n ps ≡ list_any (binds n) ps
 four-is n [] = refl
 four-is n (State m v ∷ ps) =
     first (bytes_eq m n) (is_among (flat_map state_name ps) n) (is_among (flat_map sense_name ps) n) (is_among (flat_map read_name ps) n) (is_among (flat_map let_name ps) n) ∙ ap (λ b. bytes_eq m n || b) (four-is n ps)
@@ -122,7 +122,7 @@ four-is n (Let m e ∷ ps) =
 four-is n (Next m e ∷ ps) = four-is n ps
 four-is n (Out m v e ∷ ps) = four-is n ps
 
-pub among_env : (n : List ℕ) (ps : List Part) → is_among (env_names ps) n ≡ list_any (is_place n) ps
+pub among_env : (n : List ℕ) (ps : List Part) → is_among (env_names ps) n ≡ list_any (binds n) ps
 among_env n ps = env-four n ps ∙ four-is n ps
 
 -- ---- names of items

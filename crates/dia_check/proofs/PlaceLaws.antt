@@ -13,7 +13,7 @@ use Rattle.dbp_plan.specs.LetOrder.{VariablesBelow}
 use Rattle.dbp_plan.specs.NameLists.{is_among, index_of}
 use Rattle.dbp_plan.proofs.NameLaws.{index-below}
 use Rattle.dia_check.specs.Placed.{placed_node, placed_expr, nodes-of-placed}
-use Rattle.dia_check.specs.Faults.{is_strange, has_strange}
+use Rattle.dia_check.specs.Faults.{is_unbound, has_unbound}
 
 -- parts that make as many items
 pub made-alike : {A B C : Type 0} (f : A → List B) (g : A → List C) → ((x : A) → length (f x) ≡ length (g x)) → (xs : List A) → length (flat_map f xs) ≡ length (flat_map g xs)
@@ -34,17 +34,17 @@ all-places P xs each k d below = each k (get_or xs k d) (slice_get-get_or xs k d
 
 -- ---- variables
 
-nodes-below : (names : List (List ℕ)) (nodes : List (Node (List ℕ))) → list_any (is_strange names) nodes ≡ false → VariablesBelow (length names) (map (placed_node names) nodes)
+nodes-below : (names : List (List ℕ)) (nodes : List (Node (List ℕ))) → list_any (is_unbound names) nodes ≡ false → VariablesBelow (length names) (map (placed_node names) nodes)
 nodes-below names [] none k v at = absurd cc
 nodes-below names (Var n ∷ nodes) none zero v at =
-    let known : is_among names n ≡ true = not-false (is_among names n) (or_parts (is_strange names (Var n)) (list_any (is_strange names) nodes) none).0 in
+    let known : is_among names n ≡ true = not-false (is_among names n) (or_parts (is_unbound names (Var n)) (list_any (is_unbound names) nodes) none).0 in
     let is : index_of names n ≡ v = cc in
     subst (λ w. w < length names) is (index-below names n known)
 nodes-below names (Num z ∷ nodes) none zero v at = absurd cc
 nodes-below names (Un op a ∷ nodes) none zero v at = absurd cc
 nodes-below names (Bin op a b ∷ nodes) none zero v at = absurd cc
 nodes-below names (Pick c a b ∷ nodes) none zero v at = absurd cc
-nodes-below names (node ∷ nodes) none (suc k) v at = nodes-below names nodes (or_parts (is_strange names node) (list_any (is_strange names) nodes) none).1 k v at
+nodes-below names (node ∷ nodes) none (suc k) v at = nodes-below names nodes (or_parts (is_unbound names node) (list_any (is_unbound names) nodes) none).1 k v at
 
-pub placed-below : (names : List (List ℕ)) (e : Expr (List ℕ)) → has_strange names e ≡ false → VariablesBelow (length names) (placed_expr names e).nodes
+pub placed-below : (names : List (List ℕ)) (e : Expr (List ℕ)) → has_unbound names e ≡ false → VariablesBelow (length names) (placed_expr names e).nodes
 placed-below names e none = subst (λ nodes. VariablesBelow (length names) nodes) (sym (nodes-of-placed names e)) (nodes-below names e.nodes none)

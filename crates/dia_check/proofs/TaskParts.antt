@@ -16,12 +16,12 @@ use Rattle.dia_read.specs.declared.document.RawTask.{RawTask}
 use Rattle.expr_eval.specs.declared.order.LetFail.{LetFail}
 use Rattle.expr_eval.specs.declared.order.LetFail.TheVariants as let_fail
 use Rattle.expr_eval.specs.LetOrders.{IsFrontOrder, Uses, IsCycleFrom, IsFailOf}
-use Rattle.dia_check.specs.declared.tasks.Given.{Given}
+use Rattle.dia_check.specs.declared.tasks.Sources.{Sources}
 use Rattle.dia_check.specs.declared.tasks.Work.{Work}
 use Rattle.dia_check.specs.Diagrams.{clock_of, when_of, state_of, sense_of, read_of, let_of, lets_of, task_of, IsTaskOf}
 use Rattle.dia_check.specs.Faults.{base_of, let_lines, a_cycle}
 use Rattle.dia_check.specs.Names.{input_name, event_name, state_name, sense_name, read_name, env_names, out_name}
-use Rattle.dia_check.specs.Scopes.{IsWorkOf, IsGivenTo, HasFaultlessParts, IsTaskRefusal, let_refusal}
+use Rattle.dia_check.specs.Scopes.{IsWorkOf, HasItsSources, HasFaultlessParts, IsTaskRefusal, let_refusal}
 use Rattle.dia_check.proofs.ClosedTasks.{states-alike, senses-alike, reads-alike, few-names, let-variables-below, base-and-lets}
 use Rattle.dia_check.proofs.PlaceLaws.{made-alike}
 
@@ -94,7 +94,7 @@ pub base-of-task : (body : Body) (number : ℕ) (t : RawTask) (order : List ℕ)
 base-of-task body number t order =
     rw (made-alike state_of state_name states-alike t.parts, made-alike (sense_of (flat_map input_name body.decls)) sense_name (senses-alike (flat_map input_name body.decls)) t.parts, made-alike (read_of body.tasks number) read_name (reads-alike body.tasks number) t.parts) refl
 
-pub assembled : (body : Body) (number : ℕ) (t : RawTask) (w : Work) (g : Given) (reads : List Read) (clock : Clock) (when : Option ℕ) → IsWorkOf t w → IsGivenTo body t.parts g → reads ≡ flat_map (read_of body.tasks number) t.parts
+pub assembled : (body : Body) (number : ℕ) (t : RawTask) (w : Work) (g : Sources) (reads : List Read) (clock : Clock) (when : Option ℕ) → IsWorkOf t w → HasItsSources body t.parts g → reads ≡ flat_map (read_of body.tasks number) t.parts
     → clock ≡ clock_of (flat_map event_name body.decls) t.clock → when ≡ when_of (flat_map input_name body.decls) t.when
     → IsTaskOf body number t (record { name = t.name; clock = clock; when = when; prio = t.prio; deadline = t.deadline; cost = t.cost; cpu = t.cpu; states = g.states; senses = g.senses; reads = reads; lets = w.lets; order = w.order; nexts = w.nexts; outs = w.outs })
 assembled body number t w g reads clock when work given read is guard =

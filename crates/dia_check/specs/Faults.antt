@@ -42,21 +42,21 @@ is_repeated before (Next n e) = is_among (flat_map next_name before) n
 is_repeated before (Out n first e) = is_declared_in before n
 
 -- a name that isn't among these
-abbrev pub is_strange : List (List ℕ) → Node (List ℕ) → Bool
-is_strange names (Var n) = not (is_among names n)
-is_strange names _ = false
+abbrev pub is_unbound : List (List ℕ) → Node (List ℕ) → Bool
+is_unbound names (Var n) = not (is_among names n)
+is_unbound names _ = false
 
-abbrev pub has_strange : List (List ℕ) → Expr (List ℕ) → Bool
-has_strange names e = list_any (is_strange names) e.nodes
+abbrev pub has_unbound : List (List ℕ) → Expr (List ℕ) → Bool
+has_unbound names e = list_any (is_unbound names) e.nodes
 
 -- the line uses a name that nothing of the kind has that stands there
 abbrev pub is_unknown : Body → RawTask → Part → Bool
 is_unknown body t (State n first) = false
 is_unknown body t (Sense n input) = not (is_among (flat_map input_name body.decls) input)
 is_unknown body t (Read n delay writer port at) = not (is_among (port_names body.tasks writer) port)
-is_unknown body t (Let n e) = has_strange (env_names t.parts) e
-is_unknown body t (Next n e) = not (is_among (flat_map state_name t.parts) n) || has_strange (env_names t.parts) e
-is_unknown body t (Out n first e) = has_strange (env_names t.parts) e
+is_unknown body t (Let n e) = has_unbound (env_names t.parts) e
+is_unknown body t (Next n e) = not (is_among (flat_map state_name t.parts) n) || has_unbound (env_names t.parts) e
+is_unknown body t (Out n first e) = has_unbound (env_names t.parts) e
 
 abbrev pub is_self_link : RawTask → Part → Bool
 is_self_link t (Read n delay writer port at) = bytes_eq t.name writer

@@ -15,7 +15,7 @@ use Rattle.dia_check.specs.declared.fail.CheckFail.{CheckFail}
 use Rattle.dia_check.specs.declared.fail.CheckFail.TheVariants as check_fail
 use Rattle.dia_check.specs.declared.reads.ReadLinks.{ReadLinks}
 use Rattle.dia_check.specs.declared.scope.Scope.{Scope}
-use Rattle.dia_check.specs.declared.tasks.Given.{Given}
+use Rattle.dia_check.specs.declared.tasks.Sources.{Sources}
 use Rattle.dia_check.specs.declared.tasks.OrderedLets.{OrderedLets}
 use Rattle.dia_check.specs.declared.tasks.Work.{Work}
 use Rattle.dia_check.specs.Diagrams.{firsts, links_used, lets_of, state_of, sense_of, next_of, out_of}
@@ -62,7 +62,7 @@ pub record IsWorkOf (t : RawTask) (w : Work) : Type 0 where
   pub outs : w.outs ≡ flat_map (out_of (env_names t.parts)) t.parts
 
 -- what a task keeps and senses
-pub record IsGivenTo (body : Body) (parts : List Part) (g : Given) : Type 0 where
+pub record HasItsSources (body : Body) (parts : List Part) (g : Sources) : Type 0 where
   pub states : g.states ≡ flat_map state_of parts
   pub senses : g.senses ≡ flat_map (sense_of (flat_map input_name body.decls)) parts
 

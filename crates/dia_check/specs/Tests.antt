@@ -35,15 +35,15 @@ is_next n (Next m e) = bytes_eq m n
 is_next n _ = false
 
 -- a state, a sense, a read or a let of the name
-abbrev pub is_place : List ℕ → Part → Bool
-is_place n (State m first) = bytes_eq m n
-is_place n (Sense m input) = bytes_eq m n
-is_place n (Read m delay writer port at) = bytes_eq m n
-is_place n (Let m e) = bytes_eq m n
-is_place n _ = false
+abbrev pub binds : List ℕ → Part → Bool
+binds n (State m first) = bytes_eq m n
+binds n (Sense m input) = bytes_eq m n
+binds n (Read m delay writer port at) = bytes_eq m n
+binds n (Let m e) = bytes_eq m n
+binds n _ = false
 
 -- the line declares the name in its task's space
 abbrev pub is_declared : List ℕ → Part → Bool
 is_declared n (Next m e) = false
 is_declared n (Out m first e) = bytes_eq m n
-is_declared n p = is_place n p
+is_declared n p = binds n p

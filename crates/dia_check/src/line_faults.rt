@@ -3,10 +3,10 @@
 ghost use Rattle.std.specs.Prelude.{◌≡◌, ◌<◌, ◌↔◌, IsTrue, length, map, take, slice_index};
 ghost use Rattle.std.specs.List.{flat_map, find, list_any};
 ghost use Rattle.std.specs.Option.{option_copied};
-ghost use Rattle.dia_check.specs.Faults.{is_repeated, is_strange, has_strange, is_unknown, is_self_link, is_past_cost, is_unknown_clock, is_unknown_when, decl_fault, task_fault, part_fault};
+ghost use Rattle.dia_check.specs.Faults.{is_repeated, is_unbound, has_unbound, is_unknown, is_self_link, is_past_cost, is_unknown_clock, is_unknown_when, decl_fault, task_fault, part_fault};
 ghost use Rattle.dia_check.specs.Names.{input_name, event_name, decl_name, task_names, state_name, out_name, env_names, port_names, next_name, declared_name};
 ghost use Rattle.dbp_plan.specs.NameLists.{is_among};
-ghost use Rattle.dia_check.specs.Tests.{is_input, is_event, is_decl, is_task, is_state, is_out, is_next, is_place, is_declared};
+ghost use Rattle.dia_check.specs.Tests.{is_input, is_event, is_decl, is_task, is_state, is_out, is_next, binds, is_declared};
 
 use crate::fail::LineFault;
 use crate::ports::{port_index, task_index};
@@ -15,8 +15,8 @@ use dia_lines::{Decl, Part, RawClock};
 use dia_read::{Body, RawTask};
 
 /// Whether the part is a state, a sense, a read or a let of the name.
-fn is_place(name: &Name, part: &Part) -> bool
-    ensures { result ≡ is_place name.now part.now }
+fn binds(name: &Name, part: &Part) -> bool
+    ensures { result ≡ binds name.now part.now }
 {
     match part {
         Part::State(other, _) | Part::Sense(other, _) | Part::Let(other, _) => { other == name }
@@ -29,7 +29,7 @@ fn is_place(name: &Name, part: &Part) -> bool
 fn is_declared(name: &Name, part: &Part) -> bool
     ensures { result ≡ is_declared name.now part.now }
 {
-    is_place(name, part) || matches!(part, Part::Out(other, _, _) if other == name)
+    binds(name, part) || matches!(part, Part::Out(other, _, _) if other == name)
 }
 
 /// Whether an input has the name.
@@ -59,10 +59,10 @@ fn has_next(parts: &[Part], name: &Name) -> bool
     parts.iter().any(|part| matches!(part, Part::Next(other, _) if other == name))
 }
 
-fn has_place(parts: &[Part], name: &Name) -> bool
-    ensures { result ≡ list_any (is_place name.now) parts.now }
+fn is_bound(parts: &[Part], name: &Name) -> bool
+    ensures { result ≡ list_any (binds name.now) parts.now }
 {
-    parts.iter().any(|part| is_place(name, part))
+    parts.iter().any(|part| binds(name, part))
 }
 
 fn has_declared(parts: &[Part], name: &Name) -> bool
@@ -88,22 +88,22 @@ fn is_repeated(before: &[Part], part: &Part) -> bool
 
 /// Whether the node is a name of nothing in the task's environment.
 #[tactic(auto, using(crate::proofs::NameTests::among_env))]
-fn is_strange(parts: &[Part], node: &Node<Name>) -> bool
-    ensures { result ≡ is_strange (env_names parts.now) node.now }
+fn is_unbound(parts: &[Part], node: &Node<Name>) -> bool
+    ensures { result ≡ is_unbound (env_names parts.now) node.now }
 {
     match node {
-        Node::Var(name) => !has_place(parts, name),
+        Node::Var(name) => !is_bound(parts, name),
         _ => false,
     }
 }
 
-fn has_strange(parts: &[Part], expr: &Expr<Name>) -> bool
-    ensures { result ≡ has_strange (env_names parts.now) expr.now }
+fn has_unbound(parts: &[Part], expr: &Expr<Name>) -> bool
+    ensures { result ≡ has_unbound (env_names parts.now) expr.now }
 {
     expr.nodes
         .items()
         .iter()
-        .any(|node| is_strange(parts, node))
+        .any(|node| is_unbound(parts, node))
 }
 
 /// Whether the part uses a name that nothing has.
@@ -115,9 +115,9 @@ fn is_unknown(body: &Body, task: &RawTask, part: &Part) -> bool
         Part::State(_, _) => false,
         Part::Sense(_, input) => !has_input(body.decls.items(), input),
         Part::Read { task, port, .. } => port_index(&body.tasks, task, port).is_none(),
-        Part::Let(_, expr) | Part::Out(_, _, expr) => has_strange(task.parts.items(), expr),
+        Part::Let(_, expr) | Part::Out(_, _, expr) => has_unbound(task.parts.items(), expr),
         Part::Next(state, expr) => {
-            !has_state(task.parts.items(), state) || has_strange(task.parts.items(), expr)
+            !has_state(task.parts.items(), state) || has_unbound(task.parts.items(), expr)
         }
     }
 }

@@ -8,7 +8,7 @@ ghost use Rattle.dia_check.specs.Diagrams.{IsTaskOf, clock_of, when_of, lets_of,
 ghost use Rattle.std.specs.List.{flat_map};
 ghost use Rattle.dia_check.specs.Faults.{IsWhole, base_of, lacks_outs, let_lines};
 ghost use Rattle.dia_check.specs.Names.{env_names};
-ghost use Rattle.dia_check.specs.Scopes.{IsScopeOf, HasFaultlessParts, HasNoCycle, AreOrderedLets, IsWorkOf, IsGivenTo, IsTaskRefusal, let_refusal};
+ghost use Rattle.dia_check.specs.Scopes.{IsScopeOf, HasFaultlessParts, HasNoCycle, AreOrderedLets, IsWorkOf, HasItsSources, IsTaskRefusal, let_refusal};
 ghost use Rattle.expr_eval.specs.LetOrders.{IsFailOf};
 
 use crate::fail::{CheckCode, CheckFail};
@@ -103,17 +103,22 @@ fn work_of(alloc: Global, body: &Body, raw: &RawTask) -> Result<Work, LetFail>
 
 /// What a task keeps and senses.
 #[derive(Drop)]
-struct Given {
+struct Sources {
     states: List<State>,
     senses: List<Sense>,
 }
 
-fn given_to(alloc: Global, body: &Body, scope: &Scope, parts: &[Part]) -> Result<Given, NoMemory>
+fn sources_of(
+    alloc: Global,
+    body: &Body,
+    scope: &Scope,
+    parts: &[Part],
+) -> Result<Sources, NoMemory>
     requires scope { IsScopeOf body.now scope.now }
     requires few { length parts.now ≤ MAX_BODY }
-    ensures { IfOk result (λ given. IsGivenTo body.now parts.now given) }
+    ensures { IfOk result (λ sources. HasItsSources body.now parts.now sources) }
 {
-    Ok(Given {
+    Ok(Sources {
         states: states_of(alloc, parts)?,
         senses: senses_of(alloc, scope.inputs.items(), parts)?,
     })
@@ -136,7 +141,7 @@ fn task_of(
     ensures fail { IfErr result (λ fail. IsFailOf (base_of raw.now) (lets_of raw.now) fail) }
 {
     let work = work_of(alloc, body, raw)?;
-    let given = given_to(alloc, body, scope, raw.parts.items())?;
+    let sources = sources_of(alloc, body, scope, raw.parts.items())?;
     Ok(Task {
         name: raw.name,
         clock: clock_of(scope, &raw.clock),
@@ -145,8 +150,8 @@ fn task_of(
         deadline: raw.deadline,
         cost: raw.cost,
         cpu: raw.cpu,
-        states: given.states,
-        senses: given.senses,
+        states: sources.states,
+        senses: sources.senses,
         reads,
         lets: work.lets,
         order: work.order,

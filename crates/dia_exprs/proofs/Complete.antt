@@ -10,7 +10,7 @@ use Rattle.dbp_plan.specs.Operators.{notation_of}
 use Rattle.dbp_plan.specs.Tree.{unary, binary, choice}
 use Rattle.dia_tokens.specs.declared.token.Token.{Token}
 use Rattle.dia_tokens.specs.declared.token.Token.TheVariants as token
-use Rattle.dia_tokens.specs.declared.token.Word.TheVariants as word
+use Rattle.dia_tokens.specs.declared.token.Keyword.TheVariants as keyword
 use Rattle.dia_tokens.specs.declared.token.Symbol.TheVariants as symbol
 use Rattle.dia_exprs.specs.declared.level.Level.{Level}
 use Rattle.dia_exprs.specs.declared.level.Level.TheVariants.{Whole, Disjunction, Conjunction, Comparison, Sum, Product, Prefixed, Factor}
@@ -64,9 +64,9 @@ Follows-tighter Factor (t ∷ ts) f = f
 -- whether an expression of the level may begin with the token, as far as `if` and operators go
 abbrev pub starts : Level → Token → Bool
 starts Whole t = true
-starts _ (token.Word word.If) = false
+starts _ (token.Keyword keyword.If) = false
 starts Factor (token.Symbol symbol.Minus) = false
-starts Factor (token.Word word.Not) = false
+starts Factor (token.Keyword keyword.Not) = false
 starts _ t = true
 
 starts-looser : (l : Level) (t : Token) → starts (tighter l) t ≡ true → starts l t ≡ true
@@ -76,15 +76,15 @@ starts-looser Conjunction t e = e
 starts-looser Comparison t e = e
 starts-looser Sum t e = e
 starts-looser Product t e = e
-starts-looser Prefixed (token.Word word.If) e = e
-starts-looser Prefixed (token.Word word.Not) e = refl
+starts-looser Prefixed (token.Keyword keyword.If) e = e
+starts-looser Prefixed (token.Keyword keyword.Not) e = refl
 starts-looser Prefixed (token.Symbol symbol.Minus) e = refl
 starts-looser Prefixed _ e = refl
 starts-looser Factor t e = e
 
 starts-prefix : (t : Token) (o : UnOp) → prefix t ≡ Some o → starts Prefixed t ≡ true
 starts-prefix (token.Symbol symbol.Minus) o e = refl
-starts-prefix (token.Word word.Not) o e = refl
+starts-prefix (token.Keyword keyword.Not) o e = refl
 starts-prefix _ o e = absurd cc
 
 starts-call : (t : Token) (o : BinOp) → called t ≡ Some o → starts Factor t ≡ true
@@ -102,7 +102,7 @@ first l ts x (as_tighter l' ts' x' s) = let f = first (tighter l') ts' x' s in (
 first l ts x (prefixed t o us y e s) = (t, us, refl, starts-prefix t o e)
 first l ts x (joined l' a t b o y z s e u) = let f = first l' a y s in (f.0, f.1 ++ t ∷ b, ap (λ (vs : List Token). vs ++ t ∷ b) f.2, f.3)
 first l ts x (compared a t b o y z s e u) = let f = first Sum a y s in (f.0, f.1 ++ t ∷ b, ap (λ (vs : List Token). vs ++ t ∷ b) f.2, f.3)
-first l ts x (a_choice a b c u v w s d e) = (token.Word word.If, a ++ token.Word word.Then ∷ (b ++ token.Word word.Else ∷ c), refl, refl)
+first l ts x (a_choice a b c u v w s d e) = (token.Keyword keyword.If, a ++ token.Keyword keyword.Then ∷ (b ++ token.Keyword keyword.Else ∷ c), refl, refl)
 
 -- ---- reading by level
 
@@ -182,7 +182,7 @@ not_compared operand x (t ∷ ts) f = compare-none operand x t ts (no_comparison
 
 no_prefix : (t : Token) → starts Factor t ≡ true → prefix t ≡ None
 no_prefix (token.Symbol symbol.Minus) e = absurd cc
-no_prefix (token.Word word.Not) e = absurd cc
+no_prefix (token.Keyword keyword.Not) e = absurd cc
 no_prefix _ e = refl
 
 pub not_prefixed : (operand : Reader) (t : Token) (ts : List Token) → prefix t ≡ None → prefixed_at operand (t ∷ ts) ≡ operand (t ∷ ts)
@@ -191,7 +191,7 @@ not_prefixed operand t ts e = rw (e, prefixed_at) refl
 
 pub not_if : (n : ℕ) (t : Token) (ts : List Token) → starts Disjunction t ≡ true → whole_at (suc n) (t ∷ ts) ≡ disjunction_in (whole_at n) (t ∷ ts)
 unfolding whole_at
-not_if n (token.Word word.If) ts e = absurd cc
+not_if n (token.Keyword keyword.If) ts e = absurd cc
 not_if n _ ts e = refl
 
 -- a level begins with the next tighter one
@@ -249,7 +249,7 @@ closed n ts rest x e = rw (e, inside_at) refl
 
 pub calling : (whole : Reader) (t : Token) (o : BinOp) (ts : List Token) → called t ≡ Some o → factor_of whole (t ∷ ts) ≡ call_at o whole ts
 unfolding factor_of operator_of
-calling whole (token.Word w) o ts e = rw (e, factor_of) refl
+calling whole (token.Keyword w) o ts e = rw (e, factor_of) refl
 calling whole (token.Symbol symbol.Open) o ts e = absurd cc
 calling whole _ o ts e = absurd cc
 
@@ -258,8 +258,8 @@ call-read : (whole : Reader) (o : BinOp) (ts us rest : List Token) (x y : Expres
 unfolding call_at
 call-read whole o ts us rest x y e f = rw (e, call_at) (rw (f, call_at) refl)
 
-chosen : (n : ℕ) (ts us vs rest : List Token) (x y z : Expression) → whole_at n ts ≡ Some (x, token.Word word.Then ∷ us) → whole_at n us ≡ Some (y, token.Word word.Else ∷ vs) → whole_at n vs ≡ Some (z, rest)
-    → whole_at (suc n) (token.Word word.If ∷ ts) ≡ Some (choice x y z, rest)
+chosen : (n : ℕ) (ts us vs rest : List Token) (x y z : Expression) → whole_at n ts ≡ Some (x, token.Keyword keyword.Then ∷ us) → whole_at n us ≡ Some (y, token.Keyword keyword.Else ∷ vs) → whole_at n vs ≡ Some (z, rest)
+    → whole_at (suc n) (token.Keyword keyword.If ∷ ts) ≡ Some (choice x y z, rest)
 unfolding whole_at choice_at
 chosen n ts us vs rest x y z e f g = rw (e, choice_at) (rw (f, choice_at) (rw (g, choice_at) refl))
 
@@ -323,14 +323,14 @@ complete l ts x (compared a t b o y z s e u) n rest f h =
     ap (reader n Comparison) whole ∙ comparison-read (reader n Sum) t o (a ++ (t ∷ (b ++ rest))) (b ++ rest) rest y z e left right
 complete l ts x (a_choice a b c u v w s d e) zero rest f h = absurd (omega arith)
 complete l ts x (a_choice a b c u v w s d e) (suc n) rest f h =
-    let inner = append_assoc b (token.Word word.Else ∷ c) rest in
-    let whole : (a ++ token.Word word.Then ∷ (b ++ token.Word word.Else ∷ c)) ++ rest ≡ a ++ (token.Word word.Then ∷ (b ++ (token.Word word.Else ∷ (c ++ rest)))) =
-    append_assoc a (token.Word word.Then ∷ (b ++ token.Word word.Else ∷ c)) rest ∙ ap (λ (us : List Token). a ++ token.Word word.Then ∷ us) inner in
-    let len : length (a ++ (token.Word word.Then ∷ (b ++ (token.Word word.Else ∷ (c ++ rest))))) ≤ n = let e = ap length whole in omega arith in
-    let len_b : length (b ++ (token.Word word.Else ∷ (c ++ rest))) ≤ n = omega (arith, length-append a (token.Word word.Then ∷ (b ++ (token.Word word.Else ∷ (c ++ rest))))) in
-    let len_c : length (c ++ rest) ≤ n = omega (arith, length-append b (token.Word word.Else ∷ (c ++ rest))) in
-    let one : reader n Whole (a ++ (token.Word word.Then ∷ (b ++ (token.Word word.Else ∷ (c ++ rest))))) ≡ Some (u, token.Word word.Then ∷ (b ++ (token.Word word.Else ∷ (c ++ rest)))) =
-    complete Whole a u s n (token.Word word.Then ∷ (b ++ (token.Word word.Else ∷ (c ++ rest)))) (lit≤ tt) len in
-    let two : reader n Whole (b ++ (token.Word word.Else ∷ (c ++ rest))) ≡ Some (v, token.Word word.Else ∷ (c ++ rest)) = complete Whole b v d n (token.Word word.Else ∷ (c ++ rest)) (lit≤ tt) len_b in
+    let inner = append_assoc b (token.Keyword keyword.Else ∷ c) rest in
+    let whole : (a ++ token.Keyword keyword.Then ∷ (b ++ token.Keyword keyword.Else ∷ c)) ++ rest ≡ a ++ (token.Keyword keyword.Then ∷ (b ++ (token.Keyword keyword.Else ∷ (c ++ rest)))) =
+    append_assoc a (token.Keyword keyword.Then ∷ (b ++ token.Keyword keyword.Else ∷ c)) rest ∙ ap (λ (us : List Token). a ++ token.Keyword keyword.Then ∷ us) inner in
+    let len : length (a ++ (token.Keyword keyword.Then ∷ (b ++ (token.Keyword keyword.Else ∷ (c ++ rest))))) ≤ n = let e = ap length whole in omega arith in
+    let len_b : length (b ++ (token.Keyword keyword.Else ∷ (c ++ rest))) ≤ n = omega (arith, length-append a (token.Keyword keyword.Then ∷ (b ++ (token.Keyword keyword.Else ∷ (c ++ rest))))) in
+    let len_c : length (c ++ rest) ≤ n = omega (arith, length-append b (token.Keyword keyword.Else ∷ (c ++ rest))) in
+    let one : reader n Whole (a ++ (token.Keyword keyword.Then ∷ (b ++ (token.Keyword keyword.Else ∷ (c ++ rest))))) ≡ Some (u, token.Keyword keyword.Then ∷ (b ++ (token.Keyword keyword.Else ∷ (c ++ rest)))) =
+    complete Whole a u s n (token.Keyword keyword.Then ∷ (b ++ (token.Keyword keyword.Else ∷ (c ++ rest)))) (lit≤ tt) len in
+    let two : reader n Whole (b ++ (token.Keyword keyword.Else ∷ (c ++ rest))) ≡ Some (v, token.Keyword keyword.Else ∷ (c ++ rest)) = complete Whole b v d n (token.Keyword keyword.Else ∷ (c ++ rest)) (lit≤ tt) len_b in
     let three : reader n Whole (c ++ rest) ≡ Some (w, rest) = complete Whole c w e n rest f len_c in
-    chosen (suc n) ((a ++ token.Word word.Then ∷ (b ++ token.Word word.Else ∷ c)) ++ rest) (b ++ (token.Word word.Else ∷ (c ++ rest))) (c ++ rest) rest u v w (ap (whole_at (suc n)) whole ∙ one) two three
+    chosen (suc n) ((a ++ token.Keyword keyword.Then ∷ (b ++ token.Keyword keyword.Else ∷ c)) ++ rest) (b ++ (token.Keyword keyword.Else ∷ (c ++ rest))) (c ++ rest) rest u v w (ap (whole_at (suc n)) whole ∙ one) two three

@@ -22,15 +22,15 @@ after-leaf : (t : Token) (ts : List Token) → is_lone (t ∷ ts) ≡ true → N
 after-leaf t [] e = refl
 after-leaf (token.Number value) (u ∷ ts) e = no-operator (operator Product u) ts e
 after-leaf (token.Name name) (u ∷ ts) e = no-operator (operator Product u) ts e
-after-leaf (token.Word w) (u ∷ ts) e = absurd cc
+after-leaf (token.Keyword w) (u ∷ ts) e = absurd cc
 after-leaf (token.Symbol s) (u ∷ ts) e = absurd cc
 
 unprefixed : (ts : List Token) → is_lone ts ≡ true → None ≡ prefix_at ts
 unprefixed [] e = refl
 unprefixed (token.Number value ∷ ts) e = refl
 unprefixed (token.Name name ∷ ts) e = refl
-unprefixed (token.Word w ∷ []) e = absurd cc
-unprefixed (token.Word w ∷ u ∷ ts) e = absurd cc
+unprefixed (token.Keyword w ∷ []) e = absurd cc
+unprefixed (token.Keyword w ∷ u ∷ ts) e = absurd cc
 unprefixed (token.Symbol s ∷ []) e = absurd cc
 unprefixed (token.Symbol s ∷ u ∷ ts) e = absurd cc
 
@@ -51,8 +51,8 @@ ends nodes out (token.Name name ∷ us) rest e r =
     let n = length (token.Name name ∷ us) in
     let same : rest ≡ us = same-rest r.0 (variable name) rest us (sym (r.2 n (omega arith)) ∙ factor-name name us n (omega arith)) in
     after-leaf (token.Name name) us e ∙ ap (operator_at Product) (sym same)
-ends nodes out (token.Word w ∷ []) rest e r = absurd cc
-ends nodes out (token.Word w ∷ u ∷ us) rest e r = absurd cc
+ends nodes out (token.Keyword w ∷ []) rest e r = absurd cc
+ends nodes out (token.Keyword w ∷ u ∷ us) rest e r = absurd cc
 ends nodes out (token.Symbol s ∷ []) rest e r = absurd cc
 ends nodes out (token.Symbol s ∷ u ∷ us) rest e r = absurd cc
 

@@ -8,11 +8,11 @@ use Rattle.dbp_plan.specs.Operators.{all_operators, notation_of}
 use Rattle.dbp_plan.specs.declared.node.Notation.{Notation}
 use Rattle.dia_tokens.specs.declared.token.Token.{Token}
 use Rattle.dia_tokens.specs.declared.token.Token.TheVariants as token
-use Rattle.dia_tokens.specs.declared.token.Word.{Word}
-use Rattle.dia_tokens.specs.declared.token.Word.TheVariants as word
+use Rattle.dia_tokens.specs.declared.token.Keyword.{Keyword}
+use Rattle.dia_tokens.specs.declared.token.Keyword.TheVariants as keyword
 use Rattle.dia_tokens.specs.declared.token.Symbol.TheVariants as symbol
-use Rattle.dia_tokens.specs.Words.{begins_call}
-use Rattle.dia_tokens.proofs.WordLaws.{found-passes}
+use Rattle.dia_tokens.specs.Keywords.{begins_call}
+use Rattle.dia_tokens.proofs.KeywordLaws.{found-passes}
 use Rattle.dia_exprs.specs.Grammar.{operator_token, operator_of, is_same_mark, if_written, called}
 
 -- each operator is found by its token, so it is listed
@@ -29,7 +29,7 @@ each p e o = rw (listed o) at (found-passes p (λ u. is_same_mark (operator_toke
 -- a token is read as no other operator than the one that is written with it
 pub token-is : (t : Token) (o : BinOp) → operator_of t ≡ Some o → operator_token o ≡ t
 unfolding operator_of
-token-is (token.Word word.And) o e = cc
+token-is (token.Keyword keyword.And) o e = cc
 token-is (token.Symbol symbol.Plus) o e = cc
 token-is _ o e = cc
 
@@ -50,8 +50,8 @@ written-is so (Some u) o e = either (so (notation_of u)) refl
 pub is-written : (so : Notation → Bool) (o : BinOp) → so (notation_of o) ≡ true → if_written so (operator_of (operator_token o)) ≡ Some o
 is-written so o e = rw (listed o, e) refl
 
--- the words that begin a call are the operators that are written as calls
-pub calls-listed : (w : Word) → begins_call w ≡ is_some (called (token.Word w))
+-- the keywords that begin a call are the operators that are written as calls
+pub calls-listed : (w : Keyword) → begins_call w ≡ is_some (called (token.Keyword w))
 unfolding operator_of
-calls-listed word.Min = refl
+calls-listed keyword.Min = refl
 calls-listed _ = refl

@@ -6,7 +6,7 @@ use Rattle.dbp_plan.specs.declared.node.Node.{Node}
 use Rattle.dbp_plan.specs.Tree.{Tree, number, variable, unary, binary, choice, size_of, root_of, nodes_of}
 use Rattle.dia_tokens.specs.declared.token.Token.{Token}
 use Rattle.dia_tokens.specs.declared.token.Token.TheVariants as token
-use Rattle.dia_tokens.specs.declared.token.Word.TheVariants as word
+use Rattle.dia_tokens.specs.declared.token.Keyword.TheVariants as keyword
 use Rattle.dia_tokens.specs.declared.token.Symbol.TheVariants as symbol
 use Rattle.dia_tokens.specs.Printable.{IsPrintableToken}
 use Rattle.dia_exprs.specs.declared.level.Level.{Level}
@@ -34,8 +34,8 @@ printable-tree l ts x (prefixed t o us y e s) f = printable-tree Prefixed us y s
 printable-tree l ts x (joined l' a t b o y z s e u) f = let both = token-parts a (t ∷ b) f in (printable-tree l' a y s both.0, printable-tree (tighter l') b z u both.1.1)
 printable-tree l ts x (compared a t b o y z s e u) f = let both = token-parts a (t ∷ b) f in (printable-tree Sum a y s both.0, printable-tree Sum b z u both.1.1)
 printable-tree l ts x (a_choice a b c u v w s d e) f =
-    let first = token-parts a (token.Word word.Then ∷ (b ++ token.Word word.Else ∷ c)) f.1 in
-    let others = token-parts b (token.Word word.Else ∷ c) first.1.1 in
+    let first = token-parts a (token.Keyword keyword.Then ∷ (b ++ token.Keyword keyword.Else ∷ c)) f.1 in
+    let others = token-parts b (token.Keyword keyword.Else ∷ c) first.1.1 in
     (printable-tree Whole a u s first.0, printable-tree Whole b v d others.0, printable-tree Whole c w e others.1.1)
 
 -- ---- the nodes of a tree

@@ -8,7 +8,7 @@ use Rattle.dbp_plan.specs.declared.node.UnOp.{UnOp}
 use Rattle.dbp_plan.specs.Tree.{size_of}
 use Rattle.dia_tokens.specs.declared.token.Token.{Token}
 use Rattle.dia_tokens.specs.declared.token.Token.TheVariants as token
-use Rattle.dia_tokens.specs.declared.token.Word.TheVariants as word
+use Rattle.dia_tokens.specs.declared.token.Keyword.TheVariants as keyword
 use Rattle.dia_tokens.specs.declared.token.Symbol.TheVariants as symbol
 use Rattle.dia_exprs.specs.declared.level.Level.{Level}
 use Rattle.dia_exprs.specs.declared.level.Level.TheVariants.{Whole, Sum, Prefixed}
@@ -28,7 +28,7 @@ operator-node = each-token has_node refl
 
 prefix-node : (t : Token) (o : UnOp) → prefix t ≡ Some o → has_node t ≡ true
 prefix-node (token.Symbol symbol.Minus) o e = refl
-prefix-node (token.Word word.Not) o e = refl
+prefix-node (token.Keyword keyword.Not) o e = refl
 prefix-node _ o e = absurd cc
 
 -- each node comes from one token
@@ -48,8 +48,8 @@ one-node-a-token l ts x (joined l' a t b o y z s e u) =
 one-node-a-token l ts x (compared a t b o y z s e u) =
     omega (arith, count-append a (t ∷ b), counts-one t b (operator-node t o (written-is is_comparison (operator_of t) o e).0), one-node-a-token Sum a y s, one-node-a-token Sum b z u)
 one-node-a-token l ts x (a_choice a b c u v w s d e) =
-    let after = token.Word word.Else ∷ c in
-    let one : node_count (a ++ token.Word word.Then ∷ (b ++ after)) ≡ node_count a + node_count (b ++ after) = count-append a (token.Word word.Then ∷ (b ++ after)) in
+    let after = token.Keyword keyword.Else ∷ c in
+    let one : node_count (a ++ token.Keyword keyword.Then ∷ (b ++ after)) ≡ node_count a + node_count (b ++ after) = count-append a (token.Keyword keyword.Then ∷ (b ++ after)) in
     let two : node_count (b ++ after) ≡ node_count b + node_count c = count-append b after in
-    let whole : node_count (token.Word word.If ∷ (a ++ token.Word word.Then ∷ (b ++ after))) ≡ node_count (a ++ token.Word word.Then ∷ (b ++ after)) + 1 = counts-one (token.Word word.If) (a ++ token.Word word.Then ∷ (b ++ after)) refl in
+    let whole : node_count (token.Keyword keyword.If ∷ (a ++ token.Keyword keyword.Then ∷ (b ++ after))) ≡ node_count (a ++ token.Keyword keyword.Then ∷ (b ++ after)) + 1 = counts-one (token.Keyword keyword.If) (a ++ token.Keyword keyword.Then ∷ (b ++ after)) refl in
     omega (arith, one, two, whole, one-node-a-token Whole a u s, one-node-a-token Whole b v d, one-node-a-token Whole c w e)

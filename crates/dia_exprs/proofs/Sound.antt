@@ -4,7 +4,7 @@ use Rattle.dbp_plan.specs.declared.node.BinOp.{BinOp}
 use Rattle.dbp_plan.specs.Tree.{unary, binary, choice}
 use Rattle.dia_tokens.specs.declared.token.Token.{Token}
 use Rattle.dia_tokens.specs.declared.token.Token.TheVariants as token
-use Rattle.dia_tokens.specs.declared.token.Word.TheVariants as word
+use Rattle.dia_tokens.specs.declared.token.Keyword.TheVariants as keyword
 use Rattle.dia_tokens.specs.declared.token.Symbol.TheVariants as symbol
 use Rattle.dia_exprs.specs.declared.level.Level.{Level}
 use Rattle.dia_exprs.specs.declared.level.Level.TheVariants.{Whole, Disjunction, Conjunction, Comparison, Sum, Product, Prefixed, Factor}
@@ -21,12 +21,12 @@ given p = Some p
 pub some_is : (p q : Place) → given p ≡ given q → p ≡ q
 some_is p q e = cc
 
-then_is : (ts us : List Token) → then_at ts ≡ Some us → ts ≡ token.Word word.Then ∷ us
-then_is (token.Word word.Then ∷ ts) us e = ap (λ (vs : List Token). token.Word word.Then ∷ vs) cc
+then_is : (ts us : List Token) → then_at ts ≡ Some us → ts ≡ token.Keyword keyword.Then ∷ us
+then_is (token.Keyword keyword.Then ∷ ts) us e = ap (λ (vs : List Token). token.Keyword keyword.Then ∷ vs) cc
 then_is _ us e = absurd cc
 
-else_is : (ts us : List Token) → else_at ts ≡ Some us → ts ≡ token.Word word.Else ∷ us
-else_is (token.Word word.Else ∷ ts) us e = ap (λ (vs : List Token). token.Word word.Else ∷ vs) cc
+else_is : (ts us : List Token) → else_at ts ≡ Some us → ts ≡ token.Keyword keyword.Else ∷ us
+else_is (token.Keyword keyword.Else ∷ ts) us e = ap (λ (vs : List Token). token.Keyword keyword.Else ∷ vs) cc
 else_is _ us e = absurd cc
 
 open_is : (ts us : List Token) → open_at ts ≡ Some us → ts ≡ token.Symbol symbol.Open ∷ us
@@ -168,22 +168,22 @@ unfolding factor_of
 Sound-factor r s (token.Number value ∷ ts) p e = subst (Reads Factor (token.Number value ∷ ts)) (some_is _ _ e) (record { front = token.Number value ∷ []; parts = refl; spells = a_number value })
 Sound-factor r s (token.Name name ∷ ts) p e = subst (Reads Factor (token.Name name ∷ ts)) (some_is _ _ e) (record { front = token.Name name ∷ []; parts = refl; spells = a_name name })
 Sound-factor r s (token.Symbol symbol.Open ∷ ts) p e = Sound-inside r s ts p e
-Sound-factor r s (token.Word w ∷ ts) p e =
-    elim (cases (called (token.Word w))) [
+Sound-factor r s (token.Keyword w ∷ ts) p e =
+    elim (cases (called (token.Keyword w))) [
       | inl none ↦
-          let stop : factor_of r (token.Word w ∷ ts) ≡ None = rw (none, factor_of) refl in
+          let stop : factor_of r (token.Keyword w ∷ ts) ≡ None = rw (none, factor_of) refl in
           let wrong : None ≡ given p = sym stop ∙ e in
           absurd cc
       | inr o ↦
-          let go : factor_of r (token.Word w ∷ ts) ≡ call_at o.0 r ts = rw (o.1, factor_of) refl in
-          Sound-call r s (token.Word w) o.0 o.1 ts p (sym go ∙ e)
+          let go : factor_of r (token.Keyword w ∷ ts) ≡ call_at o.0 r ts = rw (o.1, factor_of) refl in
+          Sound-call r s (token.Keyword w) o.0 o.1 ts p (sym go ∙ e)
     ]
 Sound-factor r s _ p e = absurd cc
 
 Sound-disjunction : (r : Reader) → Sound Whole r → Sound Disjunction (disjunction_in r)
 Sound-disjunction r s = Sound-level Disjunction _ (Sound-level Conjunction _ (Sound-compared _ (Sound-level Sum _ (Sound-level Product _ (Sound-prefixed _ (Sound-factor r s))))))
 
-Sound-choice : (r : Reader) → Sound Whole r → (ts : List Token) (p : Place) → choice_at r ts ≡ Some p → Reads Whole (token.Word word.If ∷ ts) p
+Sound-choice : (r : Reader) → Sound Whole r → (ts : List Token) (p : Place) → choice_at r ts ≡ Some p → Reads Whole (token.Keyword keyword.If ∷ ts) p
 unfolding choice_at
 Sound-choice r s ts p e =
     let c = bind_some (r ts) (λ c. then_at c.1 >>= λ a. r a >>= λ x. else_at x.1 >>= λ b. r b >>= λ y. given (choice c.0 x.0 y.0, y.1)) p e in
@@ -194,21 +194,21 @@ Sound-choice r s ts p e =
     let f : Reads Whole ts c.0 = s ts c.0 c.1 in
     let g : Reads Whole a.0 x.0 = s a.0 x.0 x.1 in
     let h : Reads Whole b.0 y.0 = s b.0 y.0 y.1 in
-    let one : c.0.1 ≡ token.Word word.Then ∷ (g.front ++ (token.Word word.Else ∷ (h.front ++ y.0.1))) =
-    then_is c.0.1 a.0 a.1 ∙ ap (λ (us : List Token). token.Word word.Then ∷ us) (g.parts ∙ ap (λ (us : List Token). g.front ++ us) (else_is x.0.1 b.0 b.1 ∙ ap (λ (us : List Token). token.Word word.Else ∷ us) h.parts)) in
-    let whole : ts ≡ (f.front ++ token.Word word.Then ∷ (g.front ++ token.Word word.Else ∷ h.front)) ++ y.0.1 =
-    f.parts ∙ ap (λ (us : List Token). f.front ++ us) one ∙ ap (λ (us : List Token). f.front ++ token.Word word.Then ∷ us) (sym (append_assoc g.front (token.Word word.Else ∷ h.front) y.0.1))
-    ∙ sym (append_assoc f.front (token.Word word.Then ∷ (g.front ++ token.Word word.Else ∷ h.front)) y.0.1) in
-    let made : Reads Whole (token.Word word.If ∷ ts) (choice c.0.0 x.0.0 y.0.0, y.0.1) =
+    let one : c.0.1 ≡ token.Keyword keyword.Then ∷ (g.front ++ (token.Keyword keyword.Else ∷ (h.front ++ y.0.1))) =
+    then_is c.0.1 a.0 a.1 ∙ ap (λ (us : List Token). token.Keyword keyword.Then ∷ us) (g.parts ∙ ap (λ (us : List Token). g.front ++ us) (else_is x.0.1 b.0 b.1 ∙ ap (λ (us : List Token). token.Keyword keyword.Else ∷ us) h.parts)) in
+    let whole : ts ≡ (f.front ++ token.Keyword keyword.Then ∷ (g.front ++ token.Keyword keyword.Else ∷ h.front)) ++ y.0.1 =
+    f.parts ∙ ap (λ (us : List Token). f.front ++ us) one ∙ ap (λ (us : List Token). f.front ++ token.Keyword keyword.Then ∷ us) (sym (append_assoc g.front (token.Keyword keyword.Else ∷ h.front) y.0.1))
+    ∙ sym (append_assoc f.front (token.Keyword keyword.Then ∷ (g.front ++ token.Keyword keyword.Else ∷ h.front)) y.0.1) in
+    let made : Reads Whole (token.Keyword keyword.If ∷ ts) (choice c.0.0 x.0.0 y.0.0, y.0.1) =
     record {
-      front = token.Word word.If ∷ (f.front ++ token.Word word.Then ∷ (g.front ++ token.Word word.Else ∷ h.front));
-      parts = ap (λ (us : List Token). token.Word word.If ∷ us) whole;
+      front = token.Keyword keyword.If ∷ (f.front ++ token.Keyword keyword.Then ∷ (g.front ++ token.Keyword keyword.Else ∷ h.front));
+      parts = ap (λ (us : List Token). token.Keyword keyword.If ∷ us) whole;
       spells = a_choice f.front g.front h.front c.0.0 x.0.0 y.0.0 f.spells g.spells h.spells;
     } in
-    subst (Reads Whole (token.Word word.If ∷ ts)) (some_is _ _ y.2) made
+    subst (Reads Whole (token.Keyword keyword.If ∷ ts)) (some_is _ _ y.2) made
 
 pub Sound-whole : (n : ℕ) → Sound Whole (whole_at n)
 unfolding whole_at
 Sound-whole zero ts p e = absurd cc
-Sound-whole (suc n) (token.Word word.If ∷ ts) p e = Sound-choice (whole_at n) (Sound-whole n) ts p e
+Sound-whole (suc n) (token.Keyword keyword.If ∷ ts) p e = Sound-choice (whole_at n) (Sound-whole n) ts p e
 Sound-whole (suc n) ts p e = looser Whole ts p (Sound-disjunction (whole_at n) (Sound-whole n) ts p e)

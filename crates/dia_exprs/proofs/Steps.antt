@@ -6,9 +6,9 @@ use Rattle.dbp_plan.specs.declared.node.UnOp.{UnOp}
 use Rattle.dbp_plan.specs.Tree.{number, variable, unary, binary, choice}
 use Rattle.dia_tokens.specs.declared.token.Token.{Token}
 use Rattle.dia_tokens.specs.declared.token.Token.TheVariants as token
-use Rattle.dia_tokens.specs.declared.token.Word.{Word}
+use Rattle.dia_tokens.specs.declared.token.Keyword.{Keyword}
 use Rattle.dia_tokens.specs.declared.token.Symbol.{Symbol}
-use Rattle.dia_tokens.specs.declared.token.Word.TheVariants as word
+use Rattle.dia_tokens.specs.declared.token.Keyword.TheVariants as keyword
 use Rattle.dia_tokens.specs.declared.token.Symbol.TheVariants as symbol
 use Rattle.dia_exprs.specs.declared.level.Level.{Level}
 use Rattle.dia_exprs.specs.declared.level.Level.TheVariants.{Whole, Disjunction, Conjunction, Comparison, Sum, Product, Prefixed, Factor}
@@ -291,7 +291,7 @@ prefix-read ts after rest x o at le read n h = prefixing n ts after o at ∙ rw 
 
 not_a_choice : (n : ℕ) (ts : List Token) → None ≡ if_at ts → reader n Whole ts ≡ reader n Disjunction ts
 unfolding whole_at
-not_a_choice n (token.Word word.If ∷ ts) e = absurd cc
+not_a_choice n (token.Keyword keyword.If ∷ ts) e = absurd cc
 not_a_choice n _ e = refl
 
 pub unchosen-refused : (ts : List Token) (e : ExpressionFail) → None ≡ if_at ts → HasNone (of_level Disjunction) ts e → HasNone (of_level Whole) ts e
@@ -303,8 +303,8 @@ unchosen-read nodes out ts rest at r = (r.0, r.1, λ n h. not_a_choice n ts at �
 -- a token less needs one less of fuel
 choosing : (ts after : List Token) (p : Option Place) → Some after ≡ if_at ts → Says of_choice after p → Says (of_level Whole) ts p
 unfolding whole_at
-choosing (token.Word word.If ∷ ts) after p e f zero h = absurd (omega arith)
-choosing (token.Word word.If ∷ ts) after p e f (suc n) h =
+choosing (token.Keyword keyword.If ∷ ts) after p e f zero h = absurd (omega arith)
+choosing (token.Keyword keyword.If ∷ ts) after p e f (suc n) h =
     let same : after ≡ ts = cc in
     let read : Says of_choice ts p = subst (λ (us : List Token). Says of_choice us p) same f in
     read n (omega arith)
@@ -421,9 +421,9 @@ unfolding factor_of
 factor-symbol symbol.Open ts f n h = absurd cc
 factor-symbol _ ts f n h = refl
 
-factor-word : (w : Word) (ts : List Token) → called (token.Word w) ≡ None → Says (of_level Factor) (token.Word w ∷ ts) None
+factor-keyword : (w : Keyword) (ts : List Token) → called (token.Keyword w) ≡ None → Says (of_level Factor) (token.Keyword w ∷ ts) None
 unfolding factor_of
-factor-word w ts e n h = rw (e, factor_of) refl
+factor-keyword w ts e n h = rw (e, factor_of) refl
 
 -- the tokens begin with this one
 begun : (ts after : List Token) (t u : Token) → ts ≡ t ∷ after → t ≡ u → ts ≡ u ∷ after
@@ -452,8 +452,8 @@ symbol-refused ts after t s e f n =
     let same = begun ts after t (token.Symbol s) e f in
     subst (λ (us : List Token). Says (of_level Factor) us None) (sym same) (factor-symbol s after (n ∙ ap open_at same))
 
-pub word-refused : (ts after : List Token) (t : Token) (w : Word) → ts ≡ t ∷ after → t ≡ token.Word w → called t ≡ None → Says (of_level Factor) ts None
-word-refused ts after t w e f n = subst (λ (us : List Token). Says (of_level Factor) us None) (sym (begun ts after t (token.Word w) e f)) (factor-word w after (ap called (sym f) ∙ n))
+pub keyword-refused : (ts after : List Token) (t : Token) (w : Keyword) → ts ≡ t ∷ after → t ≡ token.Keyword w → called t ≡ None → Says (of_level Factor) ts None
+keyword-refused ts after t w e f n = subst (λ (us : List Token). Says (of_level Factor) us None) (sym (begun ts after t (token.Keyword w) e f)) (factor-keyword w after (ap called (sym f) ∙ n))
 
 -- ---- results that are passed on
 

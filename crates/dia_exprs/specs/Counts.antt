@@ -2,7 +2,7 @@
 use Rattle.std.specs.Prelude.{ℕ, ◌+◌, ◌-◌, Bool, true, false, List, [], ◌∷◌, length, filter, max}
 use Rattle.dia_tokens.specs.declared.token.Token.{Token}
 use Rattle.dia_tokens.specs.declared.token.Token.TheVariants as token
-use Rattle.dia_tokens.specs.declared.token.Word.TheVariants as word
+use Rattle.dia_tokens.specs.declared.token.Keyword.TheVariants as keyword
 use Rattle.dia_tokens.specs.declared.token.Symbol.TheVariants as symbol
 
 -- whether the token stands for a node of its own
@@ -10,8 +10,8 @@ abbrev pub has_node : Token → Bool
 has_node (token.Symbol symbol.Open) = false
 has_node (token.Symbol symbol.Close) = false
 has_node (token.Symbol symbol.Comma) = false
-has_node (token.Word word.Then) = false
-has_node (token.Word word.Else) = false
+has_node (token.Keyword keyword.Then) = false
+has_node (token.Keyword keyword.Else) = false
 has_node _ = true
 
 -- how many of the tokens stand for a node

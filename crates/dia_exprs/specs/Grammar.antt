@@ -12,10 +12,10 @@ use Rattle.dbp_plan.specs.Operators.{all_operators, notation_of}
 use Rattle.dbp_plan.specs.Tree.{Tree, number, variable, unary, binary, choice}
 use Rattle.dia_tokens.specs.declared.token.Token.{Token}
 use Rattle.dia_tokens.specs.declared.token.Token.TheVariants as token
-use Rattle.dia_tokens.specs.declared.token.Word.TheVariants as word
+use Rattle.dia_tokens.specs.declared.token.Keyword.TheVariants as keyword
 use Rattle.dia_tokens.specs.declared.token.Symbol.TheVariants as symbol
 use Rattle.dia_tokens.specs.Spelling.{symbol_text}
-use Rattle.dia_tokens.specs.Words.{word_text}
+use Rattle.dia_tokens.specs.Keywords.{keyword_text}
 use Rattle.dia_exprs.specs.declared.level.Level.{Level}
 use Rattle.dia_exprs.specs.declared.level.Level.TheVariants.{Whole, Disjunction, Conjunction, Comparison, Sum, Product, Prefixed, Factor}
 
@@ -47,14 +47,14 @@ operator_token op.Lt = token.Symbol symbol.Less
 operator_token op.Le = token.Symbol symbol.AtMost
 operator_token op.Gt = token.Symbol symbol.Greater
 operator_token op.Ge = token.Symbol symbol.AtLeast
-operator_token op.And = token.Word word.And
-operator_token op.Or = token.Word word.Or
-operator_token op.Min = token.Word word.Min
-operator_token op.Max = token.Word word.Max
+operator_token op.And = token.Keyword keyword.And
+operator_token op.Or = token.Keyword keyword.Or
+operator_token op.Min = token.Keyword keyword.Min
+operator_token op.Max = token.Keyword keyword.Max
 
--- whether two tokens are the same word or the same symbol
+-- whether two tokens are the same keyword or the same symbol
 abbrev pub is_same_mark : Token → Token → Bool
-is_same_mark (token.Word v) (token.Word w) = bytes_eq (word_text v) (word_text w)
+is_same_mark (token.Keyword v) (token.Keyword w) = bytes_eq (keyword_text v) (keyword_text w)
 is_same_mark (token.Symbol s) (token.Symbol u) = bytes_eq (symbol_text s) (symbol_text u)
 is_same_mark _ _ = false
 
@@ -94,7 +94,7 @@ comparison t = if_written is_comparison (operator_of t)
 -- the operator that a token is before an operand
 abbrev pub prefix : Token → Option UnOp
 prefix (token.Symbol symbol.Minus) = Some prefix_op.Neg
-prefix (token.Word word.Not) = Some prefix_op.Not
+prefix (token.Keyword keyword.Not) = Some prefix_op.Not
 prefix _ = None
 
 -- the operator that a token is before two arguments in parentheses
@@ -117,4 +117,4 @@ pub data Spells : Level → List Token → Expression → Type 0 where
   compared : (a : List Token) (t : Token) (b : List Token) (o : BinOp) (x y : Expression) → Spells Sum a x → comparison t ≡ Some o → Spells Sum b y
       → Spells Comparison (a ++ t ∷ b) (binary o x y)
   a_choice : (a b c : List Token) (x y z : Expression) → Spells Whole a x → Spells Whole b y → Spells Whole c z
-      → Spells Whole (token.Word word.If ∷ (a ++ token.Word word.Then ∷ (b ++ token.Word word.Else ∷ c))) (choice x y z)
+      → Spells Whole (token.Keyword keyword.If ∷ (a ++ token.Keyword keyword.Then ∷ (b ++ token.Keyword keyword.Else ∷ c))) (choice x y z)

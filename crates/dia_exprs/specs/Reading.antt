@@ -4,7 +4,7 @@ use Rattle.dbp_plan.specs.declared.node.BinOp.{BinOp}
 use Rattle.dbp_plan.specs.Tree.{number, variable, unary, binary, choice}
 use Rattle.dia_tokens.specs.declared.token.Token.{Token}
 use Rattle.dia_tokens.specs.declared.token.Token.TheVariants as token
-use Rattle.dia_tokens.specs.declared.token.Word.TheVariants as word
+use Rattle.dia_tokens.specs.declared.token.Keyword.TheVariants as keyword
 use Rattle.dia_tokens.specs.declared.token.Symbol.TheVariants as symbol
 use Rattle.dia_exprs.specs.declared.level.Level.{Level}
 use Rattle.dia_exprs.specs.declared.level.Level.TheVariants.{Whole, Disjunction, Conjunction, Comparison, Sum, Product, Prefixed, Factor}
@@ -23,15 +23,15 @@ Reader = List Token → Option Place
 
 -- the tokens after a mark
 abbrev pub if_at : List Token → Option (List Token)
-if_at (token.Word word.If ∷ ts) = Some ts
+if_at (token.Keyword keyword.If ∷ ts) = Some ts
 if_at _ = None
 
 abbrev pub then_at : List Token → Option (List Token)
-then_at (token.Word word.Then ∷ ts) = Some ts
+then_at (token.Keyword keyword.Then ∷ ts) = Some ts
 then_at _ = None
 
 abbrev pub else_at : List Token → Option (List Token)
-else_at (token.Word word.Else ∷ ts) = Some ts
+else_at (token.Keyword keyword.Else ∷ ts) = Some ts
 else_at _ = None
 
 abbrev pub open_at : List Token → Option (List Token)
@@ -97,8 +97,8 @@ unfoldable pub factor_of : Reader → Reader
 factor_of whole (token.Number value ∷ ts) = Some (number value, ts)
 factor_of whole (token.Name name ∷ ts) = Some (variable name, ts)
 factor_of whole (token.Symbol symbol.Open ∷ ts) = inside_at whole ts
-factor_of whole (token.Word w ∷ ts) =
-    elim (called (token.Word w)) [
+factor_of whole (token.Keyword w ∷ ts) =
+    elim (called (token.Keyword w)) [
       | None ↦ None
       | Some o ↦ call_at o whole ts
     ]
@@ -136,7 +136,7 @@ choice_at whole ts = do
 -- whole expressions of fewer tokens than so many
 unfoldable pub whole_at : ℕ → Reader
 whole_at zero ts = None
-whole_at (suc n) (token.Word word.If ∷ ts) = choice_at (whole_at n) ts
+whole_at (suc n) (token.Keyword keyword.If ∷ ts) = choice_at (whole_at n) ts
 whole_at (suc n) ts = disjunction_in (whole_at n) ts
 
 -- expressions of a level, of at most so many tokens

@@ -3,7 +3,7 @@
 ghost use Rattle.std.specs.Prelude.{◌≡◌, ◌+◌, ◌<◌, ◌^◌, ◌≤◌};
 ghost use Rattle.dia_exprs.specs.Counts.{has_node as is_node, node_count, opened as opened_by, depth_of};
 
-use dia_tokens::{Symbol, Token, Word};
+use dia_tokens::{Keyword, Symbol, Token};
 
 /// Parentheses that may be open at once, at most.
 pub const MAX_DEPTH: u32 = 64;
@@ -36,7 +36,7 @@ fn has_node(token: &Token) -> bool
     !matches!(
         token,
         Token::Symbol(Symbol::Open | Symbol::Close | Symbol::Comma)
-            | Token::Word(Word::Then | Word::Else)
+            | Token::Keyword(Keyword::Then | Keyword::Else)
     )
 }
 

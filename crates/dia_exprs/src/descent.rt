@@ -205,7 +205,7 @@ fn factor<'t>(
             Ok(rest)
         }
         Token::Symbol(_) => Err(ExpressionFail::NoExpression),
-        Token::Word(_) => match called(token) {
+        Token::Keyword(_) => match called(token) {
             Some(op) => call(op, out, rest),
             None => Err(ExpressionFail::NoExpression),
         },

@@ -3,9 +3,9 @@
 ghost use Rattle.std.specs.Prelude.{◌≡◌, List as Items, Some};
 ghost use Rattle.std.specs.Option.{is_some};
 ghost use Rattle.dbp_plan.specs.declared.node.BinOp.{BinOp as Operator};
-ghost use Rattle.dia_tokens.specs.declared.token.Token.TheVariants.{Word};
-ghost use Rattle.dia_tokens.specs.declared.token.Word.{Word as Reserved};
-ghost use Rattle.dia_tokens.specs.Words.{begins_call};
+ghost use Rattle.dia_tokens.specs.declared.token.Token.TheVariants.{Keyword};
+ghost use Rattle.dia_tokens.specs.declared.token.Keyword.{Keyword as Reserved};
+ghost use Rattle.dia_tokens.specs.Keywords.{begins_call};
 ghost use Rattle.dia_tokens.specs.declared.token.Token.{Token as AnyToken};
 ghost use Rattle.dbp_plan.specs.Tree.{size_of};
 ghost use Rattle.dia_exprs.specs.Counts.{node_count};
@@ -18,9 +18,9 @@ pub fn read_operator()
     ensures only { (t : AnyToken) (o : Operator) → operator_of t ≡ Some o → operator_token o ≡ t }
 {}
 
-/// The words that begin a call are the operators that are written as calls.
+/// The keywords that begin a call are the operators that are written as calls.
 pub fn calls_are_listed()
-    ensures { (w : Reserved) → begins_call w ≡ is_some (called (Word w)) }
+    ensures { (w : Reserved) → begins_call w ≡ is_some (called (Keyword w)) }
 {}
 
 /// Tokens spell one expression at most.

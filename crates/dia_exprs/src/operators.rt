@@ -9,7 +9,7 @@ ghost use Rattle.dia_exprs.specs.Parsing.{is_lone, operator_at, comparison_at, p
 
 use crate::Level;
 use dbp_plan::{BinOp, UnOp};
-use dia_tokens::{Symbol, Token, Word};
+use dia_tokens::{Keyword, Symbol, Token};
 
 pub(crate) fn next_level(level: Level) -> Level
     ensures { result ≡ tighter level }
@@ -30,8 +30,8 @@ fn operator_of(level: Level, token: &Token) -> Option<BinOp>
     ensures { result ≡ operator level token.now }
 {
     match (level, token) {
-        (Level::Disjunction, Token::Word(Word::Or)) => Some(BinOp::Or),
-        (Level::Conjunction, Token::Word(Word::And)) => Some(BinOp::And),
+        (Level::Disjunction, Token::Keyword(Keyword::Or)) => Some(BinOp::Or),
+        (Level::Conjunction, Token::Keyword(Keyword::And)) => Some(BinOp::And),
         (Level::Sum, Token::Symbol(Symbol::Plus)) => Some(BinOp::Add),
         (Level::Sum, Token::Symbol(Symbol::Minus)) => Some(BinOp::Sub),
         (Level::Product, Token::Symbol(Symbol::Star)) => Some(BinOp::Mul),
@@ -61,7 +61,7 @@ fn prefix(token: &Token) -> Option<UnOp>
 {
     match token {
         Token::Symbol(Symbol::Minus) => Some(UnOp::Neg),
-        Token::Word(Word::Not) => Some(UnOp::Not),
+        Token::Keyword(Keyword::Not) => Some(UnOp::Not),
         _ => None,
     }
 }
@@ -72,8 +72,8 @@ pub(crate) fn called(token: &Token) -> Option<BinOp>
     ensures { result ≡ is_called token.now }
 {
     match token {
-        Token::Word(Word::Min) => Some(BinOp::Min),
-        Token::Word(Word::Max) => Some(BinOp::Max),
+        Token::Keyword(Keyword::Min) => Some(BinOp::Min),
+        Token::Keyword(Keyword::Max) => Some(BinOp::Max),
         _ => None,
     }
 }
@@ -94,10 +94,10 @@ pub fn operator_token(op: BinOp) -> Token
         BinOp::Le => Token::Symbol(Symbol::AtMost),
         BinOp::Gt => Token::Symbol(Symbol::Greater),
         BinOp::Ge => Token::Symbol(Symbol::AtLeast),
-        BinOp::And => Token::Word(Word::And),
-        BinOp::Or => Token::Word(Word::Or),
-        BinOp::Min => Token::Word(Word::Min),
-        BinOp::Max => Token::Word(Word::Max),
+        BinOp::And => Token::Keyword(Keyword::And),
+        BinOp::Or => Token::Keyword(Keyword::Or),
+        BinOp::Min => Token::Keyword(Keyword::Min),
+        BinOp::Max => Token::Keyword(Keyword::Max),
     }
 }
 
@@ -168,7 +168,7 @@ pub(crate) fn split_then(tokens: &[Token]) -> Option<&[Token]>
     ensures counts { IfSome result (λ rest. node_count rest.now ≡ node_count tokens.now) }
 {
     match tokens {
-        [Token::Word(Word::Then), rest @ ..] => Some(rest),
+        [Token::Keyword(Keyword::Then), rest @ ..] => Some(rest),
         _ => None,
     }
 }
@@ -180,7 +180,7 @@ pub(crate) fn split_else(tokens: &[Token]) -> Option<&[Token]>
     ensures counts { IfSome result (λ rest. node_count rest.now ≡ node_count tokens.now) }
 {
     match tokens {
-        [Token::Word(Word::Else), rest @ ..] => Some(rest),
+        [Token::Keyword(Keyword::Else), rest @ ..] => Some(rest),
         _ => None,
     }
 }
@@ -228,7 +228,7 @@ pub(crate) fn split_if(tokens: &[Token]) -> Option<&[Token]>
     ensures counts { IfSome result (λ rest. node_count rest.now + 1 ≡ node_count tokens.now) }
 {
     match tokens {
-        [Token::Word(Word::If), rest @ ..] => Some(rest),
+        [Token::Keyword(Keyword::If), rest @ ..] => Some(rest),
         _ => None,
     }
 }

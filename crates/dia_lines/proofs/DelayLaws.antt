@@ -6,8 +6,8 @@ use Rattle.std.proofs.lemmas.Bool.Decides.{nat_tests}
 use Rattle.dbp_plan.specs.declared.limits.TheConstants.{MAX_DELAY}
 use Rattle.dbp_plan.specs.Limits.{max_delay, max_delay-is}
 use Rattle.dia_tokens.specs.declared.token.Token.{Token}
-use Rattle.dia_tokens.specs.declared.token.Token.TheVariants.{Number, Word}
-use Rattle.dia_tokens.specs.declared.token.Word.TheVariants.{Pre}
+use Rattle.dia_tokens.specs.declared.token.Token.TheVariants.{Number, Keyword}
+use Rattle.dia_tokens.specs.declared.token.Keyword.TheVariants.{Pre}
 use Rattle.dia_lines.specs.Delays.{SpellsDelay, direct, delayed, delayed_by, delay_of, delay_tokens}
 use Rattle.dia_lines.specs.Limits.{delay_fits}
 use Rattle.dia_lines.proofs.RangeLaws.{fits, within}
@@ -17,7 +17,7 @@ abbrev pub given_delay : ℕ → Option ℤ
 given_delay zero = None
 given_delay (suc d) = Some (pos (suc d))
 
-pub longer-tokens : (d : ℕ) → delay_tokens (suc (suc d)) ≡ Word Pre ∷ Number (pos (suc (suc d))) ∷ []
+pub longer-tokens : (d : ℕ) → delay_tokens (suc (suc d)) ≡ Keyword Pre ∷ Number (pos (suc (suc d))) ∷ []
 longer-tokens d =
     let some : (suc (suc d) == 0) ≡ false = grind (arith, nat_tests) in
     let more : (suc (suc d) == 1) ≡ false = grind (arith, nat_tests) in
@@ -45,7 +45,7 @@ short-delay d None e h = let none : 0 ≡ d = cc in omega (arith, none)
 short-delay d (Some value) e h = (within d 1 max_delay value e h).1
 
 -- what holds of `pre` and of the number holds of each token
-pub each-delay-token : (P : Token → Type 0) (d : ℕ) → P (Word Pre) → P (Number (pos d)) → AllByRecursion P (delay_tokens d)
+pub each-delay-token : (P : Token → Type 0) (d : ℕ) → P (Keyword Pre) → P (Number (pos d)) → AllByRecursion P (delay_tokens d)
 each-delay-token P zero p n = tt
 each-delay-token P (suc zero) p n = (p, tt)
 each-delay-token P (suc (suc d)) p n = rw (longer-tokens d) (p, (n, tt))

@@ -7,10 +7,10 @@ use Rattle.std.proofs.lemmas.Option.{same_Some}
 use Rattle.dbp_plan.specs.declared.diagram.Policy.TheVariants.{Fp}
 use Rattle.dbp_plan.specs.Tree.{Tree, number}
 use Rattle.dia_tokens.specs.declared.token.Token.{Token}
-use Rattle.dia_tokens.specs.declared.token.Token.TheVariants.{Name, Number, Symbol, Word}
+use Rattle.dia_tokens.specs.declared.token.Token.TheVariants.{Name, Number, Symbol, Keyword}
 use Rattle.dia_tokens.specs.declared.token.Symbol.TheVariants.{Assign, Point}
-use Rattle.dia_tokens.specs.declared.token.Word as words
-use Rattle.dia_tokens.specs.declared.token.Word.TheVariants as word
+use Rattle.dia_tokens.specs.declared.token.Keyword as keywords
+use Rattle.dia_tokens.specs.declared.token.Keyword.TheVariants as keyword
 use Rattle.dia_exprs.proofs.AllTokens.{one-spelled}
 use Rattle.dia_exprs.specs.Counts.{node_count, depth_of}
 use Rattle.dia_lines.specs.declared.place.Place.{Place}
@@ -19,9 +19,9 @@ use Rattle.dia_lines.specs.Statements.{Statement, TaskHeader, Clock, IsStatement
 use Rattle.dia_lines.specs.Statements as st
 use Rattle.dia_lines.specs.Delays.{SpellsDelay, direct, delayed, delayed_by, delay_at}
 use Rattle.dia_lines.specs.Places.{leads, is_of_version}
-use Rattle.dia_lines.specs.PolicyWords.{policy_of, word_of}
+use Rattle.dia_lines.specs.PolicyKeywords.{policy_of, keyword_of}
 use Rattle.dia_lines.specs.Lines.{expression_of}
-use Rattle.dia_lines.specs.Forms.{Shape, plain, of_let, of_next, of_out, Completes, tokens_of, example_of, offset_at, clock_at, when_at, prio_at, deadline_at, cost_end, tick_alone, word_alone, ending_at, header_at, policy_at, until_at, input_at, event_at, options_at, task_at, state_at, sense_at, port_read_at, read_at, let_at, next_at, out_at, declared_at, line_at, shape_at}
+use Rattle.dia_lines.specs.Forms.{Shape, plain, of_let, of_next, of_out, Completes, tokens_of, example_of, offset_at, clock_at, when_at, prio_at, deadline_at, cost_end, tick_alone, keyword_alone, ending_at, header_at, policy_at, until_at, input_at, event_at, options_at, task_at, state_at, sense_at, port_read_at, read_at, let_at, next_at, out_at, declared_at, line_at, shape_at}
 
 -- the statement is of the form that was found
 abbrev pub Inverts : Statement → Option Shape → Type 0
@@ -32,27 +32,27 @@ Inverts s (Some f) = Completes s f
 
 -- Which of the optional parts the tokens begin with. They stand in the order of these numbers.
 abbrev part_of : List Token → ℕ
-part_of (Word word.From ∷ ts) = 0
-part_of (Word word.When ∷ ts) = 1
-part_of (Word word.Prio ∷ ts) = 2
-part_of (Word word.Deadline ∷ ts) = 3
+part_of (Keyword keyword.From ∷ ts) = 0
+part_of (Keyword keyword.When ∷ ts) = 1
+part_of (Keyword keyword.Prio ∷ ts) = 2
+part_of (Keyword keyword.Deadline ∷ ts) = 3
 part_of _ = 4
 
 -- before the tokens of a later part a part is left out
 no-offset : (ts : List Token) → 1 ≤ part_of ts → offset_at ts ≡ (pos 0, ts)
-no-offset (Word word.From ∷ Number offset ∷ ts) later = absurd (omega arith)
+no-offset (Keyword keyword.From ∷ Number offset ∷ ts) later = absurd (omega arith)
 no-offset ts later = refl
 
 no-when : (ts : List Token) → 2 ≤ part_of ts → when_at ts ≡ (None, ts)
-no-when (Word word.When ∷ Name name ∷ ts) later = absurd (omega arith)
+no-when (Keyword keyword.When ∷ Name name ∷ ts) later = absurd (omega arith)
 no-when ts later = refl
 
 no-prio : (ts : List Token) → 3 ≤ part_of ts → prio_at ts ≡ (None, ts)
-no-prio (Word word.Prio ∷ Number value ∷ ts) later = absurd (omega arith)
+no-prio (Keyword keyword.Prio ∷ Number value ∷ ts) later = absurd (omega arith)
 no-prio ts later = refl
 
 no-deadline : (ts : List Token) → 4 ≤ part_of ts → deadline_at ts ≡ (None, ts)
-no-deadline (Word word.Deadline ∷ Number value ∷ ts) later = absurd (omega arith)
+no-deadline (Keyword keyword.Deadline ∷ Number value ∷ ts) later = absurd (omega arith)
 no-deadline ts later = refl
 
 -- each part is found at the front of tokens of later parts, and stands before them
@@ -65,27 +65,27 @@ when-found : (ws ts : List Token) (when : Option (List ℕ)) → SpellsWhen ws w
 when-found ws ts when st.always later = (no-when ts later, omega arith)
 when-found ws ts when (st.guarded name) later = (refl, omega arith)
 
-prio-found : (ps ts : List Token) (prio : Option ℤ) → SpellsOption word.Prio ps prio → 3 ≤ part_of ts → (prio_at (ps ++ ts) ≡ (prio, ts)) × (2 ≤ part_of (ps ++ ts))
+prio-found : (ps ts : List Token) (prio : Option ℤ) → SpellsOption keyword.Prio ps prio → 3 ≤ part_of ts → (prio_at (ps ++ ts) ≡ (prio, ts)) × (2 ≤ part_of (ps ++ ts))
 prio-found ps ts prio st.left_out later = (no-prio ts later, omega arith)
 prio-found ps ts prio (st.given value) later = (refl, omega arith)
 
-deadline-found : (ds ts : List Token) (deadline : Option ℤ) → SpellsOption word.Deadline ds deadline → 4 ≤ part_of ts
+deadline-found : (ds ts : List Token) (deadline : Option ℤ) → SpellsOption keyword.Deadline ds deadline → 4 ≤ part_of ts
     → (deadline_at (ds ++ ts) ≡ (deadline, ts)) × (3 ≤ part_of (ds ++ ts))
 deadline-found ds ts deadline st.left_out later = (no-deadline ts later, omega arith)
 deadline-found ds ts deadline (st.given value) later = (refl, omega arith)
 
-cost-found : (cost : ℤ) (us : List Token) (cpu : Option ℤ) → SpellsOption word.Cpu us cpu → cost_end (Word word.Cost ∷ Number cost ∷ us) ≡ Some (cost, cpu)
+cost-found : (cost : ℤ) (us : List Token) (cpu : Option ℤ) → SpellsOption keyword.Cpu us cpu → cost_end (Keyword keyword.Cost ∷ Number cost ∷ us) ≡ Some (cost, cpu)
 cost-found cost us cpu st.left_out = refl
 cost-found cost us cpu (st.given value) = refl
 
 pub in_five : (a b c d e : List Token) → a ++ (b ++ (c ++ (d ++ e))) ≡ a ++ b ++ c ++ d ++ e
 in_five a b c d e = simp append_assoc
 
-task-found : (h : TaskHeader) (cs ws ps ds us : List Token) → SpellsClock cs h.clock → SpellsWhen ws h.when → SpellsOption word.Prio ps h.prio → SpellsOption word.Deadline ds h.deadline
-    → SpellsOption word.Cpu us h.cpu → task_at (Name h.name ∷ (cs ++ ws ++ ps ++ ds ++ Word word.Cost ∷ Number h.cost ∷ us)) ≡ Some (plain (st.task h))
+task-found : (h : TaskHeader) (cs ws ps ds us : List Token) → SpellsClock cs h.clock → SpellsWhen ws h.when → SpellsOption keyword.Prio ps h.prio → SpellsOption keyword.Deadline ds h.deadline
+    → SpellsOption keyword.Cpu us h.cpu → task_at (Name h.name ∷ (cs ++ ws ++ ps ++ ds ++ Keyword keyword.Cost ∷ Number h.cost ∷ us)) ≡ Some (plain (st.task h))
 unfolding task_at options_at
 task-found h cs ws ps ds us c w p d u =
-    let last = Word word.Cost ∷ Number h.cost ∷ us in
+    let last = Keyword keyword.Cost ∷ Number h.cost ∷ us in
     let deadline = deadline-found ds last h.deadline d (omega arith) in
     let prio = prio-found ps (ds ++ last) h.prio p deadline.1 in
     let when = when-found ws (ps ++ (ds ++ last)) h.when w prio.1 in
@@ -129,113 +129,113 @@ Inverts-shape ts s st.an_end = refl
 abbrev pub Builds : List Token → Option Shape → Type 0
 Builds ts None = Unit {0}
 Builds ts (Some (plain u)) = IsStatement ts u
-Builds ts (Some (of_let name us)) = ts ≡ Word word.Let ∷ Name name ∷ Symbol Assign ∷ us
-Builds ts (Some (of_next name us)) = ts ≡ Word word.Next ∷ Name name ∷ Symbol Assign ∷ us
-Builds ts (Some (of_out name first us)) = ts ≡ Word word.Out ∷ Name name ∷ Symbol Assign ∷ Number first ∷ Word word.Then ∷ us
+Builds ts (Some (of_let name us)) = ts ≡ Keyword keyword.Let ∷ Name name ∷ Symbol Assign ∷ us
+Builds ts (Some (of_next name us)) = ts ≡ Keyword keyword.Next ∷ Name name ∷ Symbol Assign ∷ us
+Builds ts (Some (of_out name first us)) = ts ≡ Keyword keyword.Out ∷ Name name ∷ Symbol Assign ∷ Number first ∷ Keyword keyword.Then ∷ us
 
-Builds-header : (ts : List Token) → Builds (Word word.Dbp ∷ ts) (header_at ts)
+Builds-header : (ts : List Token) → Builds (Keyword keyword.Dbp ∷ ts) (header_at ts)
 unfolding header_at
 Builds-header (Number value ∷ []) = by_value (int_eq value (pos 1)) (int_eq value (pos 2)) refl refl
   where
     by_value : (one two : Bool) → int_eq value (pos 1) ≡ one → int_eq value (pos 2) ≡ two
-        → Builds (Word word.Dbp ∷ Number value ∷ []) (option_map (λ version. plain (st.header version)) (cond one (Some 1) (cond two (Some 2) None)))
-    by_value true two e f = subst (λ (v : ℤ). IsStatement (Word word.Dbp ∷ Number v ∷ []) (st.header 1)) (sym ((Decides-int_eq value (pos 1)).0 e)) st.in_version_1
-    by_value false true e f = subst (λ (v : ℤ). IsStatement (Word word.Dbp ∷ Number v ∷ []) (st.header 2)) (sym ((Decides-int_eq value (pos 2)).0 f)) st.in_version_2
+        → Builds (Keyword keyword.Dbp ∷ Number value ∷ []) (option_map (λ version. plain (st.header version)) (cond one (Some 1) (cond two (Some 2) None)))
+    by_value true two e f = subst (λ (v : ℤ). IsStatement (Keyword keyword.Dbp ∷ Number v ∷ []) (st.header 1)) (sym ((Decides-int_eq value (pos 1)).0 e)) st.in_version_1
+    by_value false true e f = subst (λ (v : ℤ). IsStatement (Keyword keyword.Dbp ∷ Number v ∷ []) (st.header 2)) (sym ((Decides-int_eq value (pos 2)).0 f)) st.in_version_2
     by_value false false e f = tt
 Builds-header _ = tt
 
-policy-word : (w : _) (p : _) → policy_of w ≡ Some p → word_of p ≡ w
-policy-word word.Fp p is = cc
-policy-word _ p is = cc
+policy-keyword : (w : _) (p : _) → policy_of w ≡ Some p → keyword_of p ≡ w
+policy-keyword keyword.Fp p is = cc
+policy-keyword _ p is = cc
 
-Builds-policy : (ts : List Token) → Builds (Word word.Policy ∷ ts) (policy_at ts)
-Builds-policy (Word w ∷ []) = by_word (policy_of w) refl
+Builds-policy : (ts : List Token) → Builds (Keyword keyword.Policy ∷ ts) (policy_at ts)
+Builds-policy (Keyword w ∷ []) = by_keyword (policy_of w) refl
   where
-    by_word : (found : _) → policy_of w ≡ found → Builds (Word word.Policy ∷ Word w ∷ []) (option_map (λ p. plain (st.policy p)) found)
-    by_word None none = tt
-    by_word (Some p) is = subst (λ v. IsStatement (Word word.Policy ∷ Word v ∷ []) (st.policy p)) (policy-word w p is) (st.a_policy p)
+    by_keyword : (found : _) → policy_of w ≡ found → Builds (Keyword keyword.Policy ∷ Keyword w ∷ []) (option_map (λ p. plain (st.policy p)) found)
+    by_keyword None none = tt
+    by_keyword (Some p) is = subst (λ v. IsStatement (Keyword keyword.Policy ∷ Keyword v ∷ []) (st.policy p)) (policy-keyword w p is) (st.a_policy p)
 Builds-policy _ = tt
 
-Builds-until : (ts : List Token) → Builds (Word word.Until ∷ ts) (until_at ts)
+Builds-until : (ts : List Token) → Builds (Keyword keyword.Until ∷ ts) (until_at ts)
 unfolding until_at
 Builds-until (Number end ∷ []) = st.an_until end
 Builds-until _ = tt
 
-Builds-input : (ts : List Token) → Builds (Word word.Input ∷ ts) (input_at ts)
+Builds-input : (ts : List Token) → Builds (Keyword keyword.Input ∷ ts) (input_at ts)
 unfolding input_at
 Builds-input (Name name ∷ Symbol Assign ∷ Number first ∷ []) = st.an_input name first
 Builds-input _ = tt
 
-Builds-event : (ts : List Token) → Builds (Word word.Event ∷ ts) (event_at ts)
+Builds-event : (ts : List Token) → Builds (Keyword keyword.Event ∷ ts) (event_at ts)
 unfolding event_at
 Builds-event (Name name ∷ []) = st.an_event name
 Builds-event _ = tt
 
-Builds-state : (ts : List Token) → Builds (Word word.State ∷ ts) (state_at ts)
+Builds-state : (ts : List Token) → Builds (Keyword keyword.State ∷ ts) (state_at ts)
 unfolding state_at
 Builds-state (Name name ∷ Symbol Assign ∷ Number first ∷ []) = st.a_state name first
 Builds-state _ = tt
 
-Builds-sense : (ts : List Token) → Builds (Word word.Sense ∷ ts) (sense_at ts)
+Builds-sense : (ts : List Token) → Builds (Keyword keyword.Sense ∷ ts) (sense_at ts)
 unfolding sense_at
 Builds-sense (Name name ∷ Symbol Assign ∷ Name from ∷ []) = st.a_sense name from
 Builds-sense _ = tt
 
-Builds-let : (ts : List Token) → Builds (Word word.Let ∷ ts) (let_at ts)
+Builds-let : (ts : List Token) → Builds (Keyword keyword.Let ∷ ts) (let_at ts)
 unfolding let_at
 Builds-let (Name name ∷ Symbol Assign ∷ us) = refl
 Builds-let _ = tt
 
-Builds-next : (ts : List Token) → Builds (Word word.Next ∷ ts) (next_at ts)
+Builds-next : (ts : List Token) → Builds (Keyword keyword.Next ∷ ts) (next_at ts)
 unfolding next_at
 Builds-next (Name name ∷ Symbol Assign ∷ us) = refl
 Builds-next _ = tt
 
-Builds-out : (ts : List Token) → Builds (Word word.Out ∷ ts) (out_at ts)
+Builds-out : (ts : List Token) → Builds (Keyword keyword.Out ∷ ts) (out_at ts)
 unfolding out_at
-Builds-out (Name name ∷ Symbol Assign ∷ Number first ∷ Word word.Then ∷ us) = refl
+Builds-out (Name name ∷ Symbol Assign ∷ Number first ∷ Keyword keyword.Then ∷ us) = refl
 Builds-out _ = tt
 
-Builds-alone : (w : words.Word) → Builds (Word w ∷ []) (word_alone w)
-Builds-alone word.Trace = st.a_trace
-Builds-alone word.Script = st.a_script
-Builds-alone word.Done = st.an_end
+Builds-alone : (w : keywords.Keyword) → Builds (Keyword w ∷ []) (keyword_alone w)
+Builds-alone keyword.Trace = st.a_trace
+Builds-alone keyword.Script = st.a_script
+Builds-alone keyword.Done = st.an_end
 Builds-alone _ = tt
 
-Builds-ending : (w : words.Word) (ts : List Token) → Builds (Word w ∷ ts) (ending_at w ts)
+Builds-ending : (w : keywords.Keyword) (ts : List Token) → Builds (Keyword w ∷ ts) (ending_at w ts)
 Builds-ending w [] = Builds-alone w
 Builds-ending w (t ∷ ts) = tt
 
 -- ---- the line of a task
 
 offset-split : (period : ℤ) (ts : List Token)
-    → (cs : List Token) × (Word word.Every ∷ Number period ∷ ts ≡ cs ++ (offset_at ts).1) × SpellsClock cs (st.every period (offset_at ts).0)
-offset-split period (Word word.From ∷ Number offset ∷ ts) = (Word word.Every ∷ Number period ∷ Word word.From ∷ Number offset ∷ [], refl, st.from_offset period offset)
-offset-split period ts = (Word word.Every ∷ Number period ∷ [], refl, st.from_zero period)
+    → (cs : List Token) × (Keyword keyword.Every ∷ Number period ∷ ts ≡ cs ++ (offset_at ts).1) × SpellsClock cs (st.every period (offset_at ts).0)
+offset-split period (Keyword keyword.From ∷ Number offset ∷ ts) = (Keyword keyword.Every ∷ Number period ∷ Keyword keyword.From ∷ Number offset ∷ [], refl, st.from_offset period offset)
+offset-split period ts = (Keyword keyword.Every ∷ Number period ∷ [], refl, st.from_zero period)
 
 when-split : (ts : List Token) → (ws : List Token) × (ts ≡ ws ++ (when_at ts).1) × SpellsWhen ws (when_at ts).0
-when-split (Word word.When ∷ Name name ∷ ts) = (Word word.When ∷ Name name ∷ [], refl, st.guarded name)
+when-split (Keyword keyword.When ∷ Name name ∷ ts) = (Keyword keyword.When ∷ Name name ∷ [], refl, st.guarded name)
 when-split ts = ([], refl, st.always)
 
-prio-split : (ts : List Token) → (ps : List Token) × (ts ≡ ps ++ (prio_at ts).1) × SpellsOption word.Prio ps (prio_at ts).0
-prio-split (Word word.Prio ∷ Number value ∷ ts) = (Word word.Prio ∷ Number value ∷ [], refl, st.given value)
+prio-split : (ts : List Token) → (ps : List Token) × (ts ≡ ps ++ (prio_at ts).1) × SpellsOption keyword.Prio ps (prio_at ts).0
+prio-split (Keyword keyword.Prio ∷ Number value ∷ ts) = (Keyword keyword.Prio ∷ Number value ∷ [], refl, st.given value)
 prio-split ts = ([], refl, st.left_out)
 
-deadline-split : (ts : List Token) → (ds : List Token) × (ts ≡ ds ++ (deadline_at ts).1) × SpellsOption word.Deadline ds (deadline_at ts).0
-deadline-split (Word word.Deadline ∷ Number value ∷ ts) = (Word word.Deadline ∷ Number value ∷ [], refl, st.given value)
+deadline-split : (ts : List Token) → (ds : List Token) × (ts ≡ ds ++ (deadline_at ts).1) × SpellsOption keyword.Deadline ds (deadline_at ts).0
+deadline-split (Keyword keyword.Deadline ∷ Number value ∷ ts) = (Keyword keyword.Deadline ∷ Number value ∷ [], refl, st.given value)
 deadline-split ts = ([], refl, st.left_out)
 
-end-split : (ts : List Token) (end : ℤ × Option ℤ) → cost_end ts ≡ Some end → (us : List Token) × (ts ≡ Word word.Cost ∷ Number end.0 ∷ us) × SpellsOption word.Cpu us end.1
-end-split (Word word.Cost ∷ Number cost ∷ []) end e =
+end-split : (ts : List Token) (end : ℤ × Option ℤ) → cost_end ts ≡ Some end → (us : List Token) × (ts ≡ Keyword keyword.Cost ∷ Number end.0 ∷ us) × SpellsOption keyword.Cpu us end.1
+end-split (Keyword keyword.Cost ∷ Number cost ∷ []) end e =
     let same : (cost, None) ≡ end = same_Some _ end e in
-    subst (λ (o : ℤ × Option ℤ). (us : List Token) × (Word word.Cost ∷ Number cost ∷ [] ≡ Word word.Cost ∷ Number o.0 ∷ us) × SpellsOption word.Cpu us o.1) same ([], refl, st.left_out)
-end-split (Word word.Cost ∷ Number cost ∷ Word word.Cpu ∷ Number cpu ∷ []) end e =
+    subst (λ (o : ℤ × Option ℤ). (us : List Token) × (Keyword keyword.Cost ∷ Number cost ∷ [] ≡ Keyword keyword.Cost ∷ Number o.0 ∷ us) × SpellsOption keyword.Cpu us o.1) same ([], refl, st.left_out)
+end-split (Keyword keyword.Cost ∷ Number cost ∷ Keyword keyword.Cpu ∷ Number cpu ∷ []) end e =
     let same : (cost, Some cpu) ≡ end = same_Some _ end e in
-    subst (λ (o : ℤ × Option ℤ). (us : List Token) × (Word word.Cost ∷ Number cost ∷ Word word.Cpu ∷ Number cpu ∷ [] ≡ Word word.Cost ∷ Number o.0 ∷ us) × SpellsOption word.Cpu us o.1) same
-    (Word word.Cpu ∷ Number cpu ∷ [], refl, st.given cpu)
+    subst (λ (o : ℤ × Option ℤ). (us : List Token) × (Keyword keyword.Cost ∷ Number cost ∷ Keyword keyword.Cpu ∷ Number cpu ∷ [] ≡ Keyword keyword.Cost ∷ Number o.0 ∷ us) × SpellsOption keyword.Cpu us o.1) same
+    (Keyword keyword.Cpu ∷ Number cpu ∷ [], refl, st.given cpu)
 end-split _ end e = absurd cc
 
-Builds-options : (name : List ℕ) (cs : List Token) (clock : Clock) → SpellsClock cs clock → (ts : List Token) → Builds (Word word.Task ∷ Name name ∷ (cs ++ ts)) (options_at name clock ts)
+Builds-options : (name : List ℕ) (cs : List Token) (clock : Clock) → SpellsClock cs clock → (ts : List Token) → Builds (Keyword keyword.Task ∷ Name name ∷ (cs ++ ts)) (options_at name clock ts)
 unfolding options_at
 Builds-options name cs clock c ts = by_end (cost_end d.1) refl
   where
@@ -252,89 +252,89 @@ Builds-options name cs clock c ts = by_end (cost_end d.1) refl
     line_of : ℤ × Option ℤ → TaskHeader
     line_of end = record { name = name; clock = clock; when = w.0; prio = p.0; deadline = d.0; cost = end.0; cpu = end.1 }
 
-    by_end : (o : Option (ℤ × Option ℤ)) → cost_end d.1 ≡ o → Builds (Word word.Task ∷ Name name ∷ (cs ++ ts)) (option_map (λ end. plain (st.task (line_of end))) o)
+    by_end : (o : Option (ℤ × Option ℤ)) → cost_end d.1 ≡ o → Builds (Keyword keyword.Task ∷ Name name ∷ (cs ++ ts)) (option_map (λ end. plain (st.task (line_of end))) o)
     by_end None e = tt
     by_end (Some end) e =
         let ws = when-split ts in
         let ps = prio-split w.1 in
         let ds = deadline-split p.1 in
         let us = end-split d.1 end e in
-        let last = Word word.Cost ∷ Number end.0 ∷ us.0 in
+        let last = Keyword keyword.Cost ∷ Number end.0 ∷ us.0 in
         let all : ts ≡ ws.0 ++ (ps.0 ++ (ds.0 ++ last)) =
         ws.1 ∙ ap (λ (us : List Token). ws.0 ++ us) (ps.1 ∙ ap (λ (us : List Token). ps.0 ++ us) (ds.1 ∙ ap (λ (us : List Token). ds.0 ++ us) us.1)) in
         let whole : cs ++ ws.0 ++ ps.0 ++ ds.0 ++ last ≡ cs ++ ts = sym (ap (λ (us : List Token). cs ++ us) all ∙ in_five cs ws.0 ps.0 ds.0 last) in
-        subst (λ (us : List Token). IsStatement (Word word.Task ∷ Name name ∷ us) (st.task (line_of end))) whole
+        subst (λ (us : List Token). IsStatement (Keyword keyword.Task ∷ Name name ∷ us) (st.task (line_of end))) whole
         (st.a_task (line_of end) cs ws.0 ps.0 ds.0 us.0 c ws.2 ps.2 ds.2 us.2)
 
-Builds-task : (ts : List Token) → Builds (Word word.Task ∷ ts) (task_at ts)
+Builds-task : (ts : List Token) → Builds (Keyword keyword.Task ∷ ts) (task_at ts)
 unfolding task_at
-Builds-task (Name name ∷ Word word.Every ∷ Number period ∷ ts) =
+Builds-task (Name name ∷ Keyword keyword.Every ∷ Number period ∷ ts) =
     let cs = offset-split period ts in
-    subst (λ (us : List Token). Builds (Word word.Task ∷ Name name ∷ us) (options_at name (st.every period (offset_at ts).0) (offset_at ts).1)) (sym cs.1)
+    subst (λ (us : List Token). Builds (Keyword keyword.Task ∷ Name name ∷ us) (options_at name (st.every period (offset_at ts).0) (offset_at ts).1)) (sym cs.1)
     (Builds-options name cs.0 (st.every period (offset_at ts).0) cs.2 (offset_at ts).1)
-Builds-task (Name name ∷ Word word.On ∷ Name event ∷ ts) = Builds-options name (Word word.On ∷ Name event ∷ []) (st.on event) (st.with_event event) ts
+Builds-task (Name name ∷ Keyword keyword.On ∷ Name event ∷ ts) = Builds-options name (Keyword keyword.On ∷ Name event ∷ []) (st.on event) (st.with_event event) ts
 Builds-task _ = tt
 
 -- ---- the line of a read value
 
 delay-split : (ts : List Token) → (pre : List Token) × (ts ≡ pre ++ (delay_at ts).1) × SpellsDelay pre (delay_at ts).0
-delay-split (Word word.Pre ∷ Number value ∷ ts) = (Word word.Pre ∷ Number value ∷ [], refl, delayed_by value)
-delay-split (Word word.Pre ∷ ts) = (Word word.Pre ∷ [], refl, delayed)
+delay-split (Keyword keyword.Pre ∷ Number value ∷ ts) = (Keyword keyword.Pre ∷ Number value ∷ [], refl, delayed_by value)
+delay-split (Keyword keyword.Pre ∷ ts) = (Keyword keyword.Pre ∷ [], refl, delayed)
 delay-split ts = ([], refl, direct)
 
 tick-spelled : (ts : List Token) (at : ℤ) → tick_alone ts ≡ Some at → SpellsAt ts at
 tick-spelled [] at e = let same : pos 0 ≡ at = cc in subst (SpellsAt []) same st.at_once
-tick-spelled (Word word.At ∷ Number value ∷ []) at e = let same : value ≡ at = cc in subst (SpellsAt (Word word.At ∷ Number value ∷ [])) same (st.at_tick value)
+tick-spelled (Keyword keyword.At ∷ Number value ∷ []) at e = let same : value ≡ at = cc in subst (SpellsAt (Keyword keyword.At ∷ Number value ∷ [])) same (st.at_tick value)
 tick-spelled _ at e = absurd cc
 
 Builds-port : (name : List ℕ) (pre : List Token) (delay : Option ℤ) → SpellsDelay pre delay → (ts : List Token)
-    → Builds (Word word.Read ∷ Name name ∷ Symbol Assign ∷ (pre ++ ts)) (port_read_at name delay ts)
+    → Builds (Keyword keyword.Read ∷ Name name ∷ Symbol Assign ∷ (pre ++ ts)) (port_read_at name delay ts)
 unfolding port_read_at
 Builds-port name pre delay d (Name writer ∷ Symbol Point ∷ Name port ∷ ts) = by_tick (tick_alone ts) refl
   where
     by_tick : (o : Option ℤ) → tick_alone ts ≡ o
-        → Builds (Word word.Read ∷ Name name ∷ Symbol Assign ∷ (pre ++ Name writer ∷ Symbol Point ∷ Name port ∷ ts)) (option_map (λ at. plain (st.read name delay writer port at)) o)
+        → Builds (Keyword keyword.Read ∷ Name name ∷ Symbol Assign ∷ (pre ++ Name writer ∷ Symbol Point ∷ Name port ∷ ts)) (option_map (λ at. plain (st.read name delay writer port at)) o)
     by_tick None e = tt
     by_tick (Some at) e = st.a_read name writer port pre ts delay at d (tick-spelled ts at e)
 Builds-port name pre delay d _ = tt
 
-Builds-read : (ts : List Token) → Builds (Word word.Read ∷ ts) (read_at ts)
+Builds-read : (ts : List Token) → Builds (Keyword keyword.Read ∷ ts) (read_at ts)
 unfolding read_at
 Builds-read (Name name ∷ Symbol Assign ∷ ts) =
     let d = delay-split ts in
-    subst (λ (us : List Token). Builds (Word word.Read ∷ Name name ∷ Symbol Assign ∷ us) (port_read_at name (delay_at ts).0 (delay_at ts).1)) (sym d.1)
+    subst (λ (us : List Token). Builds (Keyword keyword.Read ∷ Name name ∷ Symbol Assign ∷ us) (port_read_at name (delay_at ts).0 (delay_at ts).1)) (sym d.1)
     (Builds-port name d.0 (delay_at ts).0 d.2 (delay_at ts).1)
 Builds-read _ = tt
 
 -- ---- all lines
 
-Builds-declared : (w : words.Word) (ts : List Token) → Builds (Word w ∷ ts) (declared_at w ts)
+Builds-declared : (w : keywords.Keyword) (ts : List Token) → Builds (Keyword w ∷ ts) (declared_at w ts)
 unfolding declared_at
-Builds-declared word.Dbp ts = Builds-header ts
-Builds-declared word.Policy ts = Builds-policy ts
-Builds-declared word.Until ts = Builds-until ts
-Builds-declared word.Input ts = Builds-input ts
-Builds-declared word.Event ts = Builds-event ts
+Builds-declared keyword.Dbp ts = Builds-header ts
+Builds-declared keyword.Policy ts = Builds-policy ts
+Builds-declared keyword.Until ts = Builds-until ts
+Builds-declared keyword.Input ts = Builds-input ts
+Builds-declared keyword.Event ts = Builds-event ts
 Builds-declared _ ts = tt
 
-Builds-line : (w : words.Word) (ts : List Token) → Builds (Word w ∷ ts) (line_at w ts)
+Builds-line : (w : keywords.Keyword) (ts : List Token) → Builds (Keyword w ∷ ts) (line_at w ts)
 unfolding line_at
-Builds-line word.Task ts = Builds-task ts
-Builds-line word.State ts = Builds-state ts
-Builds-line word.Sense ts = Builds-sense ts
-Builds-line word.Read ts = Builds-read ts
-Builds-line word.Let ts = Builds-let ts
-Builds-line word.Next ts = Builds-next ts
-Builds-line word.Out ts = Builds-out ts
-Builds-line word.Trace ts = Builds-ending word.Trace ts
-Builds-line word.Script ts = Builds-ending word.Script ts
-Builds-line word.Done ts = Builds-ending word.Done ts
+Builds-line keyword.Task ts = Builds-task ts
+Builds-line keyword.State ts = Builds-state ts
+Builds-line keyword.Sense ts = Builds-sense ts
+Builds-line keyword.Read ts = Builds-read ts
+Builds-line keyword.Let ts = Builds-let ts
+Builds-line keyword.Next ts = Builds-next ts
+Builds-line keyword.Out ts = Builds-out ts
+Builds-line keyword.Trace ts = Builds-ending keyword.Trace ts
+Builds-line keyword.Script ts = Builds-ending keyword.Script ts
+Builds-line keyword.Done ts = Builds-ending keyword.Done ts
 Builds-line w ts = Builds-declared w ts
 
 pub Builds-shape : (ts : List Token) → Builds ts (shape_at ts)
 unfolding shape_at
 Builds-shape [] = st.a_blank_line
-Builds-shape (Word w ∷ ts) = Builds-line w ts
+Builds-shape (Keyword w ∷ ts) = Builds-line w ts
 Builds-shape _ = tt
 
 -- what completes the form of the tokens is their statement

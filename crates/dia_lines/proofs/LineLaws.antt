@@ -3,7 +3,7 @@ use Rattle.std.proofs.Common.{◌≡◌, ℕ, true, false, List, [], ◌∷◌, 
 use Rattle.std.proofs.lemmas.Option.{same_Some}
 use Rattle.dia_tokens.specs.declared.token.Token.{Token}
 use Rattle.dia_tokens.specs.declared.token.Token.TheVariants as token
-use Rattle.dia_tokens.specs.declared.token.Word.TheVariants as word
+use Rattle.dia_tokens.specs.declared.token.Keyword.TheVariants as keyword
 use Rattle.dia_tokens.specs.Line.{Spells as SpellsTokens}
 use Rattle.dia_tokens.specs.Spelling.{joined}
 use Rattle.dia_tokens.proofs.LexLaws.{Lexes-one}
@@ -39,7 +39,7 @@ one-text-fault line c d f g = same_Some c d (sym f.2 ∙ ap code_of (one-fault l
 
 tokens-in-script : (line : List ℕ) (a : Said) → SaysInScript line a → (ts : List Token) × SpellsTokens line ts
 tokens-in-script line a (no_step l s) = ([], s)
-tokens-in-script line a (script_ends l s) = (token.Word word.Done ∷ [], s)
+tokens-in-script line a (script_ends l s) = (token.Keyword keyword.Done ∷ [], s)
 tokens-in-script line a (a_step l k ts s n o h) = (ts, s)
 
 no-fault-in-script : (line : List ℕ) (a : Said) (code : ReadCode) → SaysInScript line a → HasTextFault line code → ⊥

@@ -4,8 +4,8 @@ use Rattle.std.specs.List.{AllByRecursion}
 use Rattle.std.specs.Option.{IfSome}
 use Rattle.std.proofs.lemmas.List.Elements.{recursion_from_All}
 use Rattle.dia_tokens.specs.declared.token.Token.{Token}
-use Rattle.dia_tokens.specs.declared.token.Token.TheVariants.{Name, Number, Symbol, Word}
-use Rattle.dia_tokens.specs.declared.token.Word.TheVariants as word
+use Rattle.dia_tokens.specs.declared.token.Token.TheVariants.{Name, Number, Symbol, Keyword}
+use Rattle.dia_tokens.specs.declared.token.Keyword.TheVariants as keyword
 use Rattle.dia_tokens.specs.declared.token.Symbol.TheVariants.{Point}
 use Rattle.dia_tokens.specs.Printable.{IsPrintableName, IsPrintableNumber, IsPrintableToken}
 use Rattle.dia_exprs.specs.declared.level.Level.TheVariants.{Whole}
@@ -49,7 +49,7 @@ printable-form ts s (st.an_until end) f = tt
 printable-form ts s (st.an_input n first) f = (f.1.0, f.1.1.1.0)
 printable-form ts s (st.an_event n) f = f.1.0
 printable-form ts s (st.a_task h cs ws ps ds us c w p d u) f =
-    let options = all-parts IsPrintableToken (cs ++ ws ++ ps ++ ds) (Word word.Cost ∷ Number h.cost ∷ us) f.1.1 in
+    let options = all-parts IsPrintableToken (cs ++ ws ++ ps ++ ds) (Keyword keyword.Cost ∷ Number h.cost ∷ us) f.1.1 in
     let front = all-parts IsPrintableToken (cs ++ ws) ps (all-parts IsPrintableToken (cs ++ ws ++ ps) ds options.0).0 in
     let each = all-parts IsPrintableToken cs ws front.0 in
     (f.1.0, printable-clock cs h.clock c each.0, printable-when ws h.when w each.1)

@@ -3,12 +3,12 @@ use Rattle.std.proofs.Common.{◌≡◌, ℕ, true, false, List, [], ◌∷◌, 
 use Rattle.std.specs.Prelude.{codes}
 use Rattle.std.specs.List.{list_all}
 use Rattle.dia_tokens.specs.declared.token.Token.{Token}
-use Rattle.dia_tokens.specs.declared.token.Word.TheVariants as word
+use Rattle.dia_tokens.specs.declared.token.Keyword.TheVariants as keyword
 use Rattle.dia_tokens.specs.Line.{Spells as SpellsTokens, Refuses as RefusesTokens}
 use Rattle.dia_tokens.specs.Spelling.{IsSpelling}
 use Rattle.dia_tokens.specs.declared.line.LineFail.{LineFail}
 use Rattle.dia_tokens.specs.declared.line.LineFail.TheVariants as text_fail
-use Rattle.dia_tokens.proofs.WordsAlone.{nothing-spelled, word-spelled, spells-nothing, spells-word}
+use Rattle.dia_tokens.proofs.KeywordsAlone.{nothing-spelled, keyword-spelled, spells-nothing, spells-keyword}
 use Rattle.dia_exprs.specs.Answers.{SpellsNone}
 use Rattle.dia_exprs.specs.declared.fail.ExpressionFail.{ExpressionFail}
 use Rattle.dia_exprs.specs.declared.fail.ExpressionFail.TheVariants as of_expression
@@ -65,13 +65,13 @@ module _ (text kept : List ℕ) (ts : List Token) (spelled : SpellsTokens text t
   script-nothing e = no_step text (subst (SpellsTokens text) (spells-nothing text kept ts spelled spelling e) spelled)
 
   pub script-done : kept ≡ codes "done" → SaysInScript text (says done)
-  script-done e = script_ends text (subst (SpellsTokens text) (spells-word word.Done text kept ts spelled spelling e) spelled)
+  script-done e = script_ends text (subst (SpellsTokens text) (spells-keyword keyword.Done text kept ts spelled spelling e) spelled)
 
   pub script-step : (kept ≡ [] → ⊥) → (kept ≡ codes "done" → ⊥) → SaysInScript text (step kept)
   script-step some no_end =
       a_step text kept ts spelled
       (λ e. some (nothing-spelled text kept (subst (SpellsTokens text) e spelled) spelling))
-      (λ e. no_end (word-spelled word.Done text kept (subst (SpellsTokens text) e spelled) spelling))
+      (λ e. no_end (keyword-spelled keyword.Done text kept (subst (SpellsTokens text) e spelled) spelling))
       spelling
 
 -- ---- lines of the diagram

@@ -1,4 +1,4 @@
--- The numbers and names of codes, and the words of limits.
+-- The numbers and names of codes, and the names of limits.
 use Rattle.std.specs.Prelude.{ℕ, List, [], ◌++◌, codes}
 use Rattle.std.specs.Fmt.{decimal}
 use Rattle.dia_lines.specs.declared.fault.Limit.{Limit}
@@ -30,23 +30,23 @@ code_name MissingDone = codes "MissingDone"
 code_name MissingHeader = codes "MissingHeader"
 code_name DepthHit = codes "DepthHit"
 
--- the word of a limit
-abbrev pub limit_word : Limit → List ℕ
-limit_word Tasks = codes "tasks"
-limit_word Reads = codes "reads"
-limit_word Links = codes "links"
-limit_word Outs = codes "outs"
-limit_word Inputs = codes "inputs"
-limit_word Events = codes "events"
-limit_word Body = codes "body"
-limit_word Nodes = codes "nodes"
-limit_word Number = codes "number"
+-- the name of a limit
+abbrev pub limit_name : Limit → List ℕ
+limit_name Tasks = codes "tasks"
+limit_name Reads = codes "reads"
+limit_name Links = codes "links"
+limit_name Outs = codes "outs"
+limit_name Inputs = codes "inputs"
+limit_name Events = codes "events"
+limit_name Body = codes "body"
+limit_name Nodes = codes "nodes"
+limit_name Number = codes "number"
 
--- the word of the limit that is passed, after a space
+-- the name of the limit that is passed, after a space
 abbrev pub limit_after : ReadCode → List ℕ
-limit_after (LimitHit limit) = codes " " ++ limit_word limit
+limit_after (LimitHit limit) = codes " " ++ limit_name limit
 limit_after _ = []
 
--- the number and the name of a code, with the word of the limit that is passed
+-- the number and the name of a code, with the name of the limit that is passed
 abbrev pub code_text : ReadCode → List ℕ
 code_text code = decimal (code_number code) ++ codes " " ++ code_name code ++ limit_after code

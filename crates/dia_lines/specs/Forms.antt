@@ -3,15 +3,15 @@ use Rattle.std.specs.Prelude.{◌≡◌, ℕ, ℤ, pos, List, [], ◌∷◌, Opt
 use Rattle.std.specs.Option.{option_and_then, option_map}
 use Rattle.dbp_plan.specs.Tree.{Tree, number}
 use Rattle.dia_tokens.specs.declared.token.Token.{Token}
-use Rattle.dia_tokens.specs.declared.token.Token.TheVariants.{Name, Number, Symbol, Word}
+use Rattle.dia_tokens.specs.declared.token.Token.TheVariants.{Name, Number, Symbol, Keyword}
 use Rattle.dia_tokens.specs.declared.token.Symbol.TheVariants.{Assign, Point}
-use Rattle.dia_tokens.specs.declared.token.Word as words
-use Rattle.dia_tokens.specs.declared.token.Word.TheVariants as word
+use Rattle.dia_tokens.specs.declared.token.Keyword as keywords
+use Rattle.dia_tokens.specs.declared.token.Keyword.TheVariants as keyword
 use Rattle.dia_exprs.specs.declared.level.Level.TheVariants.{Whole}
 use Rattle.dia_exprs.specs.Grammar.{Spells}
 use Rattle.dia_lines.specs.Delays.{delay_at}
 use Rattle.dia_lines.specs.Places.{version_of}
-use Rattle.dia_lines.specs.PolicyWords.{policy_of}
+use Rattle.dia_lines.specs.PolicyKeywords.{policy_of}
 use Rattle.dia_lines.specs.Statements.{Statement, Clock, every, on, nothing, header, policy, until, input, event, task, state, sense, read, a_let, a_next, out, trace, script, done}
 
 -- a statement, except for the tokens of its expression
@@ -51,33 +51,33 @@ assigned_at _ = None
 
 -- `N then`
 abbrev pub first_at : List Token → Option (ℤ × List Token)
-first_at (Number first ∷ Word word.Then ∷ ts) = Some (first, ts)
+first_at (Number first ∷ Keyword keyword.Then ∷ ts) = Some (first, ts)
 first_at _ = None
 
 -- `from N`, or nothing for 0
 abbrev pub offset_at : List Token → ℤ × List Token
-offset_at (Word word.From ∷ Number offset ∷ ts) = (offset, ts)
+offset_at (Keyword keyword.From ∷ Number offset ∷ ts) = (offset, ts)
 offset_at ts = (pos 0, ts)
 
 -- `every N`, or `on NAME`
 abbrev pub clock_at : List Token → Option (Clock × List Token)
-clock_at (Word word.Every ∷ Number period ∷ ts) = Some (every period (offset_at ts).0, (offset_at ts).1)
-clock_at (Word word.On ∷ Name name ∷ ts) = Some (on name, ts)
+clock_at (Keyword keyword.Every ∷ Number period ∷ ts) = Some (every period (offset_at ts).0, (offset_at ts).1)
+clock_at (Keyword keyword.On ∷ Name name ∷ ts) = Some (on name, ts)
 clock_at _ = None
 
 -- `when NAME`, or nothing
 abbrev pub when_at : List Token → Option (List ℕ) × List Token
-when_at (Word word.When ∷ Name name ∷ ts) = (Some name, ts)
+when_at (Keyword keyword.When ∷ Name name ∷ ts) = (Some name, ts)
 when_at ts = (None, ts)
 
 -- `prio N`, or nothing
 abbrev pub prio_at : List Token → Option ℤ × List Token
-prio_at (Word word.Prio ∷ Number value ∷ ts) = (Some value, ts)
+prio_at (Keyword keyword.Prio ∷ Number value ∷ ts) = (Some value, ts)
 prio_at ts = (None, ts)
 
 -- `deadline N`, or nothing
 abbrev pub deadline_at : List Token → Option ℤ × List Token
-deadline_at (Word word.Deadline ∷ Number value ∷ ts) = (Some value, ts)
+deadline_at (Keyword keyword.Deadline ∷ Number value ∷ ts) = (Some value, ts)
 deadline_at ts = (None, ts)
 
 -- `TASK.PORT`
@@ -97,23 +97,23 @@ number_alone _ = None
 
 -- `cost N`, and `cpu N` or nothing
 abbrev pub cost_end : List Token → Option (ℤ × Option ℤ)
-cost_end (Word word.Cost ∷ Number cost ∷ []) = Some (cost, None)
-cost_end (Word word.Cost ∷ Number cost ∷ Word word.Cpu ∷ Number cpu ∷ []) = Some (cost, Some cpu)
+cost_end (Keyword keyword.Cost ∷ Number cost ∷ []) = Some (cost, None)
+cost_end (Keyword keyword.Cost ∷ Number cost ∷ Keyword keyword.Cpu ∷ Number cpu ∷ []) = Some (cost, Some cpu)
 cost_end _ = None
 
 -- `at N`, or nothing for 0
 abbrev pub tick_alone : List Token → Option ℤ
 tick_alone [] = Some (pos 0)
-tick_alone (Word word.At ∷ Number value ∷ []) = Some value
+tick_alone (Keyword keyword.At ∷ Number value ∷ []) = Some value
 tick_alone _ = None
 
--- ---- after the first word of a line
+-- ---- after the first keyword of a line
 
 unfoldable pub header_at : List Token → Option Shape
 header_at ts = option_map (λ version. plain (header version)) (option_and_then version_of (number_alone ts))
 
 abbrev pub policy_at : List Token → Option Shape
-policy_at (Word w ∷ []) = option_map (λ p. plain (policy p)) (policy_of w)
+policy_at (Keyword w ∷ []) = option_map (λ p. plain (policy p)) (policy_of w)
 policy_at _ = None
 
 unfoldable pub until_at : List Token → Option Shape
@@ -159,42 +159,42 @@ next_at ts = option_map (λ p. of_next p.0 p.1) (assigned_at ts)
 unfoldable pub out_at : List Token → Option Shape
 out_at ts = option_and_then (λ p. option_map (λ f. of_out p.0 f.0 f.1) (first_at p.1)) (assigned_at ts)
 
--- the word is a line of its own
-abbrev pub word_alone : words.Word → Option Shape
-word_alone word.Trace = Some (plain trace)
-word_alone word.Script = Some (plain script)
-word_alone word.Done = Some (plain done)
-word_alone _ = None
+-- the keyword is a line of its own
+abbrev pub keyword_alone : keywords.Keyword → Option Shape
+keyword_alone keyword.Trace = Some (plain trace)
+keyword_alone keyword.Script = Some (plain script)
+keyword_alone keyword.Done = Some (plain done)
+keyword_alone _ = None
 
-abbrev pub ending_at : words.Word → List Token → Option Shape
-ending_at w [] = word_alone w
+abbrev pub ending_at : keywords.Keyword → List Token → Option Shape
+ending_at w [] = keyword_alone w
 ending_at w (t ∷ ts) = None
 
--- after the word that a line before the tasks begins with
-unfoldable pub declared_at : words.Word → List Token → Option Shape
-declared_at word.Dbp ts = header_at ts
-declared_at word.Policy ts = policy_at ts
-declared_at word.Until ts = until_at ts
-declared_at word.Input ts = input_at ts
-declared_at word.Event ts = event_at ts
+-- after the keyword that a line before the tasks begins with
+unfoldable pub declared_at : keywords.Keyword → List Token → Option Shape
+declared_at keyword.Dbp ts = header_at ts
+declared_at keyword.Policy ts = policy_at ts
+declared_at keyword.Until ts = until_at ts
+declared_at keyword.Input ts = input_at ts
+declared_at keyword.Event ts = event_at ts
 declared_at _ ts = None
 
--- after the first word of a line
-unfoldable pub line_at : words.Word → List Token → Option Shape
-line_at word.Task ts = task_at ts
-line_at word.State ts = state_at ts
-line_at word.Sense ts = sense_at ts
-line_at word.Read ts = read_at ts
-line_at word.Let ts = let_at ts
-line_at word.Next ts = next_at ts
-line_at word.Out ts = out_at ts
-line_at word.Trace ts = ending_at word.Trace ts
-line_at word.Script ts = ending_at word.Script ts
-line_at word.Done ts = ending_at word.Done ts
+-- after the first keyword of a line
+unfoldable pub line_at : keywords.Keyword → List Token → Option Shape
+line_at keyword.Task ts = task_at ts
+line_at keyword.State ts = state_at ts
+line_at keyword.Sense ts = sense_at ts
+line_at keyword.Read ts = read_at ts
+line_at keyword.Let ts = let_at ts
+line_at keyword.Next ts = next_at ts
+line_at keyword.Out ts = out_at ts
+line_at keyword.Trace ts = ending_at keyword.Trace ts
+line_at keyword.Script ts = ending_at keyword.Script ts
+line_at keyword.Done ts = ending_at keyword.Done ts
 line_at w ts = declared_at w ts
 
 -- the form of a line
 unfoldable pub shape_at : List Token → Option Shape
 shape_at [] = Some (plain nothing)
-shape_at (Word w ∷ ts) = line_at w ts
+shape_at (Keyword w ∷ ts) = line_at w ts
 shape_at _ = None

@@ -7,7 +7,7 @@ pub mod Held
 pub mod Limits
 pub mod Lines
 pub mod Places
-pub mod PolicyWords
+pub mod PolicyKeywords
 pub mod Positions
 pub mod Sections
 pub mod Statements

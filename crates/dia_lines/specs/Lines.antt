@@ -5,7 +5,7 @@ use Rattle.std.specs.Option.{option_map, is_some}
 use Rattle.dbp_plan.specs.declared.limits.TheConstants.{MAX_NODES}
 use Rattle.dia_tokens.specs.declared.token.Token.{Token}
 use Rattle.dia_tokens.specs.declared.token.Token.TheVariants as token
-use Rattle.dia_tokens.specs.declared.token.Word.TheVariants as word
+use Rattle.dia_tokens.specs.declared.token.Keyword.TheVariants as keyword
 use Rattle.dia_tokens.specs.declared.token.Symbol.TheVariants as symbol
 use Rattle.dia_tokens.specs.declared.line.LineFail.{LineFail}
 use Rattle.dia_tokens.specs.declared.line.LineFail.TheVariants as line_fail
@@ -59,7 +59,7 @@ keeps_lines Script = true
 keeps_lines _ = false
 
 abbrev pub is_header : List Token → Bool
-is_header (token.Word word.Dbp ∷ token.Number value ∷ []) = is_some (version_of value)
+is_header (token.Keyword keyword.Dbp ∷ token.Number value ∷ []) = is_some (version_of value)
 is_header _ = false
 
 -- the first line with tokens, and no header
@@ -77,14 +77,14 @@ after_assign (_ ∷ ts) = after_assign ts
 -- the tokens after the first `then`
 abbrev pub after_then : List Token → List Token
 after_then [] = []
-after_then (token.Word word.Then ∷ ts) = ts
+after_then (token.Keyword keyword.Then ∷ ts) = ts
 after_then (_ ∷ ts) = after_then ts
 
 -- where an expression stands on a line that begins as one with an expression does
 abbrev pub expression_of : List Token → List Token
-expression_of (token.Word word.Let ∷ ts) = after_assign ts
-expression_of (token.Word word.Next ∷ ts) = after_assign ts
-expression_of (token.Word word.Out ∷ ts) = after_then ts
+expression_of (token.Keyword keyword.Let ∷ ts) = after_assign ts
+expression_of (token.Keyword keyword.Next ∷ ts) = after_assign ts
+expression_of (token.Keyword keyword.Out ∷ ts) = after_then ts
 expression_of _ = []
 
 -- the first fault of the tokens, except for their form
@@ -131,8 +131,8 @@ pub data SaysInTrace : List ℕ → Said → Type 0 where
 -- the line of the script section is without fault, and says this
 pub data SaysInScript : List ℕ → Said → Type 0 where
   no_step : (line : List ℕ) → SpellsTokens line [] → SaysInScript line (says nothing)
-  script_ends : (line : List ℕ) → SpellsTokens line (token.Word word.Done ∷ []) → SaysInScript line (says done)
-  a_step : (line kept : List ℕ) (ts : List Token) → SpellsTokens line ts → ts ≢ [] → ts ≢ token.Word word.Done ∷ [] → IsSpelling line kept
+  script_ends : (line : List ℕ) → SpellsTokens line (token.Keyword keyword.Done ∷ []) → SaysInScript line (says done)
+  a_step : (line kept : List ℕ) (ts : List Token) → SpellsTokens line ts → ts ≢ [] → ts ≢ token.Keyword keyword.Done ∷ [] → IsSpelling line kept
       → SaysInScript line (step kept)
 
 -- after those before it the line is without fault, and says this

@@ -8,7 +8,7 @@ pub use Rattle.dia_tokens.specs.Blanks.{is_space}
 abbrev pub is_trace_byte : ℕ → Bool
 is_trace_byte b = is_ascii_alphanumeric b || b == 95 || b == 45 || b == 44 || is_space b
 
--- the word with spaces and tabs around it
+-- the keyword with spaces and tabs around it
 abbrev pub IsAlone : List ℕ → List ℕ → Type 0
 IsAlone text line = (before after : List ℕ) × (list_all is_space before ≡ true) × (list_all is_space after ≡ true) × (line ≡ before ++ text ++ after)
 

@@ -1,4 +1,4 @@
-// The numbers and names of codes, and the words of limits.
+// The numbers and names of codes, and the names of limits.
 
 use crate::fault::{Limit, ReadCode};
 use std::fmt;
@@ -44,11 +44,11 @@ impl ReadCode {
 
 impl Limit {
     ghost use Rattle.std.specs.Prelude.{◌≡◌};
-    ghost use Rattle.dia_lines.specs.Codes.{limit_word};
+    ghost use Rattle.dia_lines.specs.Codes.{limit_name};
 
-    /// The word of the limit.
-    pub fn word(self) -> &'static str
-        ensures { result.now ≡ limit_word self }
+    /// The name of the limit.
+    pub fn name(self) -> &'static str
+        ensures { result.now ≡ limit_name self }
     {
         match self {
             Limit::Tasks => "tasks",
@@ -66,16 +66,16 @@ impl Limit {
 
 impl fmt::Display for Limit {
     ghost use Rattle.std.specs.Prelude.{Some};
-    ghost use Rattle.dia_lines.specs.Codes.{limit_word};
+    ghost use Rattle.dia_lines.specs.Codes.{limit_name};
 
-    ghost output = { λ limit. Some (limit_word limit) };
+    ghost output = { λ limit. Some (limit_name limit) };
 
     fn fmt<W: fmt::Write>(&self, f: &mut fmt::Formatter<W>) -> fmt::Result {
-        f.write_str(self.word())
+        f.write_str(self.name())
     }
 }
 
-/// The number and the name of the code, with the limit's word after a passed limit, as a refusal has them after the number
+/// The number and the name of the code, with the limit's name after a passed limit, as a refusal has them after the number
 /// of its line.
 impl fmt::Display for ReadCode {
     ghost use Rattle.std.specs.Prelude.{Some};

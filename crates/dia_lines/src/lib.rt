@@ -9,31 +9,31 @@
 //! in scripts.
 #![tactic(auto)]
 
-mod before_form;
 mod codes;
 mod fault;
 mod form;
-mod fronts;
 mod item;
 mod laws;
 mod line;
 mod line_forms;
 mod place;
-mod policy_words;
+mod placement;
+mod policy_keywords;
 mod position;
+mod prefixes;
 mod ranges;
-mod standing;
 mod statement;
 mod text;
+mod token_checks;
 mod trace;
 
 pub use fault::{Limit, LineError, ReadCode};
-pub use fronts::delay_at;
 pub use item::{Decl, Line, Part, RawClock, TaskLine};
 pub use laws::{one_line_fault, one_reading, one_statement};
 pub use line::{read_line, read_line_with};
 pub use place::Place;
-pub use policy_words::policy_word;
+pub use policy_keywords::policy_keyword;
 pub use position::{Counts, Position};
+pub use prefixes::delay_at;
 pub use ranges::short_delay;
 pub use text::next_line;

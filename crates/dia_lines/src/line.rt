@@ -14,11 +14,11 @@ ghost use Rattle.dia_lines.specs.declared.fault.LineError.TheVariants.{Refused, 
 ghost use Rattle.dia_lines.specs.declared.fault.ReadCode.TheVariants.{BadByte, BadToken};
 ghost use Rattle.dia_lines.specs.declared.place.Place.TheVariants.{Script, Trace};
 
-use crate::before_form::token_code;
 use crate::statement::statement;
+use crate::token_checks::token_code;
 use crate::trace::{TraceLine, trace_line};
 use crate::{Counts, Line, LineError, Place, Position};
-use dia_tokens::{Token, Word, line_spelling, tokens_into};
+use dia_tokens::{Keyword, Token, line_spelling, tokens_into};
 use std::alloc::Global;
 
 /// The tokens of a line, which take the place of the list's, or its first fault.
@@ -66,7 +66,7 @@ fn script_line(alloc: Global, line: &[u8]) -> Result<Line, LineError>
     let text = line_spelling(alloc, line)?;
     if text.bytes().is_empty() {
         Ok(Line::Nothing)
-    } else if text.bytes() == Word::Done.text() {
+    } else if text.bytes() == Keyword::Done.text() {
         Ok(Line::Done)
     } else {
         Ok(Line::Step(text))

@@ -1,4 +1,4 @@
-// The form of a line, by its first word: a function for each word, which takes the tokens after it.
+// The form of a line, by its first keyword: a function for each keyword, which takes the tokens after it.
 
 ghost use Rattle.std.specs.Prelude.{◌≡◌};
 ghost use Rattle.std.specs.Option.{option_map};
@@ -6,13 +6,13 @@ ghost use Rattle.dia_lines.specs.Forms.{header_at, policy_at, until_at, input_at
 ghost use Rattle.dia_lines.specs.FormShapes.{clock_of, shape_of};
 
 use crate::form::{ClockForm, Form, ReadForm, TaskForm};
-use crate::fronts::{
+use crate::policy_keywords::policy_of;
+use crate::prefixes::{
     assigned, clock, cost_end, deadline, delay_at, first_value, name_alone, number_alone, port,
     prio, tick_alone, version, when_name,
 };
-use crate::policy_words::policy_of;
 use dbp_plan::Name;
-use dia_tokens::{Token, Word};
+use dia_tokens::{Keyword, Token};
 
 #[tactic(auto, unfolding(crate::specs::Forms::header_at))]
 fn header<'t>(tokens: &'t [Token]) -> Option<Form<'t>>
@@ -26,7 +26,7 @@ fn policy<'t>(tokens: &'t [Token]) -> Option<Form<'t>>
     ensures { option_map shape_of result ≡ policy_at tokens.now }
 {
     match tokens {
-        [Token::Word(word)] => Some(Form::Policy(policy_of(*word)?)),
+        [Token::Keyword(keyword)] => Some(Form::Policy(policy_of(*keyword)?)),
         _ => None,
     }
 }
@@ -177,51 +177,51 @@ fn out<'t>(tokens: &'t [Token]) -> Option<Form<'t>>
     Some(Form::Out(name, first, rest))
 }
 
-// The form of a line that is the word alone.
-fn ending<'t>(word: Word, tokens: &'t [Token]) -> Option<Form<'t>>
-    ensures { option_map shape_of result ≡ ending_at word tokens.now }
+// The form of a line that is the keyword alone.
+fn ending<'t>(keyword: Keyword, tokens: &'t [Token]) -> Option<Form<'t>>
+    ensures { option_map shape_of result ≡ ending_at keyword tokens.now }
 {
     match tokens {
-        [] => match word {
-            Word::Trace => Some(Form::Trace),
-            Word::Script => Some(Form::Script),
-            Word::Done => Some(Form::Done),
+        [] => match keyword {
+            Keyword::Trace => Some(Form::Trace),
+            Keyword::Script => Some(Form::Script),
+            Keyword::Done => Some(Form::Done),
             _ => None,
         },
         _ => None,
     }
 }
 
-// The form of a line that begins with the word, if lines before the tasks do.
+// The form of a line that begins with the keyword, if lines before the tasks do.
 #[tactic(auto, unfolding(crate::specs::Forms::declared_at))]
-fn declared<'t>(word: Word, tokens: &'t [Token]) -> Option<Form<'t>>
-    ensures { option_map shape_of result ≡ declared_at word tokens.now }
+fn declared<'t>(keyword: Keyword, tokens: &'t [Token]) -> Option<Form<'t>>
+    ensures { option_map shape_of result ≡ declared_at keyword tokens.now }
 {
-    match word {
-        Word::Dbp => header(tokens),
-        Word::Policy => policy(tokens),
-        Word::Until => until(tokens),
-        Word::Input => input(tokens),
-        Word::Event => event(tokens),
+    match keyword {
+        Keyword::Dbp => header(tokens),
+        Keyword::Policy => policy(tokens),
+        Keyword::Until => until(tokens),
+        Keyword::Input => input(tokens),
+        Keyword::Event => event(tokens),
         _ => None,
     }
 }
 
-// The form of a line that begins with the word.
+// The form of a line that begins with the keyword.
 #[tactic(auto, unfolding(crate::specs::Forms::line_at))]
-fn line<'t>(word: Word, tokens: &'t [Token]) -> Option<Form<'t>>
-    ensures { option_map shape_of result ≡ line_at word tokens.now }
+fn line<'t>(keyword: Keyword, tokens: &'t [Token]) -> Option<Form<'t>>
+    ensures { option_map shape_of result ≡ line_at keyword tokens.now }
 {
-    match word {
-        Word::Task => task(tokens),
-        Word::State => state(tokens),
-        Word::Sense => sense(tokens),
-        Word::Read => read(tokens),
-        Word::Let => let_form(tokens),
-        Word::Next => next_form(tokens),
-        Word::Out => out(tokens),
-        Word::Trace | Word::Script | Word::Done => ending(word, tokens),
-        _ => declared(word, tokens),
+    match keyword {
+        Keyword::Task => task(tokens),
+        Keyword::State => state(tokens),
+        Keyword::Sense => sense(tokens),
+        Keyword::Read => read(tokens),
+        Keyword::Let => let_form(tokens),
+        Keyword::Next => next_form(tokens),
+        Keyword::Out => out(tokens),
+        Keyword::Trace | Keyword::Script | Keyword::Done => ending(keyword, tokens),
+        _ => declared(keyword, tokens),
     }
 }
 
@@ -232,7 +232,7 @@ pub(crate) fn form<'t>(tokens: &'t [Token]) -> Option<Form<'t>>
 {
     match tokens {
         [] => Some(Form::Nothing),
-        [Token::Word(word), rest @ ..] => line(*word, rest),
+        [Token::Keyword(keyword), rest @ ..] => line(*keyword, rest),
         _ => None,
     }
 }

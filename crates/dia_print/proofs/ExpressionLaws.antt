@@ -12,8 +12,8 @@ use Rattle.dbp_plan.specs.Operators.{notation_of}
 use Rattle.dbp_plan.specs.Tree.{number, variable, unary, binary, choice, size_of}
 use Rattle.dbp_plan.specs.TreeLaws.{one_node}
 use Rattle.dia_tokens.specs.declared.token.Token.{Token}
-use Rattle.dia_tokens.specs.declared.token.Token.TheVariants.{Word, Name, Number, Symbol}
-use Rattle.dia_tokens.specs.declared.token.Word.TheVariants as word
+use Rattle.dia_tokens.specs.declared.token.Token.TheVariants.{Keyword, Name, Number, Symbol}
+use Rattle.dia_tokens.specs.declared.token.Keyword.TheVariants as keyword
 use Rattle.dia_tokens.specs.declared.token.Symbol.TheVariants as symbol
 use Rattle.dia_tokens.specs.Lexes.{signs}
 use Rattle.dia_tokens.specs.Printable.{IsPrintableToken}
@@ -168,10 +168,10 @@ between-keeps o xs ys k l rest f = subst (KeepsSigns true) (sym (append_assoc xs
 
 chosen-keeps : (cs xs ys : List Token) → KeepsAt cs → KeepsAt xs → KeepsAt ys → KeepsAt (choice_tokens cs xs ys)
 chosen-keeps cs xs ys j k l rest f =
-    let second : KeepsSigns true ((xs ++ Word word.Else ∷ ys) ++ rest) = subst (KeepsSigns true) (sym (append_assoc xs (Word word.Else ∷ ys) rest)) (k (Word word.Else ∷ (ys ++ rest)) (λ s. (λ e. tt, l rest f))) in (
+    let second : KeepsSigns true ((xs ++ Keyword keyword.Else ∷ ys) ++ rest) = subst (KeepsSigns true) (sym (append_assoc xs (Keyword keyword.Else ∷ ys) rest)) (k (Keyword keyword.Else ∷ (ys ++ rest)) (λ s. (λ e. tt, l rest f))) in (
       λ e. tt,
-      subst (KeepsSigns true) (sym (append_assoc cs (Word word.Then ∷ (xs ++ Word word.Else ∷ ys)) rest))
-          (j (Word word.Then ∷ ((xs ++ Word word.Else ∷ ys) ++ rest)) (λ s. (λ e. tt, second))),
+      subst (KeepsSigns true) (sym (append_assoc cs (Keyword keyword.Then ∷ (xs ++ Keyword keyword.Else ∷ ys)) rest))
+          (j (Keyword keyword.Then ∷ ((xs ++ Keyword keyword.Else ∷ ys) ++ rest)) (λ s. (λ e. tt, second))),
     )
 
 either-keeps : (b : Bool) (xs ys : List Token) → KeepsAt xs → KeepsAt ys → KeepsAt (cond b xs ys)
@@ -318,9 +318,9 @@ shallow-tokens (choice c x y) =
     let some : 1 ≤ n = omega arith in
     let part : (e : Expression) → size_of e + 1 ≤ n → Shallow (size_of e) (tokens_of e) → Shallow n (operand_tokens e) =
     λ e le h. shallow-more (size_of e + 1) n (operand_tokens e) le (enclosed-shallow (is_compound e) (size_of e) (tokens_of e) (one_node e) h) in
-    shallow-level n (Word word.If) (operand_tokens c ++ Word word.Then ∷ (operand_tokens x ++ Word word.Else ∷ operand_tokens y)) some (λ k. refl)
-    (shallow-append n (operand_tokens c) (Word word.Then ∷ (operand_tokens x ++ Word word.Else ∷ operand_tokens y)) (part c (omega arith) (shallow-tokens c)) (shallow-level n (Word word.Then) (operand_tokens x ++ Word word.Else ∷ operand_tokens y) some (λ k. refl)
-    (shallow-append n (operand_tokens x) (Word word.Else ∷ operand_tokens y) (part x (omega arith) (shallow-tokens x)) (shallow-level n (Word word.Else) (operand_tokens y) some (λ k. refl) (part y (omega arith) (shallow-tokens y))))))
+    shallow-level n (Keyword keyword.If) (operand_tokens c ++ Keyword keyword.Then ∷ (operand_tokens x ++ Keyword keyword.Else ∷ operand_tokens y)) some (λ k. refl)
+    (shallow-append n (operand_tokens c) (Keyword keyword.Then ∷ (operand_tokens x ++ Keyword keyword.Else ∷ operand_tokens y)) (part c (omega arith) (shallow-tokens c)) (shallow-level n (Keyword keyword.Then) (operand_tokens x ++ Keyword keyword.Else ∷ operand_tokens y) some (λ k. refl)
+    (shallow-append n (operand_tokens x) (Keyword keyword.Else ∷ operand_tokens y) (part x (omega arith) (shallow-tokens x)) (shallow-level n (Keyword keyword.Else) (operand_tokens y) some (λ k. refl) (part y (omega arith) (shallow-tokens y))))))
 
 pub shallow : (x : Expression) (k m : ℕ) (rest : List Token) → k + size_of x ≤ m + 1 → deepest k rest ≤ m → deepest k (tokens_of x ++ rest) ≤ m
 shallow x = shallow-tokens x

@@ -14,9 +14,9 @@ use Rattle.dbp_plan.specs.Limits.{max_delay, max_delay-le}
 use Rattle.dbp_plan.specs.Tree.{Tree, number, variable, unary, binary, choice, size_of, root_of, nodes_of}
 use Rattle.dbp_plan.specs.TreeLaws.{length-nodes_of}
 use Rattle.dia_tokens.specs.declared.token.Token.{Token}
-use Rattle.dia_tokens.specs.declared.token.Token.TheVariants.{Word, Name, Number, Symbol}
-use Rattle.dia_tokens.specs.declared.token.Word as words
-use Rattle.dia_tokens.specs.declared.token.Word.TheVariants as word
+use Rattle.dia_tokens.specs.declared.token.Token.TheVariants.{Keyword, Name, Number, Symbol}
+use Rattle.dia_tokens.specs.declared.token.Keyword as keywords
+use Rattle.dia_tokens.specs.declared.token.Keyword.TheVariants as keyword
 use Rattle.dia_tokens.specs.declared.token.Symbol.TheVariants.{Assign, Point}
 use Rattle.dia_tokens.specs.KeepsSigns.{KeepsSigns}
 use Rattle.dia_tokens.specs.Printable.{IsPrintableName, IsPrintableToken}
@@ -57,7 +57,7 @@ clock-says : (c : RawClock) → SpellsClock (clock_tokens c) (clock_of c)
 clock-says (Every p o) = from_offset (pos p) (pos o)
 clock-says (On n) = with_event n
 
-option-says : (w : words.Word) (o : Option ℕ) → SpellsOption w (option_tokens w o) (option_map pos o)
+option-says : (w : keywords.Keyword) (o : Option ℕ) → SpellsOption w (option_tokens w o) (option_map pos o)
 option-says w None = left_out
 option-says w (Some n) = given (pos n)
 
@@ -67,16 +67,16 @@ when-says (Some n) = guarded n
 
 pub task-says : (version : ℕ) (t : TaskLine) → IsStatement (task_tokens version t) (task_statement version t)
 task-says version t =
-    let us = option_tokens word.Cpu (named_cpu version t.cpu) in
-    a_task (header_of version t) (clock_tokens t.clock) (when_tokens t.when) (option_tokens word.Prio t.prio) (option_tokens word.Deadline t.deadline) us
-    (clock-says t.clock) (when-says t.when) (option-says word.Prio t.prio) (option-says word.Deadline t.deadline) (option-says word.Cpu (named_cpu version t.cpu))
+    let us = option_tokens keyword.Cpu (named_cpu version t.cpu) in
+    a_task (header_of version t) (clock_tokens t.clock) (when_tokens t.when) (option_tokens keyword.Prio t.prio) (option_tokens keyword.Deadline t.deadline) us
+    (clock-says t.clock) (when-says t.when) (option-says keyword.Prio t.prio) (option-says keyword.Deadline t.deadline) (option-says keyword.Cpu (named_cpu version t.cpu))
 
 pub part-says : (p : Part) → IsPrintablePart p → IsStatement (part_tokens p) (part_statement p)
 part-says (part.State n v) h = a_state n v
 part-says (part.Sense n i) h = a_sense n i
 part-says (part.Read n d w p a) h =
-    let read = a_read n w p (delay_tokens d) (Word word.At ∷ Number (pos a) ∷ []) (given_delay d) (pos a) (delay-spelled d) (at_tick (pos a)) in
-    subst (λ ts. IsStatement (Word word.Read ∷ Name n ∷ Symbol Assign ∷ ts) (part_statement (part.Read n d w p a))) (sym (append_assoc (delay_tokens d) (Name w ∷ Symbol Point ∷ Name p ∷ []) (Word word.At ∷ Number (pos a) ∷ []))) read
+    let read = a_read n w p (delay_tokens d) (Keyword keyword.At ∷ Number (pos a) ∷ []) (given_delay d) (pos a) (delay-spelled d) (at_tick (pos a)) in
+    subst (λ ts. IsStatement (Keyword keyword.Read ∷ Name n ∷ Symbol Assign ∷ ts) (part_statement (part.Read n d w p a))) (sym (append_assoc (delay_tokens d) (Name w ∷ Symbol Point ∷ Name p ∷ []) (Keyword keyword.At ∷ Number (pos a) ∷ []))) read
 part-says (part.Let n e) h = a_let_line n (tokens_of (tree_of e)) (tree_of e) (spells-tokens (tree_of e))
 part-says (part.Next n e) h = a_next_line n (tokens_of (tree_of e)) (tree_of e) (spells-tokens (tree_of e))
 part-says (part.Out n v e) h = an_out n v (tokens_of (tree_of e)) (tree_of e) (spells-tokens (tree_of e))
@@ -99,16 +99,16 @@ plain-depth k (t ∷ ts) h = let rest = plain-depth k ts h.1 in rw (h.0 k) (omeg
 
 -- the clock and the optional parts of a task's line before its cost
 abbrev options_of : TaskLine → List Token
-options_of t = clock_tokens t.clock ++ when_tokens t.when ++ option_tokens word.Prio t.prio ++ option_tokens word.Deadline t.deadline
+options_of t = clock_tokens t.clock ++ when_tokens t.when ++ option_tokens keyword.Prio t.prio ++ option_tokens keyword.Deadline t.deadline
 
 -- what holds of each token of these parts holds of each token of all
-options-each : (P : Token → Type 0) (t : TaskLine) → AllByRecursion P (clock_tokens t.clock) → AllByRecursion P (when_tokens t.when) → AllByRecursion P (option_tokens word.Prio t.prio)
-    → AllByRecursion P (option_tokens word.Deadline t.deadline) → AllByRecursion P (options_of t)
+options-each : (P : Token → Type 0) (t : TaskLine) → AllByRecursion P (clock_tokens t.clock) → AllByRecursion P (when_tokens t.when) → AllByRecursion P (option_tokens keyword.Prio t.prio)
+    → AllByRecursion P (option_tokens keyword.Deadline t.deadline) → AllByRecursion P (options_of t)
 options-each P t c w p d =
     let cs = clock_tokens t.clock in
     let ws = when_tokens t.when in
-    let ps = option_tokens word.Prio t.prio in
-    both-parts P (cs ++ ws ++ ps) (option_tokens word.Deadline t.deadline) (both-parts P (cs ++ ws) ps (both-parts P cs ws c w) p) d
+    let ps = option_tokens keyword.Prio t.prio in
+    both-parts P (cs ++ ws ++ ps) (option_tokens keyword.Deadline t.deadline) (both-parts P (cs ++ ws) ps (both-parts P cs ws c w) p) d
 
 clock-plain : (c : RawClock) → AllByRecursion IsPlain (clock_tokens c)
 clock-plain (Every p o) = (λ k. refl, (λ k. refl, (λ k. refl, (λ k. refl, tt))))
@@ -118,25 +118,25 @@ when-plain : (o : Option (List ℕ)) → AllByRecursion IsPlain (when_tokens o)
 when-plain None = tt
 when-plain (Some n) = (λ k. refl, (λ k. refl, tt))
 
-option-plain : (w : words.Word) (o : Option ℕ) → AllByRecursion IsPlain (option_tokens w o)
+option-plain : (w : keywords.Keyword) (o : Option ℕ) → AllByRecursion IsPlain (option_tokens w o)
 option-plain w None = tt
 option-plain w (Some n) = (λ k. refl, (λ k. refl, tt))
 
 task-plain : (version : ℕ) (t : TaskLine) → AllByRecursion IsPlain (task_tokens version t)
 task-plain version t =
-    let us = option_tokens word.Cpu (named_cpu version t.cpu) in
-    let parts = options-each IsPlain t (clock-plain t.clock) (when-plain t.when) (option-plain word.Prio t.prio) (option-plain word.Deadline t.deadline) in
-    let end : AllByRecursion IsPlain (Word word.Cost ∷ Number (pos t.cost) ∷ us) = (λ k. refl, (λ k. refl, option-plain word.Cpu (named_cpu version t.cpu))) in
-    (λ k. refl, (λ k. refl, both-parts IsPlain (options_of t) (Word word.Cost ∷ Number (pos t.cost) ∷ us) parts end))
+    let us = option_tokens keyword.Cpu (named_cpu version t.cpu) in
+    let parts = options-each IsPlain t (clock-plain t.clock) (when-plain t.when) (option-plain keyword.Prio t.prio) (option-plain keyword.Deadline t.deadline) in
+    let end : AllByRecursion IsPlain (Keyword keyword.Cost ∷ Number (pos t.cost) ∷ us) = (λ k. refl, (λ k. refl, option-plain keyword.Cpu (named_cpu version t.cpu))) in
+    (λ k. refl, (λ k. refl, both-parts IsPlain (options_of t) (Keyword keyword.Cost ∷ Number (pos t.cost) ∷ us) parts end))
 
-read-plain : (n w p : List ℕ) (d a : ℕ) → AllByRecursion IsPlain (assigned word.Read n ++ (source_tokens d w p ++ Word word.At ∷ Number (pos a) ∷ []))
+read-plain : (n w p : List ℕ) (d a : ℕ) → AllByRecursion IsPlain (assigned keyword.Read n ++ (source_tokens d w p ++ Keyword keyword.At ∷ Number (pos a) ∷ []))
 read-plain n w p d a = (
   λ k. refl,
   (
     λ k. refl,
     (
       λ k. refl,
-      both-parts IsPlain (source_tokens d w p) (Word word.At ∷ Number (pos a) ∷ []) (both-parts IsPlain (delay_tokens d) (Name w ∷ Symbol Point ∷ Name p ∷ []) (each-delay-token IsPlain d (λ k. refl) (λ k. refl)) (λ k. refl, (λ k. refl, (λ k. refl, tt)))) (λ k. refl, (λ k. refl, tt)),
+      both-parts IsPlain (source_tokens d w p) (Keyword keyword.At ∷ Number (pos a) ∷ []) (both-parts IsPlain (delay_tokens d) (Name w ∷ Symbol Point ∷ Name p ∷ []) (each-delay-token IsPlain d (λ k. refl) (λ k. refl)) (λ k. refl, (λ k. refl, (λ k. refl, tt)))) (λ k. refl, (λ k. refl, tt)),
     ),
   ),
 )
@@ -178,7 +178,7 @@ clock-keeps : (c : RawClock) (rest : List Token) → Follows rest → Follows (c
 clock-keeps (Every p o) rest f s = (λ e. tt, (λ e. tt, (λ e. tt, (λ e. tt, f false))))
 clock-keeps (On n) rest f s = (λ e. tt, (λ e. tt, f false))
 
-option-keeps : (w : words.Word) (o : Option ℕ) (rest : List Token) → Follows rest → Follows (option_tokens w o ++ rest)
+option-keeps : (w : keywords.Keyword) (o : Option ℕ) (rest : List Token) → Follows rest → Follows (option_tokens w o ++ rest)
 option-keeps w None rest f s = f s
 option-keeps w (Some n) rest f s = (λ e. tt, (λ e. tt, f false))
 
@@ -186,7 +186,7 @@ when-keeps : (o : Option (List ℕ)) (rest : List Token) → Follows rest → Fo
 when-keeps None rest f s = f s
 when-keeps (Some n) rest f s = (λ e. tt, (λ e. tt, f false))
 
-cpu-keeps : (o : Option ℕ) → Follows (option_tokens word.Cpu o)
+cpu-keeps : (o : Option ℕ) → Follows (option_tokens keyword.Cpu o)
 cpu-keeps None s = tt
 cpu-keeps (Some n) s = (λ e. tt, (λ e. tt, tt))
 
@@ -194,11 +194,11 @@ task-keeps : (version : ℕ) (t : TaskLine) → KeepsSigns true (task_tokens ver
 task-keeps version t =
     let cs = clock_tokens t.clock in
     let ws = when_tokens t.when in
-    let ps = option_tokens word.Prio t.prio in
-    let ds = option_tokens word.Deadline t.deadline in
-    let costs : List Token = Word word.Cost ∷ Number (pos t.cost) ∷ option_tokens word.Cpu (named_cpu version t.cpu) in
+    let ps = option_tokens keyword.Prio t.prio in
+    let ds = option_tokens keyword.Deadline t.deadline in
+    let costs : List Token = Keyword keyword.Cost ∷ Number (pos t.cost) ∷ option_tokens keyword.Cpu (named_cpu version t.cpu) in
     let last : Follows costs = λ s. (λ e. tt, (λ e. tt, cpu-keeps (named_cpu version t.cpu) false)) in
-    let options : Follows (ps ++ (ds ++ costs)) = option-keeps word.Prio t.prio (ds ++ costs) (option-keeps word.Deadline t.deadline costs last) in
+    let options : Follows (ps ++ (ds ++ costs)) = option-keeps keyword.Prio t.prio (ds ++ costs) (option-keeps keyword.Deadline t.deadline costs last) in
     let all : KeepsSigns false (cs ++ (ws ++ (ps ++ (ds ++ costs)))) = clock-keeps t.clock (ws ++ (ps ++ (ds ++ costs))) (when-keeps t.when (ps ++ (ds ++ costs)) options) false in
     let same : cs ++ (ws ++ (ps ++ (ds ++ costs))) ≡ cs ++ ws ++ ps ++ ds ++ costs = in_five cs ws ps ds costs in
     (λ e. tt, (λ e. tt, subst (KeepsSigns false) same all))
@@ -208,10 +208,10 @@ delay-keeps zero rest f s = f s
 delay-keeps (suc zero) rest f s = (λ e. tt, f true)
 delay-keeps (suc (suc d)) rest f s = rw (longer-tokens d) (λ e. tt, (λ e. tt, f false))
 
-read-keeps : (n w p : List ℕ) (d a : ℕ) → KeepsSigns true (assigned word.Read n ++ (source_tokens d w p ++ Word word.At ∷ Number (pos a) ∷ []))
+read-keeps : (n w p : List ℕ) (d a : ℕ) → KeepsSigns true (assigned keyword.Read n ++ (source_tokens d w p ++ Keyword keyword.At ∷ Number (pos a) ∷ []))
 read-keeps n w p d a =
     let port : List Token = Name w ∷ Symbol Point ∷ Name p ∷ [] in
-    let time : List Token = Word word.At ∷ Number (pos a) ∷ [] in
+    let time : List Token = Keyword keyword.At ∷ Number (pos a) ∷ [] in
     let last : Follows (port ++ time) = λ s. (λ e. tt, (λ e. tt, (λ e. tt, (λ e. tt, (λ e. tt, tt))))) in
     (λ e. tt, (λ e. tt, (λ e. tt, subst (KeepsSigns true) (sym (append_assoc (delay_tokens d) port time)) (delay-keeps d (port ++ time) last true))))
 
@@ -230,7 +230,7 @@ when-tokens : (o : Option (List ℕ)) → IfSome o IsPrintableName → AllByRecu
 when-tokens None h = tt
 when-tokens (Some n) h = (tt, (h, tt))
 
-option-tokens : (w : words.Word) (o : Option ℕ) → IfSome o (λ n. n < 2 ^ 63) → AllByRecursion IsPrintableToken (option_tokens w o)
+option-tokens : (w : keywords.Keyword) (o : Option ℕ) → IfSome o (λ n. n < 2 ^ 63) → AllByRecursion IsPrintableToken (option_tokens w o)
 option-tokens w None h = tt
 option-tokens w (Some n) h = (tt, (h, tt))
 
@@ -251,22 +251,22 @@ small-deadline (Some n) h = small n h.1
 
 task-printable : (version : ℕ) (t : TaskLine) → IsPrintableTaskLine t → AllByRecursion IsPrintableToken (task_tokens version t)
 task-printable version t h =
-    let us = option_tokens word.Cpu (named_cpu version t.cpu) in
-    let prio = option-tokens word.Prio t.prio (small-prio t.prio h.prio) in
-    let deadline = option-tokens word.Deadline t.deadline (small-deadline t.deadline h.deadline) in
-    let cpu = option-tokens word.Cpu (named_cpu version t.cpu) (small-cpu version t.cpu h.cpu) in
+    let us = option_tokens keyword.Cpu (named_cpu version t.cpu) in
+    let prio = option-tokens keyword.Prio t.prio (small-prio t.prio h.prio) in
+    let deadline = option-tokens keyword.Deadline t.deadline (small-deadline t.deadline h.deadline) in
+    let cpu = option-tokens keyword.Cpu (named_cpu version t.cpu) (small-cpu version t.cpu h.cpu) in
     let parts = options-each IsPrintableToken t (clock-tokens t.clock h.clock) (when-tokens t.when h.when) prio deadline in
-    (tt, (h.named, both-parts IsPrintableToken (options_of t) (Word word.Cost ∷ Number (pos t.cost) ∷ us) parts (tt, (small t.cost h.cost.1, cpu))))
+    (tt, (h.named, both-parts IsPrintableToken (options_of t) (Keyword keyword.Cost ∷ Number (pos t.cost) ∷ us) parts (tt, (small t.cost h.cost.1, cpu))))
 
 read-printable : (n w p : List ℕ) (d a : ℕ) → IsPrintableName n → d ≤ max_delay → IsPrintableName w → IsPrintableName p → a ≤ MAX_TIME
-    → AllByRecursion IsPrintableToken (assigned word.Read n ++ (source_tokens d w p ++ Word word.At ∷ Number (pos a) ∷ []))
+    → AllByRecursion IsPrintableToken (assigned keyword.Read n ++ (source_tokens d w p ++ Keyword keyword.At ∷ Number (pos a) ∷ []))
 read-printable n w p d a f short g h less = (
   tt,
   (
     f,
     (
       tt,
-      both-parts IsPrintableToken (source_tokens d w p) (Word word.At ∷ Number (pos a) ∷ []) (both-parts IsPrintableToken (delay_tokens d) (Name w ∷ Symbol Point ∷ Name p ∷ []) (each-delay-token IsPrintableToken d tt (omega (arith, short, max_delay-le))) (g, (tt, (h, tt)))) (tt, (small a less, tt)),
+      both-parts IsPrintableToken (source_tokens d w p) (Keyword keyword.At ∷ Number (pos a) ∷ []) (both-parts IsPrintableToken (delay_tokens d) (Name w ∷ Symbol Point ∷ Name p ∷ []) (each-delay-token IsPrintableToken d tt (omega (arith, short, max_delay-le))) (g, (tt, (h, tt)))) (tt, (small a less, tt)),
     ),
   ),
 )
@@ -347,15 +347,15 @@ module _ (place : Place) (after : IsAfterHeader place) where
         faultless = faultless place ts (after ts) (expression-nodes e) (omega (arith, expression-depth e));
       }
 
-  -- a line of one word
-  pub trace-line : IsLine place (Word word.Trace ∷ []) trace
-  trace-line = plain-line (Word word.Trace ∷ []) trace refl (λ k. refl, tt) a_trace (tt, tt) (λ e. tt, tt)
+  -- a line of one keyword
+  pub trace-line : IsLine place (Keyword keyword.Trace ∷ []) trace
+  trace-line = plain-line (Keyword keyword.Trace ∷ []) trace refl (λ k. refl, tt) a_trace (tt, tt) (λ e. tt, tt)
 
-  pub script-line : IsLine place (Word word.Script ∷ []) script
-  script-line = plain-line (Word word.Script ∷ []) script refl (λ k. refl, tt) a_script (tt, tt) (λ e. tt, tt)
+  pub script-line : IsLine place (Keyword keyword.Script ∷ []) script
+  script-line = plain-line (Keyword keyword.Script ∷ []) script refl (λ k. refl, tt) a_script (tt, tt) (λ e. tt, tt)
 
-  pub done-line : IsLine place (Word word.Done ∷ []) done
-  done-line = plain-line (Word word.Done ∷ []) done refl (λ k. refl, tt) an_end (tt, tt) (λ e. tt, tt)
+  pub done-line : IsLine place (Keyword keyword.Done ∷ []) done
+  done-line = plain-line (Keyword keyword.Done ∷ []) done refl (λ k. refl, tt) an_end (tt, tt) (λ e. tt, tt)
 
 pub header-line : (version : ℕ) → (1 ≤ version) × (version ≤ 2) → IsLine Header (header_tokens version) (header version)
 header-line zero h = absurd (omega (arith, h.0))

@@ -6,15 +6,15 @@ use Rattle.dbp_plan.specs.declared.node.UnOp.TheVariants as prefix_op
 use Rattle.dbp_plan.specs.Operators.{notation_of}
 use Rattle.dbp_plan.specs.Tree.{number, variable, unary, binary, choice}
 use Rattle.dia_tokens.specs.declared.token.Token.{Token}
-use Rattle.dia_tokens.specs.declared.token.Token.TheVariants.{Word, Name, Number, Symbol}
-use Rattle.dia_tokens.specs.declared.token.Word.TheVariants as word
+use Rattle.dia_tokens.specs.declared.token.Token.TheVariants.{Keyword, Name, Number, Symbol}
+use Rattle.dia_tokens.specs.declared.token.Keyword.TheVariants as keyword
 use Rattle.dia_tokens.specs.declared.token.Symbol.TheVariants as symbol
 use Rattle.dia_exprs.specs.Grammar.{Expression, operator_token, is_call}
 
 -- the operator before an operand
 abbrev pub prefix_token : UnOp → Token
 prefix_token prefix_op.Neg = Symbol symbol.Minus
-prefix_token prefix_op.Not = Word word.Not
+prefix_token prefix_op.Not = Keyword keyword.Not
 
 -- its root is an operator that is written as no call, or an `if`
 abbrev pub is_compound : Expression → Bool
@@ -32,7 +32,7 @@ abbrev pub call_tokens : BinOp → List Token → List Token → List Token
 call_tokens o xs ys = operator_token o ∷ Symbol symbol.Open ∷ (xs ++ Symbol symbol.Comma ∷ (ys ++ Symbol symbol.Close ∷ []))
 
 abbrev pub choice_tokens : List Token → List Token → List Token → List Token
-choice_tokens cs xs ys = Word word.If ∷ (cs ++ Word word.Then ∷ (xs ++ Word word.Else ∷ ys))
+choice_tokens cs xs ys = Keyword keyword.If ∷ (cs ++ Keyword keyword.Then ∷ (xs ++ Keyword keyword.Else ∷ ys))
 
 -- The tokens of an expression. Operands of operators and parts of an `if` stand in parentheses if they are compound;
 -- the arguments of a call don't.

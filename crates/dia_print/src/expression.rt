@@ -12,14 +12,14 @@ ghost use Rattle.dia_print.specs.Stands.{Stands, is_compound_node};
 use crate::Printer;
 use dbp_plan::{BinOp, Expr, Name, NoMemory, Node, Notation, UnOp};
 use dia_exprs::operator_token;
-use dia_tokens::{Symbol, Token, Word};
+use dia_tokens::{Keyword, Symbol, Token};
 
 fn prefix_token(op: UnOp) -> Token
     ensures { result ≡ prefix_token op }
 {
     match op {
         UnOp::Neg => Token::Symbol(Symbol::Minus),
-        UnOp::Not => Token::Word(Word::Not),
+        UnOp::Not => Token::Keyword(Keyword::Not),
     }
 }
 
@@ -123,11 +123,11 @@ fn push_choice(
         → Stands nodes.now other y
         → OnOk result (printer.new ≡ with_tokens printer.old (choice_tokens (operand_tokens c) (operand_tokens x) (operand_tokens y))) }
 {
-    printer.push(Token::Word(Word::If))?;
+    printer.push(Token::Keyword(Keyword::If))?;
     push_operand(printer, nodes, condition)?;
-    printer.push(Token::Word(Word::Then))?;
+    printer.push(Token::Keyword(Keyword::Then))?;
     push_operand(printer, nodes, one)?;
-    printer.push(Token::Word(Word::Else))?;
+    printer.push(Token::Keyword(Keyword::Else))?;
     push_operand(printer, nodes, other)
 }
 

@@ -9,15 +9,15 @@ ghost use Rattle.dia_print.specs.Printed.{with_tokens};
 use crate::Printer;
 use crate::expression::push_expression;
 use dbp_plan::{Name, NoMemory, Policy};
-use dia_lines::{Decl, Part, RawClock, TaskLine, policy_word};
-use dia_tokens::{Symbol, Token, Word};
+use dia_lines::{Decl, Part, RawClock, TaskLine, policy_keyword};
+use dia_tokens::{Keyword, Symbol, Token};
 
-/// The word and a number, if it is there.
-fn push_option(printer: &mut Printer, word: Word, count: Option<u64>) -> Result<(), NoMemory>
-    ensures { OnOk result (printer.new ≡ with_tokens printer.old (option_tokens word count)) }
+/// The keyword and a number, if it is there.
+fn push_option(printer: &mut Printer, keyword: Keyword, count: Option<u64>) -> Result<(), NoMemory>
+    ensures { OnOk result (printer.new ≡ with_tokens printer.old (option_tokens keyword count)) }
 {
     if let Some(count) = count {
-        printer.push(Token::Word(word))?;
+        printer.push(Token::Keyword(keyword))?;
         printer.push_count(count)?;
     }
     Ok(())
@@ -28,13 +28,13 @@ fn push_clock(printer: &mut Printer, clock: RawClock) -> Result<(), NoMemory>
 {
     match clock {
         RawClock::Every { period, offset } => {
-            printer.push(Token::Word(Word::Every))?;
+            printer.push(Token::Keyword(Keyword::Every))?;
             printer.push_count(period)?;
-            printer.push(Token::Word(Word::From))?;
+            printer.push(Token::Keyword(Keyword::From))?;
             printer.push_count(offset)
         }
         RawClock::On(event) => {
-            printer.push(Token::Word(Word::On))?;
+            printer.push(Token::Keyword(Keyword::On))?;
             printer.push(Token::Name(event))
         }
     }
@@ -45,7 +45,7 @@ fn push_when(printer: &mut Printer, input: Option<Name>) -> Result<(), NoMemory>
     ensures { OnOk result (printer.new ≡ with_tokens printer.old (when_tokens input)) }
 {
     if let Some(name) = input {
-        printer.push(Token::Word(Word::When))?;
+        printer.push(Token::Keyword(Keyword::When))?;
         printer.push(Token::Name(name))?;
     }
     Ok(())
@@ -62,11 +62,11 @@ fn cpu_of_version(version: u32, cpu: u32) -> Option<u64>
     }
 }
 
-/// The word that begins a line, the name that it declares and `=`.
-fn push_assigned(printer: &mut Printer, word: Word, name: Name) -> Result<(), NoMemory>
-    ensures { OnOk result (printer.new ≡ with_tokens printer.old (assigned word name)) }
+/// The keyword that begins a line, the name that it declares and `=`.
+fn push_assigned(printer: &mut Printer, keyword: Keyword, name: Name) -> Result<(), NoMemory>
+    ensures { OnOk result (printer.new ≡ with_tokens printer.old (assigned keyword name)) }
 {
-    printer.push(Token::Word(word))?;
+    printer.push(Token::Keyword(keyword))?;
     printer.push(Token::Name(name))?;
     printer.push(Token::Symbol(Symbol::Assign))
 }
@@ -75,7 +75,7 @@ fn push_delay(printer: &mut Printer, delay: u32) -> Result<(), NoMemory>
     ensures { OnOk result (printer.new ≡ with_tokens printer.old (delay_tokens delay)) }
 {
     if delay > 0 {
-        printer.push(Token::Word(Word::Pre))?;
+        printer.push(Token::Keyword(Keyword::Pre))?;
     }
     if delay > 1 {
         printer.push_count(u64::from(delay))?;
@@ -102,7 +102,7 @@ impl Printer {
     pub fn push_header(&mut self, version: u32) -> Result<(), NoMemory>
         ensures { OnOk result (self.new ≡ with_tokens self.old (header_tokens version)) }
     {
-        self.push(Token::Word(Word::Dbp))?;
+        self.push(Token::Keyword(Keyword::Dbp))?;
         self.push_count(u64::from(version))
     }
 
@@ -110,15 +110,15 @@ impl Printer {
     pub fn push_policy(&mut self, policy: Policy) -> Result<(), NoMemory>
         ensures { OnOk result (self.new ≡ with_tokens self.old (policy_tokens policy)) }
     {
-        self.push(Token::Word(Word::Policy))?;
-        self.push(Token::Word(policy_word(policy)))
+        self.push(Token::Keyword(Keyword::Policy))?;
+        self.push(Token::Keyword(policy_keyword(policy)))
     }
 
     /// Adds the line of the tick before which tasks occur.
     pub fn push_until(&mut self, end: u64) -> Result<(), NoMemory>
         ensures { OnOk result (self.new ≡ with_tokens self.old (until_tokens end)) }
     {
-        self.push(Token::Word(Word::Until))?;
+        self.push(Token::Keyword(Keyword::Until))?;
         self.push_count(end)
     }
 
@@ -128,11 +128,11 @@ impl Printer {
     {
         match decl {
             Decl::Input(name, first) => {
-                push_assigned(self, Word::Input, name)?;
+                push_assigned(self, Keyword::Input, name)?;
                 self.push(Token::Number(first))
             }
             Decl::Event(name) => {
-                self.push(Token::Word(Word::Event))?;
+                self.push(Token::Keyword(Keyword::Event))?;
                 self.push(Token::Name(name))
             }
         }
@@ -142,15 +142,15 @@ impl Printer {
     pub fn push_task(&mut self, version: u32, task: TaskLine) -> Result<(), NoMemory>
         ensures { OnOk result (self.new ≡ with_tokens self.old (task_tokens version task)) }
     {
-        self.push(Token::Word(Word::Task))?;
+        self.push(Token::Keyword(Keyword::Task))?;
         self.push(Token::Name(task.name))?;
         push_clock(self, task.clock)?;
         push_when(self, task.when)?;
-        push_option(self, Word::Prio, task.prio.map(u64::from))?;
-        push_option(self, Word::Deadline, task.deadline)?;
-        self.push(Token::Word(Word::Cost))?;
+        push_option(self, Keyword::Prio, task.prio.map(u64::from))?;
+        push_option(self, Keyword::Deadline, task.deadline)?;
+        self.push(Token::Keyword(Keyword::Cost))?;
         self.push_count(task.cost)?;
-        push_option(self, Word::Cpu, cpu_of_version(version, task.cpu))
+        push_option(self, Keyword::Cpu, cpu_of_version(version, task.cpu))
     }
 
     /// Adds a line of a task's body, without the spaces before it.
@@ -159,11 +159,11 @@ impl Printer {
     {
         match part {
             Part::State(name, first) => {
-                push_assigned(self, Word::State, *name)?;
+                push_assigned(self, Keyword::State, *name)?;
                 self.push(Token::Number(*first))
             }
             Part::Sense(name, input) => {
-                push_assigned(self, Word::Sense, *name)?;
+                push_assigned(self, Keyword::Sense, *name)?;
                 self.push(Token::Name(*input))
             }
             Part::Read {
@@ -173,23 +173,23 @@ impl Printer {
                 port,
                 at,
             } => {
-                push_assigned(self, Word::Read, *name)?;
+                push_assigned(self, Keyword::Read, *name)?;
                 push_source(self, *delay, *task, *port)?;
-                self.push(Token::Word(Word::At))?;
+                self.push(Token::Keyword(Keyword::At))?;
                 self.push_count(*at)
             }
             Part::Let(name, expr) => {
-                push_assigned(self, Word::Let, *name)?;
+                push_assigned(self, Keyword::Let, *name)?;
                 push_expression(self, expr)
             }
             Part::Next(name, expr) => {
-                push_assigned(self, Word::Next, *name)?;
+                push_assigned(self, Keyword::Next, *name)?;
                 push_expression(self, expr)
             }
             Part::Out(name, first, expr) => {
-                push_assigned(self, Word::Out, *name)?;
+                push_assigned(self, Keyword::Out, *name)?;
                 self.push(Token::Number(*first))?;
-                self.push(Token::Word(Word::Then))?;
+                self.push(Token::Keyword(Keyword::Then))?;
                 push_expression(self, expr)
             }
         }

@@ -55,7 +55,7 @@ fn edge_of(token: &Token) -> Edge
 {
     match token {
         Token::Symbol(Symbol::Open | Symbol::Point) => Edge::Tight,
-        Token::Word(word) if word.begins_call() => Edge::Call,
+        Token::Keyword(keyword) if keyword.begins_call() => Edge::Call,
         _ => Edge::Loose,
     }
 }
@@ -125,7 +125,7 @@ impl Printer {
     {
         self.push_gap(&token)?;
         match token {
-            Token::Word(word) => self.push_text(word.text())?,
+            Token::Keyword(keyword) => self.push_text(keyword.text())?,
             Token::Name(name) => self.push_text(name.bytes())?,
             Token::Number(number) => self.push_number(number)?,
             Token::Symbol(symbol) => self.push_symbol(symbol)?,

@@ -11,7 +11,7 @@ use Rattle.dbp_plan.specs.declared.diagram.Policy.{Policy}
 use Rattle.dbp_plan.specs.declared.diagram.Policy.TheVariants.{Fp}
 use Rattle.dbp_plan.specs.declared.limits.TheConstants.{MAX_TASKS, MAX_INPUTS, MAX_EVENTS, MAX_READS, MAX_READ_LINES, MAX_OUTS, MAX_BODY, MAX_TIME, MAX_PRIO, MAX_CPU}
 use Rattle.dia_tokens.specs.declared.token.Token.TheVariants as token
-use Rattle.dia_tokens.specs.declared.token.Word.TheVariants as word
+use Rattle.dia_tokens.specs.declared.token.Keyword.TheVariants as keyword
 use Rattle.dia_tokens.specs.Line.{Spells as SpellsTokens}
 use Rattle.dia_tokens.specs.TokenText.{line_text, line_of}
 use Rattle.dia_tokens.proofs.LineSpells.{line-spells}
@@ -349,19 +349,19 @@ no-room : (ss : List Statement) (d : Draft) → Prints ss d → (s : Statement) 
 no-room ss d p s e = e
 
 trace-follows : (bytes rest : List ℕ) (v : ℕ) (p : Policy) (end : ℕ) (ds : List Decl) (ts : Tasks) (sc : Section) (place : Place) (text : Option (List ℕ)) → IsOpen place → IfSome text (KeepsItself SaysInTrace row)
-    → At bytes (section_lines word.Trace text ++ rest) place (content v p end ds ts empty_section sc) → AfterTrace bytes rest v p end ds ts (section_of text) sc
+    → At bytes (section_lines keyword.Trace text ++ rest) place (content v p end ds ts empty_section sc) → AfterTrace bytes rest v p end ds ts (section_of text) sc
 trace-follows bytes rest v p end ds ts sc place None o h at = record { place = place; before_script = no_trace place o; at = at }
 trace-follows bytes rest v p end ds ts sc place (Some text) o h at =
     let lines = h.0 in
     let begun : Section = record { begun = true; text = [] } in
-    let next = token-line bytes (text ++ rest) place Trace (content v p end ds ts empty_section sc) (token.Word word.Trace ∷ []) trace line.Trace (trace-line place (open-after place o))
-    (open-diagram place o) (to-trace place o) refl refl (λ ss d is prints. refl) tt (at-same bytes _ _ place _ (append_assoc (line_of (token.Word word.Trace ∷ [])) text rest) at) in
+    let next = token-line bytes (text ++ rest) place Trace (content v p end ds ts empty_section sc) (token.Keyword keyword.Trace ∷ []) trace line.Trace (trace-line place (open-after place o))
+    (open-diagram place o) (to-trace place o) refl refl (λ ss d is prints. refl) tt (at-same bytes _ _ place _ (append_assoc (line_of (token.Keyword keyword.Trace ∷ [])) text rest) at) in
     let rows = rows-follow bytes rest v p end ds ts begun sc lines (recursion_from_All (λ l. SaysInTrace l (row l)) lines h.2) (subst (λ t. At bytes (t ++ rest) Trace (content v p end ds ts begun sc)) h.1 next) in
     record { place = Trace; before_script = in_trace; at = subst (λ t. At bytes rest Trace (content v p end ds ts (record { begun = true; text = t }) sc)) (sym h.1) rows }
 
--- the word alone on its line
-word-alone : (text : List ℕ) → IsAlone text text
-word-alone text = ([], [], refl, refl, sym (append-nil text))
+-- the keyword alone on its line
+keyword-alone : (text : List ℕ) → IsAlone text text
+keyword-alone text = ([], [], refl, refl, sym (append-nil text))
 
 data IsBeforeEnd : Place → Type 0 where
   no_script : (place : Place) → IsBeforeScript place → IsBeforeEnd place
@@ -373,35 +373,35 @@ record AfterScript (bytes rest : List ℕ) (v : ℕ) (p : Policy) (end : ℕ) (d
   at : At bytes rest place (content v p end ds ts tr sc)
 
 script-begins : (bytes rest : List ℕ) (v : ℕ) (p : Policy) (end : ℕ) (ds : List Decl) (ts : Tasks) (tr : Section) (place : Place) → IsBeforeScript place
-    → At bytes (line_of (token.Word word.Script ∷ []) ++ rest) place (content v p end ds ts tr empty_section) → At bytes rest Script (content v p end ds ts tr (record { begun = true; text = [] }))
+    → At bytes (line_of (token.Keyword keyword.Script ∷ []) ++ rest) place (content v p end ds ts tr empty_section) → At bytes rest Script (content v p end ds ts tr (record { begun = true; text = [] }))
 script-begins bytes rest v p end ds ts tr place (no_trace q o) at =
-    token-line bytes rest q Script (content v p end ds ts tr empty_section) (token.Word word.Script ∷ []) script line.Script (script-line q (open-after q o)) (open-diagram q o) (to-script q o) refl refl (λ ss d is prints. refl) tt at
+    token-line bytes rest q Script (content v p end ds ts tr empty_section) (token.Keyword keyword.Script ∷ []) script line.Script (script-line q (open-after q o)) (open-diagram q o) (to-script q o) refl refl (λ ss d is prints. refl) tt at
 script-begins bytes rest v p end ds ts tr place in_trace at =
     next-line bytes (codes "script") rest Trace Script (content v p end ds ts tr empty_section) (says script) line.Script refl tt (λ before here. rw here refl)
-    (λ before d here named holds prints. of_the_trace (codes "script") (says script) here (script_begins (codes "script") (word-alone (codes "script")))) at
+    (λ before d here named holds prints. of_the_trace (codes "script") (says script) here (script_begins (codes "script") (keyword-alone (codes "script")))) at
 
 script-follows : (bytes rest : List ℕ) (v : ℕ) (p : Policy) (end : ℕ) (ds : List Decl) (ts : Tasks) (tr : Section) (place : Place) (text : Option (List ℕ)) → IsBeforeScript place → IfSome text (KeepsItself SaysInScript step)
-    → At bytes (section_lines word.Script text ++ rest) place (content v p end ds ts tr empty_section) → AfterScript bytes rest v p end ds ts tr (section_of text)
+    → At bytes (section_lines keyword.Script text ++ rest) place (content v p end ds ts tr empty_section) → AfterScript bytes rest v p end ds ts tr (section_of text)
 script-follows bytes rest v p end ds ts tr place None b h at = record { place = place; before_end = no_script place b; at = at }
 script-follows bytes rest v p end ds ts tr place (Some text) b h at =
     let lines = h.0 in
     let begun : Section = record { begun = true; text = [] } in
-    let next = script-begins bytes (text ++ rest) v p end ds ts tr place b (at-same bytes _ _ place _ (append_assoc (line_of (token.Word word.Script ∷ [])) text rest) at) in
+    let next = script-begins bytes (text ++ rest) v p end ds ts tr place b (at-same bytes _ _ place _ (append_assoc (line_of (token.Keyword keyword.Script ∷ [])) text rest) at) in
     let steps = steps-follow bytes rest v p end ds ts tr begun lines (recursion_from_All (λ l. SaysInScript l (step l)) lines h.2) (subst (λ t. At bytes (t ++ rest) Script (content v p end ds ts tr begun)) h.1 next) in
     record { place = Script; before_end = in_script; at = subst (λ t. At bytes rest Script (content v p end ds ts tr (record { begun = true; text = t }))) (sym h.1) steps }
 
 -- ---- the end
 
-done-spelled : SpellsTokens (line_text (token.Word word.Done ∷ [])) (token.Word word.Done ∷ [])
-done-spelled = let is = done-line BodyPlace body-after in line-spells (token.Word word.Done ∷ []) is.printable is.signs
+done-spelled : SpellsTokens (line_text (token.Keyword keyword.Done ∷ [])) (token.Keyword keyword.Done ∷ [])
+done-spelled = let is = done-line BodyPlace body-after in line-spells (token.Keyword keyword.Done ∷ []) is.printable is.signs
 
 end-follows : (bytes : List ℕ) (v : ℕ) (p : Policy) (end : ℕ) (ds : List Decl) (ts : Tasks) (tr sc : Section) (place : Place) → IsBeforeEnd place
-    → At bytes (line_of (token.Word word.Done ∷ []) ++ []) place (content v p end ds ts tr sc) → At bytes [] Ended (content v p end ds ts tr sc)
+    → At bytes (line_of (token.Keyword keyword.Done ∷ []) ++ []) place (content v p end ds ts tr sc) → At bytes [] Ended (content v p end ds ts tr sc)
 end-follows bytes v p end ds ts tr sc place (no_script q (no_trace r o)) at =
-    token-line bytes [] r Ended (content v p end ds ts tr sc) (token.Word word.Done ∷ []) done line.Done (done-line r (open-after r o)) (open-diagram r o) (to-end r o) refl refl (λ ss d is prints. refl) tt at
+    token-line bytes [] r Ended (content v p end ds ts tr sc) (token.Keyword keyword.Done ∷ []) done line.Done (done-line r (open-after r o)) (open-diagram r o) (to-end r o) refl refl (λ ss d is prints. refl) tt at
 end-follows bytes v p end ds ts tr sc place (no_script q in_trace) at =
     next-line bytes (codes "done") [] Trace Ended (content v p end ds ts tr sc) (says done) line.Done refl tt (λ before here. rw here refl)
-    (λ before d here named holds prints. of_the_trace (codes "done") (says done) here (trace_ends (codes "done") (word-alone (codes "done")))) at
+    (λ before d here named holds prints. of_the_trace (codes "done") (says done) here (trace_ends (codes "done") (keyword-alone (codes "done")))) at
 end-follows bytes v p end ds ts tr sc place in_script at =
     next-line bytes (codes "done") [] Script Ended (content v p end ds ts tr sc) (says done) line.Done refl tt (λ before here. rw here refl)
     (λ before d here named holds prints. of_the_script (codes "done") (says done) here (script_ends (codes "done") done-spelled)) at
@@ -426,15 +426,15 @@ eight a b c d e f g h = simp (append_assoc, append-nil)
 pub round-trip : (body : Body) → IsPrintable body → SpellsBody (canonical_text body) body
 round-trip body h =
     let bytes = canonical_text body in
-    let last : List ℕ = line_of (token.Word word.Done ∷ []) ++ [] in
-    let script_and_last : List ℕ = section_lines word.Script body.script ++ last in
-    let sections : List ℕ = section_lines word.Trace body.trace ++ script_and_last in
+    let last : List ℕ = line_of (token.Keyword keyword.Done ∷ []) ++ [] in
+    let script_and_last : List ℕ = section_lines keyword.Script body.script ++ last in
+    let sections : List ℕ = section_lines keyword.Trace body.trace ++ script_and_last in
     let tasks : List ℕ = flat_map (task_text body.version) body.tasks ++ sections in
     let decls : List ℕ = flat_map decl_text body.decls ++ tasks in
     let none : Tasks = record { earlier = []; latest = None } in
     let empty = empty_section in
     let start = at-same bytes _ _ Header _ (eight (line_of (header_tokens body.version)) (line_of (policy_tokens body.policy)) (line_of (until_tokens body.until)) (flat_map decl_text body.decls) (flat_map (task_text body.version) body.tasks)
-    (section_lines word.Trace body.trace) (section_lines word.Script body.script) (line_of (token.Word word.Done ∷ []))) (at-start bytes) in
+    (section_lines keyword.Trace body.trace) (section_lines keyword.Script body.script) (line_of (token.Keyword keyword.Done ∷ []))) (at-start bytes) in
     let one = token-line bytes (line_of (policy_tokens body.policy) ++ (line_of (until_tokens body.until) ++ decls)) Header PolicyPlace (content 1 Fp 0 [] none empty empty) (header_tokens body.version) (header body.version) (line.Header body.version) (header-line body.version h.version)
     refl refl refl refl (λ ss d is prints. refl) refl start in
     let two = token-line bytes (line_of (until_tokens body.until) ++ decls) PolicyPlace Until (content body.version Fp 0 [] none empty empty) (policy_tokens body.policy) (policy body.policy) (line.Policy body.policy)

@@ -15,15 +15,15 @@ use Rattle.dbp_plan.specs.Tree.{number, variable, unary, binary, choice, size_of
 use Rattle.dia_tokens.specs.declared.edge.Edge.{Edge}
 use Rattle.dia_tokens.specs.declared.edge.Edge.TheVariants.{Tight}
 use Rattle.dia_tokens.specs.declared.token.Token.{Token}
-use Rattle.dia_tokens.specs.declared.token.Token.TheVariants.{Word, Name, Number, Symbol}
-use Rattle.dia_tokens.specs.declared.token.Word as words
-use Rattle.dia_tokens.specs.declared.token.Word.TheVariants as word
+use Rattle.dia_tokens.specs.declared.token.Token.TheVariants.{Keyword, Name, Number, Symbol}
+use Rattle.dia_tokens.specs.declared.token.Keyword as keywords
+use Rattle.dia_tokens.specs.declared.token.Keyword.TheVariants as keyword
 use Rattle.dia_tokens.specs.declared.token.Symbol as symbols
 use Rattle.dia_tokens.specs.declared.token.Symbol.TheVariants as symbol
 use Rattle.dia_tokens.specs.Printable.{IsPrintableNumber, IsPrintableToken}
 use Rattle.dia_tokens.specs.Spelling.{symbol_text}
 use Rattle.dia_tokens.specs.TokenText.{edge_of, gap, is_apart, line_of, line_text, text_after, token_text}
-use Rattle.dia_tokens.proofs.WordLaws.{word-length}
+use Rattle.dia_tokens.proofs.KeywordLaws.{keyword-length}
 use Rattle.dia_exprs.specs.Grammar.{Expression, operator_token, is_call}
 use Rattle.dia_lines.specs.Delays.{delay_tokens}
 use Rattle.dia_lines.specs.declared.item.Decl.{Decl}
@@ -55,7 +55,7 @@ number-short (pos n) fits = omega (arith, length_signed_le 20 (pos n) (omega ari
 number-short (negsuc n) fits = omega (arith, length_signed_le 20 (negsuc n) (omega arith) fits)
 
 token-short : (t : Token) → IsPrintableToken t → length (token_text t) ≤ 24
-token-short (Word w) prints = omega (arith, word-length w)
+token-short (Keyword w) prints = omega (arith, keyword-length w)
 token-short (Name text) prints = prints.0.fits
 token-short (Number z) prints = number-short z prints
 token-short (Symbol s) prints = symbol-short s
@@ -103,11 +103,11 @@ tokens-few (binary o x y) =
     (omega (arith, called-few o (tokens_of x) (tokens_of y), left, right))
     (omega (arith, length-append (operand_tokens x) (operator_token o ∷ operand_tokens y), enclosed-few (is_compound x) (tokens_of x), enclosed-few (is_compound y) (tokens_of y), left, right))
 tokens-few (choice c x y) =
-    let after : List Token = operand_tokens x ++ Word word.Else ∷ operand_tokens y in
+    let after : List Token = operand_tokens x ++ Keyword keyword.Else ∷ operand_tokens y in
     omega (
       arith,
-      length-append (operand_tokens c) (Word word.Then ∷ after),
-      length-append (operand_tokens x) (Word word.Else ∷ operand_tokens y),
+      length-append (operand_tokens c) (Keyword keyword.Then ∷ after),
+      length-append (operand_tokens x) (Keyword keyword.Else ∷ operand_tokens y),
       enclosed-few (is_compound c) (tokens_of c),
       enclosed-few (is_compound x) (tokens_of x),
       enclosed-few (is_compound y) (tokens_of y),
@@ -129,7 +129,7 @@ clock-few : (c : RawClock) → length (clock_tokens c) ≤ 4
 clock-few (Every period offset) = omega arith
 clock-few (On n) = omega arith
 
-option-few : (w : words.Word) (o : Option ℕ) → length (option_tokens w o) ≤ 2
+option-few : (w : keywords.Keyword) (o : Option ℕ) → length (option_tokens w o) ≤ 2
 option-few w None = omega arith
 option-few w (Some n) = omega arith
 
@@ -141,25 +141,25 @@ task-few : (version : ℕ) (t : TaskLine) → length (task_tokens version t) ≤
 task-few version t =
     let cs = clock_tokens t.clock in
     let ws = when_tokens t.when in
-    let ps = option_tokens word.Prio t.prio in
-    let ds = option_tokens word.Deadline t.deadline in
-    let us = option_tokens word.Cpu (named_cpu version t.cpu) in
+    let ps = option_tokens keyword.Prio t.prio in
+    let ds = option_tokens keyword.Deadline t.deadline in
+    let us = option_tokens keyword.Cpu (named_cpu version t.cpu) in
     omega (
       arith,
-      length-append (cs ++ ws ++ ps ++ ds) (Word word.Cost ∷ Number (pos t.cost) ∷ us),
+      length-append (cs ++ ws ++ ps ++ ds) (Keyword keyword.Cost ∷ Number (pos t.cost) ∷ us),
       length-append (cs ++ ws ++ ps) ds,
       length-append (cs ++ ws) ps,
       length-append cs ws,
       clock-few t.clock,
       when-few t.when,
-      option-few word.Cpu (named_cpu version t.cpu),
-      option-few word.Prio t.prio,
-      option-few word.Deadline t.deadline,
+      option-few keyword.Cpu (named_cpu version t.cpu),
+      option-few keyword.Prio t.prio,
+      option-few keyword.Deadline t.deadline,
     )
 
 delay-few : (d : ℕ) → length (delay_tokens d) ≤ 2
 delay-few d =
-    either-few (d == 0) [] _ 2 (omega arith) (either-few (d == 1) (Word word.Pre ∷ []) (Word word.Pre ∷ Number (pos d) ∷ []) 2 (omega arith) (omega arith))
+    either-few (d == 0) [] _ 2 (omega arith) (either-few (d == 1) (Keyword keyword.Pre ∷ []) (Keyword keyword.Pre ∷ Number (pos d) ∷ []) 2 (omega arith) (omega arith))
 
 part-few : (p : Part) → length (part_tokens p) ≤ 600
 part-few (part.State n v) = omega arith
@@ -167,7 +167,7 @@ part-few (part.Sense n i) = omega arith
 part-few (part.Read n d w p a) =
     omega (
       arith,
-      length-append (source_tokens d w p) (Word word.At ∷ Number (pos a) ∷ []),
+      length-append (source_tokens d w p) (Keyword keyword.At ∷ Number (pos a) ∷ []),
       length-append (delay_tokens d) (Name w ∷ Symbol symbol.Point ∷ Name p ∷ []),
       delay-few d,
     )
@@ -212,10 +212,10 @@ abbrev pub kept_bytes : Option (List ℕ) → ℕ
 kept_bytes None = 0
 kept_bytes (Some text) = length text
 
-section-short : (w : words.Word) (section : Option (List ℕ)) → length (section_lines w section) ≤ 26 + kept_bytes section
+section-short : (w : keywords.Keyword) (section : Option (List ℕ)) → length (section_lines w section) ≤ 26 + kept_bytes section
 section-short w None = omega arith
 section-short w (Some text) =
-    omega (arith, length-append (line_of (Word w ∷ [])) text, line-short (Word w ∷ []) (All-from_recursion IsPrintableToken (Word w ∷ []) (tt, tt)))
+    omega (arith, length-append (line_of (Keyword w ∷ [])) text, line-short (Keyword w ∷ []) (All-from_recursion IsPrintableToken (Keyword w ∷ []) (tt, tt)))
 
 -- the text of a body that can be printed
 pub text-length : (body : Body) → IsPrintable body
@@ -226,9 +226,9 @@ text-length body prints =
     let c = line_of (until_tokens body.until) in
     let d = flat_map decl_text body.decls in
     let e = flat_map (task_text body.version) body.tasks in
-    let f = section_lines word.Trace body.trace in
-    let g = section_lines word.Script body.script in
-    let h = line_of (Word word.Done ∷ []) in
+    let f = section_lines keyword.Trace body.trace in
+    let g = section_lines keyword.Script body.script in
+    let h = line_of (Keyword keyword.Done ∷ []) in
     omega (
       arith,
       length-append (a ++ b ++ c ++ d ++ e ++ f ++ g) h,
@@ -244,7 +244,7 @@ text-length body prints =
       all-short IsPrintableDecl decl_text 101 decl-short body.decls (recursion_from_All IsPrintableDecl body.decls prints.decls),
       all-short IsPrintableTask (task_text body.version) 960593 (task-short body.version) body.tasks (recursion_from_All IsPrintableTask body.tasks prints.tasks),
       prints.few,
-      section-short word.Trace body.trace,
-      section-short word.Script body.script,
-      line-short (Word word.Done ∷ []) (done-line place.Ended after-end).printable,
+      section-short keyword.Trace body.trace,
+      section-short keyword.Script body.script,
+      line-short (Keyword keyword.Done ∷ []) (done-line place.Ended after-end).printable,
     )

@@ -2,8 +2,8 @@
 use Rattle.std.specs.Prelude.{ℕ, List, [], ◌∷◌, ◌++◌, codes, Option, Some, None}
 use Rattle.std.specs.List.{flat_map}
 use Rattle.dia_tokens.specs.declared.token.Token.TheVariants as token
-use Rattle.dia_tokens.specs.declared.token.Word.{Word}
-use Rattle.dia_tokens.specs.declared.token.Word.TheVariants.{Trace, Script, Done}
+use Rattle.dia_tokens.specs.declared.token.Keyword.{Keyword}
+use Rattle.dia_tokens.specs.declared.token.Keyword.TheVariants.{Trace, Script, Done}
 use Rattle.dia_lines.specs.declared.item.Decl.{Decl}
 use Rattle.dia_lines.specs.declared.item.Part.{Part}
 use Rattle.dia_tokens.specs.TokenText.{line_of}
@@ -24,17 +24,17 @@ part_text p = codes "  " ++ line_of (part_tokens p)
 abbrev pub task_text : ℕ → RawTask → List ℕ
 task_text version t = line_of (task_tokens version (first_line t)) ++ flat_map part_text t.parts
 
--- the word that begins a section, and the section's kept lines, if it is there
-abbrev pub section_lines : Word → Option (List ℕ) → List ℕ
+-- the keyword that begins a section, and the section's kept lines, if it is there
+abbrev pub section_lines : Keyword → Option (List ℕ) → List ℕ
 section_lines w None = []
-section_lines w (Some kept) = line_of (token.Word w ∷ []) ++ kept
+section_lines w (Some kept) = line_of (token.Keyword w ∷ []) ++ kept
 
 -- the canonical text
 abbrev pub canonical_text : Body → List ℕ
 canonical_text body =
     line_of (header_tokens body.version) ++ line_of (policy_tokens body.policy) ++ line_of (until_tokens body.until)
     ++ flat_map decl_text body.decls ++ flat_map (task_text body.version) body.tasks
-    ++ section_lines Trace body.trace ++ section_lines Script body.script ++ line_of (token.Word Done ∷ [])
+    ++ section_lines Trace body.trace ++ section_lines Script body.script ++ line_of (token.Keyword Done ∷ [])
 
 -- the text spells a document with this body
 pub record SpellsBody (bytes : List ℕ) (body : Body) : Type 0 where

@@ -49,7 +49,7 @@ KeepsItself Says kept text = (lines : List (List ℕ)) × (text ≡ ended_lines 
 abbrev pub IsPlainTask : RawTask → Type 0
 IsPlainTask t = (t.when ≡ None) × (t.cpu ≡ 0)
 
--- The body keeps the limits that reading tries, its names are no reserved words, its values have 64 bits, and its sections
+-- The body keeps the limits that reading tries, its names are no keywords, its values have 64 bits, and its sections
 -- have lines that are kept.
 pub record IsPrintable (body : Body) : Type 0 where
   pub version : (1 ≤ body.version) × (body.version ≤ 2)

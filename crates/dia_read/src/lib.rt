@@ -7,9 +7,9 @@
 //! shown line by line, through the invariant of the reader's own loop (`Reached`).
 #![tactic(auto)]
 
+mod add_line;
 mod document;
 mod draft;
-mod drafting;
 mod fault;
 mod laws;
 mod print;

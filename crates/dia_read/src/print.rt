@@ -2,7 +2,7 @@
 
 ghost use Rattle.std.specs.Prelude.{◌≡◌, [], ◌∷◌, IfOk, OnOk};
 ghost use Rattle.std.specs.List.{flat_map};
-ghost use Rattle.dia_tokens.specs.declared.token.Token.TheVariants.{Word as WordToken};
+ghost use Rattle.dia_tokens.specs.declared.token.Token.TheVariants.{Keyword as KeywordToken};
 ghost use Rattle.dia_tokens.specs.declared.edge.Edge.TheVariants.{Tight};
 ghost use Rattle.dia_print.specs.ItemTokens.{header_tokens, policy_tokens, until_tokens, task_tokens};
 ghost use Rattle.dia_print.specs.Printed.{with_bytes};
@@ -15,15 +15,15 @@ use crate::{Body, RawTask};
 use dbp_plan::{List, NoMemory, Policy};
 use dia_lines::{Decl, Part};
 use dia_print::Printer;
-use dia_tokens::{Token, Word};
+use dia_tokens::{Keyword, Token};
 use std::alloc::Global;
 
-// A line of the word alone.
-fn push_word(printer: &mut Printer, word: Word) -> Result<(), NoMemory>
+// A line of the keyword alone.
+fn push_keyword(printer: &mut Printer, keyword: Keyword) -> Result<(), NoMemory>
     requires { printer.old.edge ≡ Tight }
-    ensures { OnOk result (printer.new ≡ with_bytes printer.old (line_of (WordToken word ∷ []))) }
+    ensures { OnOk result (printer.new ≡ with_bytes printer.old (line_of (KeywordToken keyword ∷ []))) }
 {
-    printer.push(Token::Word(word))?;
+    printer.push(Token::Keyword(keyword))?;
     printer.end_line()
 }
 
@@ -119,17 +119,17 @@ fn push_tasks(printer: &mut Printer, version: u32, tasks: &List<RawTask>) -> Res
     Ok(())
 }
 
-// The line of the word and the kept lines, if the section is there.
+// The line of the keyword and the kept lines, if the section is there.
 fn push_section(
     printer: &mut Printer,
-    word: Word,
+    keyword: Keyword,
     section: &Option<List<u8>>,
 ) -> Result<(), NoMemory>
     requires { printer.old.edge ≡ Tight }
-    ensures { OnOk result (printer.new ≡ with_bytes printer.old (section_lines word section.now)) }
+    ensures { OnOk result (printer.new ≡ with_bytes printer.old (section_lines keyword section.now)) }
 {
     if let Some(kept) = section {
-        push_word(printer, word)?;
+        push_keyword(printer, keyword)?;
         printer.push_bytes(kept.items())?;
     }
     Ok(())
@@ -145,9 +145,9 @@ fn print_body(alloc: Global, body: &Body) -> Result<Vec<u8>, NoMemory>
     push_until(&mut printer, body.until)?;
     push_decls(&mut printer, &body.decls)?;
     push_tasks(&mut printer, body.version, &body.tasks)?;
-    push_section(&mut printer, Word::Trace, &body.trace)?;
-    push_section(&mut printer, Word::Script, &body.script)?;
-    push_word(&mut printer, Word::Done)?;
+    push_section(&mut printer, Keyword::Trace, &body.trace)?;
+    push_section(&mut printer, Keyword::Script, &body.script)?;
+    push_keyword(&mut printer, Keyword::Done)?;
     Ok(printer.into_text())
 }
 

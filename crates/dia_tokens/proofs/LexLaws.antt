@@ -10,7 +10,7 @@ use Rattle.dia_tokens.specs.declared.kind.Kind.{Kind}
 use Rattle.dia_tokens.specs.declared.kind.Kind.TheVariants.{Blank, Hash, Letter, Digit, Dash, Bang, Pair, Plain}
 use Rattle.dia_tokens.specs.Kinds.{kind_of, is_name, is_digit, is_blank, is_equals, is_name_kind, is_digit_kind, is_blank_kind}
 use Rattle.dia_tokens.specs.Pieces.{Piece, number, symbol}
-use Rattle.dia_tokens.specs.Words.{word_of}
+use Rattle.dia_tokens.specs.Keywords.{keyword_of}
 use Rattle.dia_tokens.specs.Lexes.{signs, Passes, Stops, Lexes, ends, a_comment, a_blank, a_name, a_number, a_signed_number, a_minus, an_unequal, a_short, a_long, a_plain}
 use Rattle.dia_tokens.specs.Reading.{Front, nothing, bad, found, begins, name_in, number_in, front_of, token_in, token_at}
 
@@ -78,7 +78,7 @@ nothing_left : (signed : Bool) → token_at signed [] ≡ nothing
 unfolding token_at
 nothing_left signed = refl
 
-name_front : (b : ℕ) (text rest : List ℕ) → kind_of b ≡ Letter → Passes is_name text → Stops is_name rest → name_in (b ∷ (text ++ rest)) ≡ found (word_of (b ∷ text)) rest
+name_front : (b : ℕ) (text rest : List ℕ) → kind_of b ≡ Letter → Passes is_name text → Stops is_name rest → name_in (b ∷ (text ++ rest)) ≡ found (keyword_of (b ∷ text)) rest
 name_front b text rest e h s =
     let n : prefix_len is_name (b ∷ (text ++ rest)) ≡ length (b ∷ text) = run_of is_name (b ∷ text) rest (ap is_name_kind e, h) s in
     rw (n, take_at (b ∷ text) rest (length (b ∷ text)) refl, drop_at (b ∷ text) rest (length (b ∷ text)) refl) refl
@@ -127,9 +127,9 @@ Says-name signed b bs e =
     let n : prefix_len is_name (b ∷ bs) ≡ suc (prefix_len is_name bs) = run_yes is_name b bs (ap is_name_kind e) in
     let text : List ℕ = take (prefix_len is_name bs) bs in
     let rest : List ℕ = drop (prefix_len is_name bs) bs in
-    let says : Says signed (b ∷ bs) (found (word_of (b ∷ text)) rest) = λ ts d.
-    subst (λ (l : List ℕ). Lexes signed (b ∷ l) (word_of (b ∷ text) ∷ ts)) (run_whole is_name bs) (a_name signed b text rest ts e (run_passes is_name bs) (run_stops is_name bs) d) in
-    subst (λ (k : ℕ). Says signed (b ∷ bs) (found (word_of (take k (b ∷ bs))) (drop k (b ∷ bs)))) (sym n) says
+    let says : Says signed (b ∷ bs) (found (keyword_of (b ∷ text)) rest) = λ ts d.
+    subst (λ (l : List ℕ). Lexes signed (b ∷ l) (keyword_of (b ∷ text) ∷ ts)) (run_whole is_name bs) (a_name signed b text rest ts e (run_passes is_name bs) (run_stops is_name bs) d) in
+    subst (λ (k : ℕ). Says signed (b ∷ bs) (found (keyword_of (take k (b ∷ bs))) (drop k (b ∷ bs)))) (sym n) says
 
 Says-number : (signed : Bool) (b : ℕ) (bs : List ℕ) → kind_of b ≡ Digit → Says signed (b ∷ bs) (number_in 0 (b ∷ bs))
 Says-number signed b bs e =
@@ -225,7 +225,7 @@ Inverts-at signed line ts (ends s) = inverts [] _ nothing (nothing_left s) refl
 Inverts-at signed line ts (a_comment s b bs e) = inverts [] _ nothing (at_kind s Hash b bs e refl) refl
 Inverts-at signed line ts (a_blank s b bs us e d) = inverts us _ (token_at s bs) (at_blank s b bs e) (Inverts-at s bs us d)
 Inverts-at signed line ts (a_name s b text rest us e p q d) =
-    inverts _ _ (found (word_of (b ∷ text)) rest) (at_kind s Letter b (text ++ rest) e refl ∙ name_front b text rest e p q) (us, refl, d)
+    inverts _ _ (found (keyword_of (b ∷ text)) rest) (at_kind s Letter b (text ++ rest) e refl ∙ name_front b text rest e p q) (us, refl, d)
 Inverts-at signed line ts (a_number s b text rest us e p q d) =
     inverts _ _ (found (number (b ∷ text)) rest) (at_kind s Digit b (text ++ rest) e refl ∙ digits_front b text rest e p q) (us, refl, d)
 Inverts-at signed line ts (a_signed_number dash b text rest us e f p q d) =
@@ -261,7 +261,7 @@ Shrinks-unless false line t rest h = h
 
 Shrinks-kind : (signed : Bool) (b : ℕ) (bs : List ℕ) (k : Kind) → kind_of b ≡ k → Shrinks (b ∷ bs) (front_of signed k (b ∷ bs))
 Shrinks-kind signed b bs Hash e = tt
-Shrinks-kind signed b bs Letter e = Shrinks-found is_name b bs (word_of (take (prefix_len is_name (b ∷ bs)) (b ∷ bs))) (ap is_name_kind e)
+Shrinks-kind signed b bs Letter e = Shrinks-found is_name b bs (keyword_of (take (prefix_len is_name (b ∷ bs)) (b ∷ bs))) (ap is_name_kind e)
 Shrinks-kind signed b bs Digit e =
     Shrinks-unless _ (b ∷ bs) _ _ (let n = run_yes is_digit b bs (ap is_digit_kind e) in omega (arith, length-drop (0 + prefix_len is_digit (b ∷ bs)) (b ∷ bs)))
 Shrinks-kind signed b bs Dash e = by_dash (signed && begins is_digit bs)

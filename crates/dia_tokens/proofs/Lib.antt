@@ -2,7 +2,7 @@ pub mod LexLaws
 pub mod BlankLaws
 pub mod ByteLaws
 pub mod ByteTables
-pub mod WordLaws
+pub mod KeywordLaws
 pub mod ValueLaws
 pub mod OneLine
 pub mod ReadLaws
@@ -10,4 +10,4 @@ pub mod SpellingLaws
 pub mod Spelled
 pub mod LineSpells
 pub mod TokenTexts
-pub mod WordsAlone
+pub mod KeywordsAlone

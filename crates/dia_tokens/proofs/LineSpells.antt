@@ -13,19 +13,19 @@ use Rattle.dia_tokens.specs.declared.token.Token.TheVariants as token
 use Rattle.dia_tokens.specs.Kinds.{kind_of, symbol_kind_of, is_allowed, is_name, is_digit, is_equals}
 use Rattle.dia_tokens.specs.Lexes.{signs, Passes, Stops, Lexes, ends, a_blank, a_name, a_number, a_signed_number, a_minus, an_unequal, a_short, a_long, a_plain}
 use Rattle.dia_tokens.specs.Line.{Spells}
-use Rattle.dia_tokens.specs.Pieces.{Piece, word, name, number, symbol}
+use Rattle.dia_tokens.specs.Pieces.{Piece, keyword, name, number, symbol}
 use Rattle.dia_tokens.specs.Printable.{IsPrintableNumber, IsPrintableToken}
 use Rattle.dia_tokens.specs.Shapes.{IsNameText, letters}
 use Rattle.dia_tokens.specs.Spelling.{symbol_text}
 use Rattle.dia_tokens.specs.Values.{HaveValues, none, another}
-use Rattle.dia_tokens.specs.Words.{begins_call, word_text, word_of}
+use Rattle.dia_tokens.specs.Keywords.{begins_call, keyword_text, keyword_of}
 use Rattle.dia_tokens.proofs.LexLaws.{digit_is}
-use Rattle.dia_tokens.proofs.WordLaws.{word-again}
+use Rattle.dia_tokens.proofs.KeywordLaws.{keyword-again}
 use Rattle.dia_tokens.specs.declared.edge.Edge.{Edge}
 use Rattle.dia_tokens.specs.declared.edge.Edge.TheVariants.{Tight, Call, Loose}
 use Rattle.dia_tokens.specs.TokenText.{piece_of, token_text, edge_of, is_apart, gap, text_after, line_text}
 use Rattle.dia_tokens.specs.KeepsSigns.{IsUnsigned, KeepsSigns}
-use Rattle.dia_tokens.proofs.TokenTexts.{word-shape, name-shape, digits, some-digit, token-value, token-allowed}
+use Rattle.dia_tokens.proofs.TokenTexts.{keyword-shape, name-shape, digits, some-digit, token-value, token-allowed}
 
 -- ---- where a token ends
 
@@ -85,7 +85,7 @@ ends-there Loose ts = after-loose ts
 
 -- ---- one token
 
-name-lexes : (s : Bool) (text rest : List ℕ) (p : Piece) (ps : List Piece) → IsNameText text → word_of text ≡ p → Stops is_name rest → Lexes (signs p) rest ps → Lexes s (text ++ rest) (p ∷ ps)
+name-lexes : (s : Bool) (text rest : List ℕ) (p : Piece) (ps : List Piece) → IsNameText text → keyword_of text ≡ p → Stops is_name rest → Lexes (signs p) rest ps → Lexes s (text ++ rest) (p ∷ ps)
 name-lexes s text rest p ps (letters b bs e q) is stops d =
     subst (λ (k : Piece). Lexes s (b ∷ (bs ++ rest)) (k ∷ ps)) is (a_name s b bs rest ps e q stops (subst (λ (k : Piece). Lexes (signs k) rest ps) (sym is) d))
 
@@ -126,14 +126,14 @@ symbol-lexes s symbols.Close rest ps b d = a_plain s 41 symbols.Close rest ps re
 symbol-lexes s symbols.Comma rest ps b d = a_plain s 44 symbols.Comma rest ps refl d
 symbol-lexes s symbols.Point rest ps b d = a_plain s 46 symbols.Point rest ps refl d
 
--- what stands after a word, whether it begins a call or not
-word-breaks : (calls : Bool) (rest : List ℕ) → Ends (cond calls Call Loose) rest → Breaks rest
-word-breaks true rest b = b
-word-breaks false rest b = b
+-- what stands after a keyword, whether it begins a call or not
+keyword-breaks : (calls : Bool) (rest : List ℕ) → Ends (cond calls Call Loose) rest → Breaks rest
+keyword-breaks true rest b = b
+keyword-breaks false rest b = b
 
 token-lexes : (s : Bool) (t : Token) (rest : List ℕ) (ps : List Piece) → IsPrintableToken t → (s ≡ false → IsUnsigned t) → Ends (edge_of t) rest → Lexes (signs (piece_of t)) rest ps
     → Lexes s (token_text t ++ rest) (piece_of t ∷ ps)
-token-lexes s (token.Word w) rest ps h u b d = name-lexes s (word_text w) rest (word w) ps (word-shape w) (word-again w) (word-breaks (begins_call w) rest b).names d
+token-lexes s (token.Keyword w) rest ps h u b d = name-lexes s (keyword_text w) rest (keyword w) ps (keyword-shape w) (keyword-again w) (keyword-breaks (begins_call w) rest b).names d
 token-lexes s (token.Name n) rest ps h u b d = name-lexes s n rest (name n) ps (name-shape n h.0) h.1 b.names d
 token-lexes s (token.Number z) rest ps h u b d = number-lexes s z rest ps h u b.names d
 token-lexes s (token.Symbol x) rest ps h u b d = symbol-lexes s x rest ps b d

@@ -7,18 +7,18 @@ use Rattle.dia_tokens.specs.declared.line.LineFail.TheVariants.{BadByte, BadToke
 use Rattle.dia_tokens.specs.declared.token.Token.{Token}
 use Rattle.dia_tokens.specs.declared.token.Token.TheVariants as value
 use Rattle.dia_tokens.specs.Line.{Spells, HasFault, a_bad_byte, a_bad_token, a_wide_number, a_long_name, Refuses}
-use Rattle.dia_tokens.specs.Pieces.{Piece, name, number, word, symbol}
-use Rattle.dia_tokens.specs.Values.{number_of, is_narrow, is_short, HasValue, of_word, of_name, of_number, of_symbol, HaveValues, none, another}
+use Rattle.dia_tokens.specs.Pieces.{Piece, name, number, keyword, symbol}
+use Rattle.dia_tokens.specs.Values.{number_of, is_narrow, is_short, HasValue, of_keyword, of_name, of_number, of_symbol, HaveValues, none, another}
 use Rattle.dia_tokens.proofs.LexLaws.{Lexes-one}
 
 abbrev the_token : Piece → Token
-the_token (word w) = value.Word w
+the_token (keyword w) = value.Keyword w
 the_token (name text) = value.Name text
 the_token (number text) = value.Number (number_of text)
 the_token (symbol s) = value.Symbol s
 
 token-is : (p : Piece) (t : Token) → HasValue p t → t ≡ the_token p
-token-is p t (of_word w) = refl
+token-is p t (of_keyword w) = refl
 token-is p t (of_name text e) = refl
 token-is p t (of_number text e) = refl
 token-is p t (of_symbol s) = refl
@@ -28,13 +28,13 @@ tokens-are ps ts none = refl
 tokens-are ps ts (another p t qs us h d) = rw (token-is p t h, tokens-are qs us d) refl
 
 pub narrow : (p : Piece) (t : Token) → HasValue p t → is_narrow p ≡ true
-narrow p t (of_word w) = refl
+narrow p t (of_keyword w) = refl
 narrow p t (of_name text e) = refl
 narrow p t (of_number text e) = e
 narrow p t (of_symbol s) = refl
 
 pub short : (p : Piece) (t : Token) → HasValue p t → is_short p ≡ true
-short p t (of_word w) = refl
+short p t (of_keyword w) = refl
 short p t (of_name text e) = e
 short p t (of_number text e) = refl
 short p t (of_symbol s) = refl

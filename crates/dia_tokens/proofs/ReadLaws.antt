@@ -12,10 +12,10 @@ use Rattle.dia_tokens.specs.declared.token.Token.TheVariants as value
 use Rattle.dia_tokens.specs.Kinds.{is_allowed}
 use Rattle.dia_tokens.specs.Lexes.{signs}
 use Rattle.dia_tokens.specs.Line.{Spells, HasFault, a_bad_token, a_wide_number, a_long_name, Refuses}
-use Rattle.dia_tokens.specs.Pieces.{Piece, word, name, number, symbol}
+use Rattle.dia_tokens.specs.Pieces.{Piece, keyword, name, number, symbol}
 use Rattle.dia_tokens.specs.Reading.{nothing, bad, found, token_at}
 use Rattle.dia_tokens.specs.Shapes.{FailsOn, first_fault, line_fail}
-use Rattle.dia_tokens.specs.Values.{number_of, is_narrow, is_short, HasValue, of_word, of_name, of_number, of_symbol, HaveValues, none}
+use Rattle.dia_tokens.specs.Values.{number_of, is_narrow, is_short, HasValue, of_keyword, of_name, of_number, of_symbol, HaveValues, none}
 use Rattle.dia_tokens.proofs.LexLaws.{Between, Between-starts, Between-found, Between-ends, Between-bad}
 use Rattle.dia_tokens.proofs.OneLine.{narrow, all-narrow}
 use Rattle.dia_tokens.proofs.ValueLaws.{HaveValues-push}
@@ -46,7 +46,7 @@ HasOutcome-value ps ts (Some NameTooLong) p t h v = (holds-on is_narrow ps p h.0
 long-narrow : (p : Piece) → is_short p ≡ false → is_narrow p ≡ true
 long-narrow (name text) e = refl
 long-narrow (number text) e = absurd cc
-long-narrow (word w) e = absurd cc
+long-narrow (keyword w) e = absurd cc
 long-narrow (symbol s) e = absurd cc
 
 HasOutcome-fault : (ps : List Piece) (ts : List Token) (f : Option ValueFail) (p : Piece) (e : ValueFail) → HasOutcome ps ts f → FailsOn p e → HasOutcome (ps ++ p ∷ []) ts (Some (first_fault f e))
@@ -107,7 +107,7 @@ Reads-faulty {line} {ts} {x} {signed} {rest} r e a = refused x r.outcome
 
 -- a text without a fault has a value
 pub has-value : (p : Piece) → is_narrow p ≡ true → is_short p ≡ true → (t : Token) × HasValue p t
-has-value (word w) narrow short = (value.Word w, of_word w)
+has-value (keyword w) narrow short = (value.Keyword w, of_keyword w)
 has-value (name text) narrow short = (value.Name text, of_name text short)
 has-value (number text) narrow short = (value.Number (number_of text), of_number text narrow)
 has-value (symbol s) narrow short = (value.Symbol s, of_symbol s)

@@ -12,7 +12,7 @@ use Rattle.std.proofs.lemmas.Slice.Eq.{bytes_eq-Decides}
 use Rattle.dia_tokens.specs.declared.token.Symbol.{Symbol}
 use Rattle.dia_tokens.specs.declared.token.Symbol.TheVariants.{Assign, Equal, Unequal, Less, AtMost, Greater, AtLeast, Plus, Minus, Star, Slash, Percent, Open, Close, Comma, Point}
 use Rattle.dia_tokens.specs.declared.token.Token.{Token}
-use Rattle.dia_tokens.specs.declared.token.Word.{Word}
+use Rattle.dia_tokens.specs.declared.token.Keyword.{Keyword}
 use Rattle.dia_tokens.specs.declared.kind.Kind.{Kind}
 use Rattle.dia_tokens.specs.declared.kind.Kind.TheVariants.{Blank, Hash, Letter, Digit, Dash, Bang, Pair, Plain, Other}
 use Rattle.dia_tokens.specs.Kinds.{is_allowed, kind_of, symbol_kind_of, is_name, is_digit, is_equals}
@@ -23,28 +23,28 @@ use Rattle.dia_tokens.specs.Reading.{nothing, found, token_at}
 use Rattle.dia_tokens.specs.Spelling.{symbol_text, text_of, spaced, joined, IsSpelling}
 use Rattle.dia_tokens.specs.Printable.{IsPrintableNumber, IsPrintableToken}
 use Rattle.dia_tokens.specs.Shapes.{IsNameText, letters}
-use Rattle.dia_tokens.specs.Values.{digits_value, is_negative, number_of, is_in_range, HasValue, of_word, of_name, of_number, of_symbol, HaveValues, none, another}
-use Rattle.dia_tokens.specs.Words.{word_text, all_words, word_among, or_else, word_of}
+use Rattle.dia_tokens.specs.Values.{digits_value, is_negative, number_of, is_in_range, HasValue, of_keyword, of_name, of_number, of_symbol, HaveValues, none, another}
+use Rattle.dia_tokens.specs.Keywords.{keyword_text, all_keywords, keyword_among, or_else, keyword_of}
 use Rattle.dia_tokens.proofs.ByteLaws.{dash-is}
 use Rattle.dia_tokens.proofs.LexLaws.{Inverts, Inverts-at, Lexes-one}
 use Rattle.dia_tokens.proofs.ValueLaws.{name-from-text}
 
--- ---- the texts of words
+-- ---- the texts of keywords
 
-among-is : (words : List Word) (text : List ℕ) → IfSome (word_among words text) (λ w. word_text w ≡ text)
+among-is : (keywords : List Keyword) (text : List ℕ) → IfSome (keyword_among keywords text) (λ w. keyword_text w ≡ text)
 among-is [] text = tt
 among-is (w ∷ ws) text =
-    elim (cases_Bool (bytes_eq (word_text w) text)) [
-      | inl y ↦ rw y ((bytes_eq-Decides (word_text w) text).0 y)
+    elim (cases_Bool (bytes_eq (keyword_text w) text)) [
+      | inl y ↦ rw y ((bytes_eq-Decides (keyword_text w) text).0 y)
       | inr n ↦ rw n (among-is ws text)
     ]
 
--- the text of a word or name is what was read
-pub word-spelled : (text : List ℕ) → text_of (word_of text) ≡ text
-unfolding word_of
-word-spelled text = spelled (word_among all_words text) (among-is all_words text)
+-- the text of a keyword or name is what was read
+pub keyword-spelled : (text : List ℕ) → text_of (keyword_of text) ≡ text
+unfolding keyword_of
+keyword-spelled text = spelled (keyword_among all_keywords text) (among-is all_keywords text)
   where
-    spelled : (o : Option Word) → IfSome o (λ w. word_text w ≡ text) → text_of (or_else o (name text)) ≡ text
+    spelled : (o : Option Keyword) → IfSome o (λ w. keyword_text w ≡ text) → text_of (or_else o (name text)) ≡ text
     spelled (Some w) h = h
     spelled None h = refl
 
@@ -151,7 +151,7 @@ relexed s line ps (ends t) = ends t
 relexed s line ps (a_comment t b bs e) = ends t
 relexed s line ps (a_blank t b bs us e d) = relexed t bs us d
 relexed s line ps (a_name t b text rest us e p q d) =
-    first t (word_of (b ∷ text)) us (b ∷ text) (word-spelled (b ∷ text)) (a_name t b text (left false us) us e p (Stops-space is_name us space-is_name) (later _ us (relexed _ rest us d)))
+    first t (keyword_of (b ∷ text)) us (b ∷ text) (keyword-spelled (b ∷ text)) (a_name t b text (left false us) us e p (Stops-space is_name us space-is_name) (later _ us (relexed _ rest us d)))
 relexed s line ps (a_number t b text rest us e p q d) =
     first t (number (b ∷ text)) us (b ∷ text) refl (a_number t b text (left false us) us e p (Stops-space is_name us space-is_name) (later false us (relexed false rest us d)))
 relexed s line ps (a_signed_number dash b text rest us e f p q d) =
@@ -186,7 +186,7 @@ left-fits : (s : Bool) (line : List ℕ) (ps : List Piece) → Lexes s line ps �
 left-fits s line ps (ends t) = omega arith
 left-fits s line ps (a_comment t b bs e) = omega arith
 left-fits s line ps (a_blank t b bs us e d) = omega (arith, left-fits t bs us d)
-left-fits s line ps (a_name t b text rest us e p q d) = first-fits (word_of (b ∷ text)) us (b ∷ text) rest (word-spelled (b ∷ text)) (omega arith) (left-fits _ rest us d)
+left-fits s line ps (a_name t b text rest us e p q d) = first-fits (keyword_of (b ∷ text)) us (b ∷ text) rest (keyword-spelled (b ∷ text)) (omega arith) (left-fits _ rest us d)
 left-fits s line ps (a_number t b text rest us e p q d) = first-fits (number (b ∷ text)) us (b ∷ text) rest refl (omega arith) (left-fits false rest us d)
 left-fits s line ps (a_signed_number dash b text rest us e f p q d) = first-fits (number (dash ∷ b ∷ text)) us (dash ∷ b ∷ text) rest refl (omega arith) (left-fits false rest us d)
 left-fits s line ps (a_minus t dash rest us e n d) = first-fits (symbol Minus) us (dash ∷ []) rest (minus-is dash e) (omega arith) (left-fits true rest us d)
@@ -223,7 +223,7 @@ pub joined-all : (p : ℕ → Bool) → p 32 ≡ true → (s : Bool) (line : Lis
 joined-all p i s line ps (ends t) h = refl
 joined-all p i s line ps (a_comment t b bs e) h = refl
 joined-all p i s line ps (a_blank t b bs us e d) h = joined-all p i t bs us d (and_parts (p b) (list_all p bs) h).1
-joined-all p i s line ps (a_name t b text rest us e m q d) h = first-all p i (word_of (b ∷ text)) us (b ∷ text) rest (word-spelled (b ∷ text)) h (joined-all p i _ rest us d)
+joined-all p i s line ps (a_name t b text rest us e m q d) h = first-all p i (keyword_of (b ∷ text)) us (b ∷ text) rest (keyword-spelled (b ∷ text)) h (joined-all p i _ rest us d)
 joined-all p i s line ps (a_number t b text rest us e m q d) h = first-all p i (number (b ∷ text)) us (b ∷ text) rest refl h (joined-all p i false rest us d)
 joined-all p i s line ps (a_signed_number dash b text rest us e f m q d) h = first-all p i (number (dash ∷ b ∷ text)) us (dash ∷ b ∷ text) rest refl h (joined-all p i false rest us d)
 joined-all p i s line ps (a_minus t dash rest us e n d) h = first-all p i (symbol Minus) us (dash ∷ []) rest (minus-is dash e) h (joined-all p i true rest us d)
@@ -257,16 +257,16 @@ no-feed line text ts s t = eqb-true _ 0 (sum_by-zero (λ b. cond (b == 10) 1 0) 
 -- ---- the tokens of a line can be printed
 
 abbrev IsFree : Piece → Type 0
-IsFree (name text) = IsNameText text × (word_of text ≡ name text)
+IsFree (name text) = IsNameText text × (keyword_of text ≡ name text)
 IsFree _ = Unit {0}
 
-free-text : (text : List ℕ) → IsNameText text → IsFree (word_of text)
-unfolding word_of
-free-text text shape = free (word_among all_words text) refl
+free-text : (text : List ℕ) → IsNameText text → IsFree (keyword_of text)
+unfolding keyword_of
+free-text text shape = free (keyword_among all_keywords text) refl
   where
-    free : (o : Option Word) → word_among all_words text ≡ o → IsFree (or_else o (name text))
+    free : (o : Option Keyword) → keyword_among all_keywords text ≡ o → IsFree (or_else o (name text))
     free (Some w) e = tt
-    free None e = (shape, ap (λ (o : Option Word). or_else o (name text)) e)
+    free None e = (shape, ap (λ (o : Option Keyword). or_else o (name text)) e)
 
 free-texts : (s : Bool) (line : List ℕ) (ps : List Piece) → Lexes s line ps → AllByRecursion IsFree ps
 free-texts s line ps (ends t) = tt
@@ -294,7 +294,7 @@ printable-number text h = either (is_negative text) refl h
     either false e k = grind (arith, nat_tests)
 
 printable-token : (p : Piece) (t : Token) → HasValue p t → IsFree p → IsPrintableToken t
-printable-token p t (of_word w) f = tt
+printable-token p t (of_keyword w) f = tt
 printable-token p t (of_name text e) f = (name-from-text text f.0 e, f.1)
 printable-token p t (of_number text e) f = printable-number text e
 printable-token p t (of_symbol s) f = tt

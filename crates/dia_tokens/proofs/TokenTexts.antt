@@ -13,17 +13,17 @@ use Rattle.dia_tokens.specs.declared.token.Symbol.{Symbol}
 use Rattle.dia_tokens.specs.declared.token.Symbol.TheVariants as symbols
 use Rattle.dia_tokens.specs.declared.token.Token.{Token}
 use Rattle.dia_tokens.specs.declared.token.Token.TheVariants as token
-use Rattle.dia_tokens.specs.declared.token.Word.{Word}
+use Rattle.dia_tokens.specs.declared.token.Keyword.{Keyword}
 use Rattle.dia_tokens.specs.Kinds.{kind_of, symbol_kind_of, is_allowed, is_name, is_name_kind, is_digit}
 use Rattle.dia_tokens.specs.Lexes.{Passes}
 use Rattle.dia_tokens.specs.Printable.{IsPrintableNumber, IsPrintableToken}
 use Rattle.dia_tokens.specs.Shapes.{IsNameText, letters}
 use Rattle.dia_tokens.specs.Spelling.{symbol_text}
-use Rattle.dia_tokens.specs.Values.{digits_value, is_negative, number_of, is_in_range, HasValue, of_word, of_name, of_number, of_symbol}
-use Rattle.dia_tokens.specs.Words.{word_text}
+use Rattle.dia_tokens.specs.Values.{digits_value, is_negative, number_of, is_in_range, HasValue, of_keyword, of_name, of_number, of_symbol}
+use Rattle.dia_tokens.specs.Keywords.{keyword_text}
 use Rattle.dia_tokens.proofs.ByteLaws.{digit-bounds}
 use Rattle.dia_tokens.proofs.ValueLaws.{own, name-fits}
-use Rattle.dia_tokens.proofs.WordLaws.{each}
+use Rattle.dia_tokens.proofs.KeywordLaws.{each}
 use Rattle.dia_tokens.specs.TokenText.{piece_of, token_text}
 
 -- ---- names
@@ -45,9 +45,9 @@ shape : (text : List ℕ) → is_name_text text ≡ true → IsNameText text
 shape [] e = absurd cc
 shape (b ∷ bs) e = let both = and_parts (nat_le 97 b && nat_le b 122) (list_all is_name bs) e in letters b bs (letter b both.0) (passes is_name bs both.1)
 
-pub word-shape : (w : Word) → IsNameText (word_text w)
+pub keyword-shape : (w : Keyword) → IsNameText (keyword_text w)
 unfolding kind_of symbol_kind_of
-word-shape w = shape (word_text w) (each (λ w. is_name_text (word_text w)) refl w)
+keyword-shape w = shape (keyword_text w) (each (λ w. is_name_text (keyword_text w)) refl w)
 
 name-at : (b : ℕ) → IsTrue (is_name_byte b) → is_name b ≡ true
 unfolding kind_of symbol_kind_of
@@ -89,7 +89,7 @@ number-is (negsuc n) h = let is = value (suc n) (omega arith) in (rw is (grind (
 
 -- the token is the value of its text
 pub token-value : (t : Token) → IsPrintableToken t → HasValue (piece_of t) t
-token-value (token.Word w) h = of_word w
+token-value (token.Keyword w) h = of_keyword w
 token-value (token.Name n) h = of_name n (name-fits n h.0)
 token-value (token.Number z) h = let is = number-is z h in subst (λ v. HasValue (piece_of (token.Number z)) (token.Number v)) is.1 (of_number (signed_decimal z) is.0)
 token-value (token.Symbol s) h = of_symbol s
@@ -120,7 +120,7 @@ symbol-allowed _ = refl
 
 -- the bytes of a token may stand on a line
 pub token-allowed : (t : Token) → IsPrintableToken t → list_all is_allowed (token_text t) ≡ true
-token-allowed (token.Word w) h = shape-allowed (word_text w) (word-shape w)
+token-allowed (token.Keyword w) h = shape-allowed (keyword_text w) (keyword-shape w)
 token-allowed (token.Name n) h = shape-allowed n (name-shape n h.0)
 token-allowed (token.Number z) h = number-allowed z h
 token-allowed (token.Symbol s) h = symbol-allowed s

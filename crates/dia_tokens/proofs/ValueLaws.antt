@@ -14,7 +14,7 @@ use Rattle.dbp_plan.specs.declared.limits.TheConstants.{MAX_NAME}
 use Rattle.dbp_plan.specs.Name.{IsName, is_name_byte}
 use Rattle.dia_tokens.specs.declared.token.Symbol.TheVariants.{Unequal, Minus}
 use Rattle.dia_tokens.specs.declared.token.Token.{Token}
-use Rattle.dia_tokens.specs.declared.token.Word.{Word}
+use Rattle.dia_tokens.specs.declared.token.Keyword.{Keyword}
 use Rattle.dia_tokens.specs.declared.kind.Kind.{Kind}
 use Rattle.dia_tokens.specs.declared.kind.Kind.TheVariants.{Letter, Digit, Dash, Bang, Pair, Plain}
 use Rattle.dia_tokens.specs.Kinds.{kind_of, is_name, is_digit, is_blank, is_equals, is_name_kind, is_digit_kind}
@@ -23,7 +23,7 @@ use Rattle.dia_tokens.specs.Pieces.{Piece, name, number, symbol}
 use Rattle.dia_tokens.specs.Reading.{Front, bad, found, begins, number_in, front_of, token_in, token_at}
 use Rattle.dia_tokens.specs.Shapes.{IsNameText, letters, IsNumberText, plain, negative, IsShaped}
 use Rattle.dia_tokens.specs.Values.{digits_after, digits_value, is_negative, number_of, is_in_range, HasValue, HaveValues, none, another}
-use Rattle.dia_tokens.specs.Words.{or_else, all_words, word_among, word_of}
+use Rattle.dia_tokens.specs.Keywords.{or_else, all_keywords, keyword_among, keyword_of}
 use Rattle.dia_tokens.proofs.LexLaws.{run_yes, run_passes, digit_is}
 use Rattle.dia_tokens.proofs.ByteLaws.{digit-bounds, digit-at, dash-is, letter-begins, name-byte}
 
@@ -105,13 +105,13 @@ number-none text None h = h
 
 -- ---- the shapes of a line's texts
 
-or-shaped : (o : Option Word) (p : Piece) → IsShaped p → IsShaped (or_else o p)
+or-shaped : (o : Option Keyword) (p : Piece) → IsShaped p → IsShaped (or_else o p)
 or-shaped (Some w) p h = tt
 or-shaped None p h = h
 
-word-shaped : (text : List ℕ) → IsNameText text → IsShaped (word_of text)
-unfolding word_of
-word-shaped text h = or-shaped (word_among all_words text) (name text) h
+keyword-shaped : (text : List ℕ) → IsNameText text → IsShaped (keyword_of text)
+unfolding keyword_of
+keyword-shaped text h = or-shaped (keyword_among all_keywords text) (name text) h
 
 abbrev ShapedFront : Front → Type 0
 ShapedFront (found p rest) = IsShaped p
@@ -136,7 +136,7 @@ shaped-dash false dash bs e h = tt
 shaped-kind : (signed : Bool) (b : ℕ) (bs : List ℕ) (k : Kind) → kind_of b ≡ k → ShapedFront (front_of signed k (b ∷ bs))
 shaped-kind signed b bs Letter e =
     let size = run_yes is_name b bs (ap is_name_kind e) in
-    subst (λ (n : ℕ). IsShaped (word_of (take n (b ∷ bs)))) (sym size) (word-shaped (b ∷ take (prefix_len is_name bs) bs) (letters b (take (prefix_len is_name bs) bs) e (run_passes is_name bs)))
+    subst (λ (n : ℕ). IsShaped (keyword_of (take n (b ∷ bs)))) (sym size) (keyword-shaped (b ∷ take (prefix_len is_name bs) bs) (letters b (take (prefix_len is_name bs) bs) e (run_passes is_name bs)))
 shaped-kind signed b bs Digit e =
     let size : 0 + prefix_len is_digit (b ∷ bs) ≡ suc (prefix_len is_digit bs) = let m = run_yes is_digit b bs (ap is_digit_kind e) in omega arith in
     shaped-number 0 (b ∷ bs) (b ∷ take (prefix_len is_digit bs) bs) (ap (λ (n : ℕ). take n (b ∷ bs)) size) (plain b _ e (run_passes is_digit bs))

@@ -11,7 +11,7 @@ IsUnsigned (Number (negsuc n)) = ⊥
 IsUnsigned _ = Unit {0}
 
 -- Negative numbers stand only where a `-` belongs to the number after it: as the first token if signed says so, or
--- after a reserved word or a symbol other than `)`.
+-- after a keyword or a symbol other than `)`.
 abbrev pub KeepsSigns : Bool → List Token → Type 0
 KeepsSigns signed [] = Unit {0}
 KeepsSigns signed (t ∷ ts) = (signed ≡ false → IsUnsigned t) × KeepsSigns (signs (piece_of t)) ts

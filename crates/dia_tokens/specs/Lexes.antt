@@ -5,7 +5,7 @@ use Rattle.dia_tokens.specs.declared.token.Symbol.TheVariants.{Unequal, Minus, C
 use Rattle.dia_tokens.specs.declared.kind.Kind.TheVariants.{Blank, Hash, Letter, Digit, Dash, Bang, Pair, Plain}
 use Rattle.dia_tokens.specs.Kinds.{kind_of, is_name, is_digit, is_equals}
 use Rattle.dia_tokens.specs.Pieces.{Piece, name, number, symbol}
-use Rattle.dia_tokens.specs.Words.{word_of}
+use Rattle.dia_tokens.specs.Keywords.{keyword_of}
 
 -- whether a `-` before a digit belongs to the number, if this is the token before it on the line
 abbrev pub signs : Piece → Bool
@@ -30,7 +30,7 @@ pub data Lexes : Bool → List ℕ → List Piece → Type 0 where
   a_comment : (signed : Bool) (b : ℕ) (bs : List ℕ) → kind_of b ≡ Hash → Lexes signed (b ∷ bs) []
   a_blank : (signed : Bool) (b : ℕ) (bs : List ℕ) (ps : List Piece) → kind_of b ≡ Blank → Lexes signed bs ps → Lexes signed (b ∷ bs) ps
   a_name : (signed : Bool) (b : ℕ) (text rest : List ℕ) (ps : List Piece) → kind_of b ≡ Letter → Passes is_name text → Stops is_name rest
-      → Lexes (signs (word_of (b ∷ text))) rest ps → Lexes signed (b ∷ (text ++ rest)) (word_of (b ∷ text) ∷ ps)
+      → Lexes (signs (keyword_of (b ∷ text))) rest ps → Lexes signed (b ∷ (text ++ rest)) (keyword_of (b ∷ text) ∷ ps)
   a_number : (signed : Bool) (b : ℕ) (text rest : List ℕ) (ps : List Piece) → kind_of b ≡ Digit → Passes is_digit text → Stops is_name rest
       → Lexes false rest ps → Lexes signed (b ∷ (text ++ rest)) (number (b ∷ text) ∷ ps)
   a_signed_number : (dash b : ℕ) (text rest : List ℕ) (ps : List Piece) → kind_of dash ≡ Dash → kind_of b ≡ Digit → Passes is_digit text → Stops is_name rest

@@ -10,7 +10,7 @@ pub mod Reading
 pub mod Spelling
 pub mod TokenText
 pub mod Values
-pub mod Words
+pub mod Keywords
 -- What private functions, the inside of types and proofs cite.
 pub mod Fronts
 pub mod Shapes

@@ -4,11 +4,11 @@ use Rattle.dbp_plan.specs.Name.{IsName}
 use Rattle.dia_tokens.specs.declared.token.Token.{Token}
 use Rattle.dia_tokens.specs.declared.token.Token.TheVariants.{Name, Number}
 use Rattle.dia_tokens.specs.Pieces.{name}
-use Rattle.dia_tokens.specs.Words.{word_of}
+use Rattle.dia_tokens.specs.Keywords.{keyword_of}
 
--- a name that is no reserved word
+-- a name that is no keyword
 abbrev pub IsPrintableName : List ℕ → Type 0
-IsPrintableName text = IsName text × (word_of text ≡ name text)
+IsPrintableName text = IsName text × (keyword_of text ≡ name text)
 
 -- a number from -2^63 to 2^63 - 1; `negsuc n` is -n - 1
 abbrev pub IsPrintableNumber : ℤ → Type 0

@@ -6,7 +6,7 @@ use Rattle.dia_tokens.specs.declared.kind.Kind.{Kind}
 use Rattle.dia_tokens.specs.declared.kind.Kind.TheVariants.{Hash, Letter, Digit, Dash, Bang, Pair, Plain}
 use Rattle.dia_tokens.specs.Kinds.{kind_of, is_name, is_digit, is_blank, is_equals}
 use Rattle.dia_tokens.specs.Pieces.{Piece, number, symbol}
-use Rattle.dia_tokens.specs.Words.{word_of}
+use Rattle.dia_tokens.specs.Keywords.{keyword_of}
 
 -- what stands at the front
 pub data Front : Type 0 where
@@ -19,7 +19,7 @@ begins p [] = false
 begins p (b ∷ bs) = p b
 
 abbrev pub name_in : List ℕ → Front
-name_in line = found (word_of (take (prefix_len is_name line) line)) (drop (prefix_len is_name line) line)
+name_in line = found (keyword_of (take (prefix_len is_name line) line)) (drop (prefix_len is_name line) line)
 
 -- a number after so many bytes of sign
 abbrev pub number_in : ℕ → List ℕ → Front

@@ -3,8 +3,8 @@ use Rattle.std.specs.Prelude.{◌≡◌, ℕ, Bool, true, false, List, [], ◌�
 use Rattle.dia_tokens.specs.declared.token.Symbol.{Symbol}
 use Rattle.dia_tokens.specs.declared.token.Symbol.TheVariants.{Assign, Equal, Unequal, Less, AtMost, Greater, AtLeast, Plus, Minus, Star, Slash, Percent, Open, Close, Comma, Point}
 use Rattle.dia_tokens.specs.Lexes.{Lexes}
-use Rattle.dia_tokens.specs.Pieces.{Piece, word, name, number, symbol}
-use Rattle.dia_tokens.specs.Words.{word_text}
+use Rattle.dia_tokens.specs.Pieces.{Piece, keyword, name, number, symbol}
+use Rattle.dia_tokens.specs.Keywords.{keyword_text}
 
 abbrev pub symbol_text : Symbol → List ℕ
 symbol_text Assign = codes "="
@@ -25,7 +25,7 @@ symbol_text Comma = codes ","
 symbol_text Point = codes "."
 
 abbrev pub text_of : Piece → List ℕ
-text_of (word w) = word_text w
+text_of (keyword w) = keyword_text w
 text_of (name text) = text
 text_of (number text) = text
 text_of (symbol s) = symbol_text s

@@ -2,17 +2,17 @@
 use Rattle.std.specs.Prelude.{ℕ, Bool, true, false, ◌||◌, if◌then◌else◌, List, [], ◌∷◌, ◌++◌}
 use Rattle.std.specs.Fmt.{signed_decimal}
 use Rattle.dia_tokens.specs.declared.token.Token.{Token}
-use Rattle.dia_tokens.specs.declared.token.Token.TheVariants.{Word, Name, Number, Symbol}
+use Rattle.dia_tokens.specs.declared.token.Token.TheVariants.{Keyword, Name, Number, Symbol}
 use Rattle.dia_tokens.specs.declared.token.Symbol.TheVariants.{Open, Close, Comma, Point}
-use Rattle.dia_tokens.specs.Pieces.{Piece, word, name, number, symbol}
+use Rattle.dia_tokens.specs.Pieces.{Piece, keyword, name, number, symbol}
 use Rattle.dia_tokens.specs.Spelling.{text_of}
-use Rattle.dia_tokens.specs.Words.{begins_call}
+use Rattle.dia_tokens.specs.Keywords.{begins_call}
 use Rattle.dia_tokens.specs.declared.edge.Edge.{Edge}
 use Rattle.dia_tokens.specs.declared.edge.Edge.TheVariants.{Tight, Call, Loose}
 
 -- a token with its text: a number is written in decimal, without needless zeros
 abbrev pub piece_of : Token → Piece
-piece_of (Word w) = word w
+piece_of (Keyword w) = keyword w
 piece_of (Name text) = name text
 piece_of (Number z) = number (signed_decimal z)
 piece_of (Symbol s) = symbol s
@@ -20,11 +20,11 @@ piece_of (Symbol s) = symbol s
 abbrev pub token_text : Token → List ℕ
 token_text t = text_of (piece_of t)
 
--- what a line that ends with the token is like: no space stands after `(` and the point, and none between a word that begins a call and its `(`
+-- what a line that ends with the token is like: no space stands after `(` and the point, and none between a keyword that begins a call and its `(`
 abbrev pub edge_of : Token → Edge
 edge_of (Symbol Open) = Tight
 edge_of (Symbol Point) = Tight
-edge_of (Word w) = if begins_call w then Call else Loose
+edge_of (Keyword w) = if begins_call w then Call else Loose
 edge_of _ = Loose
 
 -- no space stands before `)`, the comma and the point

@@ -2,10 +2,10 @@
 use Rattle.std.specs.Prelude.{◌≡◌, ℕ, ℤ, pos, neg_ℤ, ◌+◌, ◌-◌, ◌*◌, ◌^◌, Bool, true, nat_le, nat_lt, ◌==◌, List, [], ◌∷◌, length, drop, get_or, if◌then◌else◌}
 use Rattle.dbp_plan.specs.declared.limits.TheConstants.{MAX_NAME}
 use Rattle.dia_tokens.specs.declared.token.Symbol.{Symbol}
-use Rattle.dia_tokens.specs.declared.token.Word.{Word}
+use Rattle.dia_tokens.specs.declared.token.Keyword.{Keyword}
 use Rattle.dia_tokens.specs.declared.token.Token.{Token}
 use Rattle.dia_tokens.specs.declared.token.Token.TheVariants as value
-use Rattle.dia_tokens.specs.Pieces.{Piece, word, name, number, symbol}
+use Rattle.dia_tokens.specs.Pieces.{Piece, keyword, name, number, symbol}
 
 -- the number that decimal digits make, after the number so far
 abbrev pub digits_after : ℕ → List ℕ → ℕ
@@ -40,7 +40,7 @@ is_short _ = true
 
 -- the token's text has the value
 pub data HasValue : Piece → Token → Type 0 where
-  of_word : (w : Word) → HasValue (word w) (value.Word w)
+  of_keyword : (w : Keyword) → HasValue (keyword w) (value.Keyword w)
   of_name : (text : List ℕ) → nat_le (length text) MAX_NAME ≡ true → HasValue (name text) (value.Name text)
   of_number : (text : List ℕ) → is_in_range text ≡ true → HasValue (number text) (value.Number (number_of text))
   of_symbol : (s : Symbol) → HasValue (symbol s) (value.Symbol s)

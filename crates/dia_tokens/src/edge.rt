@@ -3,7 +3,7 @@
 pub enum Edge {
     /// No space stands after it: the line is empty, or ends with `(` or the point.
     Tight,
-    /// It ends with a word that begins a call: no space stands before a `(`.
+    /// It ends with a keyword that begins a call: no space stands before a `(`.
     Call,
     /// A space stands after it, except for tokens that cling to the one before them.
     Loose,

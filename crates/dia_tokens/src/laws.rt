@@ -3,15 +3,15 @@
 ghost use Rattle.std.specs.Prelude.{◌≡◌, ℕ, true, All, List as Items};
 ghost use Rattle.dia_tokens.specs.declared.line.LineFail.{LineFail as Fault};
 ghost use Rattle.dia_tokens.specs.declared.token.Token.{Token as Spelled};
-ghost use Rattle.dia_tokens.specs.declared.token.Word.{Word as Reserved};
+ghost use Rattle.dia_tokens.specs.declared.token.Keyword.{Keyword as Reserved};
 ghost use Rattle.dia_tokens.specs.KeepsSigns.{KeepsSigns};
 ghost use Rattle.dia_tokens.specs.Lexes.{Lexes};
 ghost use Rattle.dia_tokens.specs.Line.{Spells, HasFault};
-ghost use Rattle.dia_tokens.specs.Pieces.{Piece as Text, word};
+ghost use Rattle.dia_tokens.specs.Pieces.{Piece as Text, keyword};
 ghost use Rattle.dia_tokens.specs.Printable.{IsPrintableToken};
 ghost use Rattle.dia_tokens.specs.Spelling.{joined, IsSpelling};
 ghost use Rattle.dia_tokens.specs.TokenText.{line_text};
-ghost use Rattle.dia_tokens.specs.Words.{word_text, word_of};
+ghost use Rattle.dia_tokens.specs.Keywords.{keyword_text, keyword_of};
 
 /// A line has one list of tokens at most.
 pub fn one_list()
@@ -37,9 +37,9 @@ pub fn spelled_again()
     ensures again { (line text : Items ℕ) → IsSpelling line text → IsSpelling text text }
 {}
 
-/// A reserved word is read from its text.
-pub fn read_word()
-    ensures { (w : Reserved) → word_of (word_text w) ≡ word w }
+/// A keyword is read from its text.
+pub fn read_keyword()
+    ensures { (w : Reserved) → keyword_of (keyword_text w) ≡ keyword w }
 {}
 
 /// The line of tokens spells these tokens, if each can be printed and negative numbers stand where a `-` belongs to

@@ -12,7 +12,7 @@ use crate::Symbol;
 use crate::class::{is_blank_byte, is_digit_byte, is_name_byte};
 use crate::kind::{Kind, kind_at};
 use crate::piece::Piece;
-use crate::reserved::word_or_name;
+use crate::reserved::keyword_or_name;
 
 /// What stands at the beginning of a line.
 #[derive(Clone, Copy)]
@@ -43,14 +43,14 @@ fn blank_len(line: &[u8]) -> usize
     line.iter().take_while(|byte| is_blank_byte(**byte)).count()
 }
 
-/// The name or the reserved word at the front.
+/// The name or the keyword at the front.
 #[inline(always)]
 fn name_token<'a>(line: &'a [u8]) -> Front<'a>
     ensures { front result ≡ name_in line.now }
 {
     let len = name_len(line);
     let (text, rest) = line.split_at(len);
-    Front::Found(word_or_name(text), rest)
+    Front::Found(keyword_or_name(text), rest)
 }
 
 /// The number at the front, after so many bytes of sign.

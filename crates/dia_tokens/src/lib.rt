@@ -20,7 +20,7 @@ mod token;
 mod values;
 
 pub use edge::Edge;
-pub use laws::{line_spells, one_fault, one_list, one_spelling, read_word, spelled_again};
+pub use laws::{line_spells, one_fault, one_list, one_spelling, read_keyword, spelled_again};
 pub use line::{LineFail, all_allowed, tokens, tokens_into};
 pub use spelling::{Spelling, line_spelling};
-pub use token::{Symbol, Token, Word};
+pub use token::{Keyword, Symbol, Token};

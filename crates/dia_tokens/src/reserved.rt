@@ -1,59 +1,62 @@
-// The reserved words.
+// The keywords.
 
 ghost use Rattle.std.specs.Prelude.{◌≡◌};
 ghost use Rattle.dia_tokens.specs.Pieces.{seen};
 ghost use Rattle.std.specs.Str.{bytes_eq};
-ghost use Rattle.dia_tokens.specs.Words.{word_among, word_of, word_text, words_from};
+ghost use Rattle.dia_tokens.specs.Keywords.{keyword_among, keyword_of, keyword_text, keywords_from};
 
-use crate::Word;
+use crate::Keyword;
 use crate::piece::Piece;
 
-/// The words that begin with this byte.
-#[tactic(auto, unfolding(crate::specs::Words::words_from))]
-fn words_from(first: u8) -> &'static [Word]
-    ensures { result.now ≡ words_from first }
+/// The keywords that begin with this byte.
+#[tactic(auto, unfolding(crate::specs::Keywords::keywords_from))]
+fn keywords_from(first: u8) -> &'static [Keyword]
+    ensures { result.now ≡ keywords_from first }
 {
     match first {
-        b'a' => &[Word::At, Word::And],
-        b'c' => &[Word::Cost, Word::Cpu],
-        b'd' => &[Word::Dbp, Word::Deadline, Word::Done],
-        b'e' => &[Word::Edf, Word::Event, Word::Every, Word::Else],
-        b'f' => &[Word::Fp, Word::From],
-        b'i' => &[Word::Input, Word::If],
-        b'l' => &[Word::Let],
-        b'm' => &[Word::Min, Word::Max],
-        b'n' => &[Word::Next, Word::Not],
-        b'o' => &[Word::On, Word::Out, Word::Or],
-        b'p' => &[Word::Policy, Word::Prio, Word::Pre],
-        b'r' => &[Word::Read],
-        b's' => &[Word::State, Word::Sense, Word::Script],
-        b't' => &[Word::Task, Word::Then, Word::Trace],
-        b'u' => &[Word::Until],
-        b'w' => &[Word::When],
+        b'a' => &[Keyword::At, Keyword::And],
+        b'c' => &[Keyword::Cost, Keyword::Cpu],
+        b'd' => &[Keyword::Dbp, Keyword::Deadline, Keyword::Done],
+        b'e' => &[Keyword::Edf, Keyword::Event, Keyword::Every, Keyword::Else],
+        b'f' => &[Keyword::Fp, Keyword::From],
+        b'i' => &[Keyword::Input, Keyword::If],
+        b'l' => &[Keyword::Let],
+        b'm' => &[Keyword::Min, Keyword::Max],
+        b'n' => &[Keyword::Next, Keyword::Not],
+        b'o' => &[Keyword::On, Keyword::Out, Keyword::Or],
+        b'p' => &[Keyword::Policy, Keyword::Prio, Keyword::Pre],
+        b'r' => &[Keyword::Read],
+        b's' => &[Keyword::State, Keyword::Sense, Keyword::Script],
+        b't' => &[Keyword::Task, Keyword::Then, Keyword::Trace],
+        b'u' => &[Keyword::Until],
+        b'w' => &[Keyword::When],
         _ => &[],
     }
 }
 
-// Whether the word is the text. Lengths mostly say that it isn't.
-fn is_text(word: Word, text: &[u8]) -> bool
-    ensures { result ≡ bytes_eq (word_text word) text.now }
+// Whether the keyword is the text. Lengths mostly say that it isn't.
+fn is_text(keyword: Keyword, text: &[u8]) -> bool
+    ensures { result ≡ bytes_eq (keyword_text keyword) text.now }
 {
-    let own = word.text();
+    let own = keyword.text();
     own.len() == text.len() && own == text
 }
 
-/// The first of the words that the text is.
-fn word_among(words: &[Word], text: &[u8]) -> Option<Word>
-    ensures { result ≡ word_among words.now text.now }
+/// The first of the keywords that the text is.
+fn keyword_among(keywords: &[Keyword], text: &[u8]) -> Option<Keyword>
+    ensures { result ≡ keyword_among keywords.now text.now }
 {
-    words.iter().find(|word| is_text(**word, text)).copied()
+    keywords
+        .iter()
+        .find(|keyword| is_text(**keyword, text))
+        .copied()
 }
 
-/// A reserved word, or else a name. Words have 2 to 8 bytes.
+/// A keyword, or else a name. Keywords have 2 to 8 bytes.
 #[inline(always)]
-#[tactic(auto, using(crate::proofs::WordLaws::among_from, crate::proofs::WordLaws::no_word), unfolding(crate::specs::Words::word_of))]
-pub(crate) fn word_or_name<'a>(text: &'a [u8]) -> Piece<'a>
-    ensures { seen result ≡ word_of text.now }
+#[tactic(auto, using(crate::proofs::KeywordLaws::among_from, crate::proofs::KeywordLaws::no_keyword), unfolding(crate::specs::Keywords::keyword_of))]
+pub(crate) fn keyword_or_name<'a>(text: &'a [u8]) -> Piece<'a>
+    ensures { seen result ≡ keyword_of text.now }
 {
     let [first, ..] = text else {
         return Piece::Name(text);
@@ -61,8 +64,8 @@ pub(crate) fn word_or_name<'a>(text: &'a [u8]) -> Piece<'a>
     if text.len() < 2 || 8 < text.len() {
         return Piece::Name(text);
     }
-    match word_among(words_from(*first), text) {
-        Some(word) => Piece::Word(word),
+    match keyword_among(keywords_from(*first), text) {
+        Some(keyword) => Piece::Keyword(keyword),
         None => Piece::Name(text),
     }
 }

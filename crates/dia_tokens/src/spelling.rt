@@ -49,7 +49,7 @@ fn text_of<'a>(piece: Piece<'a>) -> &'a [u8]
     ensures { result.now ≡ text_of (seen piece.entry) }
 {
     match piece {
-        Piece::Word(word) => word.text(),
+        Piece::Keyword(keyword) => keyword.text(),
         Piece::Name(text) => text,
         Piece::Number(text) => text,
         Piece::Symbol(symbol) => symbol.text(),

@@ -2,13 +2,13 @@
 
 ghost use Rattle.std.specs.Prelude.{◌≡◌};
 ghost use Rattle.dia_tokens.specs.Spelling.{symbol_text};
-ghost use Rattle.dia_tokens.specs.Words.{begins_call, word_text};
+ghost use Rattle.dia_tokens.specs.Keywords.{begins_call, keyword_text};
 
 use dbp_plan::Name;
 
-/// A reserved word. It is no name.
+/// A keyword. It is no name.
 #[derive(Clone, Copy, Debug, PartialEq, Eq)]
-pub enum Word {
+pub enum Keyword {
     Dbp,
     Policy,
     Fp,
@@ -46,55 +46,55 @@ pub enum Word {
     Cpu,
 }
 
-impl Word {
-    /// The bytes of the word.
+impl Keyword {
+    /// The bytes of the keyword.
     pub fn text(self) -> &'static [u8]
-        ensures { result.now ≡ word_text self }
+        ensures { result.now ≡ keyword_text self }
     {
         match self {
-            Word::Dbp => b"dbp",
-            Word::Policy => b"policy",
-            Word::Fp => b"fp",
-            Word::Edf => b"edf",
-            Word::Until => b"until",
-            Word::Input => b"input",
-            Word::Event => b"event",
-            Word::Task => b"task",
-            Word::Every => b"every",
-            Word::From => b"from",
-            Word::On => b"on",
-            Word::Prio => b"prio",
-            Word::Deadline => b"deadline",
-            Word::Cost => b"cost",
-            Word::State => b"state",
-            Word::Sense => b"sense",
-            Word::Let => b"let",
-            Word::Next => b"next",
-            Word::Read => b"read",
-            Word::Pre => b"pre",
-            Word::At => b"at",
-            Word::Out => b"out",
-            Word::Then => b"then",
-            Word::If => b"if",
-            Word::Else => b"else",
-            Word::And => b"and",
-            Word::Or => b"or",
-            Word::Not => b"not",
-            Word::Min => b"min",
-            Word::Max => b"max",
-            Word::Trace => b"trace",
-            Word::Script => b"script",
-            Word::Done => b"done",
-            Word::When => b"when",
-            Word::Cpu => b"cpu",
+            Keyword::Dbp => b"dbp",
+            Keyword::Policy => b"policy",
+            Keyword::Fp => b"fp",
+            Keyword::Edf => b"edf",
+            Keyword::Until => b"until",
+            Keyword::Input => b"input",
+            Keyword::Event => b"event",
+            Keyword::Task => b"task",
+            Keyword::Every => b"every",
+            Keyword::From => b"from",
+            Keyword::On => b"on",
+            Keyword::Prio => b"prio",
+            Keyword::Deadline => b"deadline",
+            Keyword::Cost => b"cost",
+            Keyword::State => b"state",
+            Keyword::Sense => b"sense",
+            Keyword::Let => b"let",
+            Keyword::Next => b"next",
+            Keyword::Read => b"read",
+            Keyword::Pre => b"pre",
+            Keyword::At => b"at",
+            Keyword::Out => b"out",
+            Keyword::Then => b"then",
+            Keyword::If => b"if",
+            Keyword::Else => b"else",
+            Keyword::And => b"and",
+            Keyword::Or => b"or",
+            Keyword::Not => b"not",
+            Keyword::Min => b"min",
+            Keyword::Max => b"max",
+            Keyword::Trace => b"trace",
+            Keyword::Script => b"script",
+            Keyword::Done => b"done",
+            Keyword::When => b"when",
+            Keyword::Cpu => b"cpu",
         }
     }
 
-    /// Whether the word is an operator that is written as a call: no space stands between it and its `(`.
+    /// Whether the keyword is an operator that is written as a call: no space stands between it and its `(`.
     pub fn begins_call(self) -> bool
         ensures { result ≡ begins_call self }
     {
-        matches!(self, Word::Min | Word::Max)
+        matches!(self, Keyword::Min | Keyword::Max)
     }
 }
 
@@ -164,7 +164,7 @@ impl Symbol {
 /// A token of a line.
 #[derive(Clone, Copy)]
 pub enum Token {
-    Word(Word),
+    Keyword(Keyword),
     Name(Name),
     Number(i64),
     Symbol(Symbol),

@@ -48,7 +48,7 @@ pub(crate) fn token_of(piece: Piece) -> Result<Token, ValueFail>
     ensures fails { IfErr result (λ e. FailsOn (seen piece.entry) e) }
 {
     match piece {
-        Piece::Word(word) => Ok(Token::Word(word)),
+        Piece::Keyword(keyword) => Ok(Token::Keyword(keyword)),
         Piece::Name(text) => {
             if text.len() <= MAX_NAME {
                 Ok(Token::Name(Name::of_text(text)))
@@ -83,7 +83,7 @@ pub(crate) fn fault_of(piece: Piece) -> Option<ValueFail>
             Some(_) => None,
             None => Some(ValueFail::NumberTooWide),
         },
-        Piece::Word(_) | Piece::Symbol(_) => None,
+        Piece::Keyword(_) | Piece::Symbol(_) => None,
     }
 }
 

@@ -12,15 +12,15 @@ use Rattle.dbp_plan.specs.declared.expr.Expr.{Expr}
 use Rattle.dbp_plan.specs.Expr.{tree_of}
 use Rattle.dbp_plan.specs.Tree.{Tree, number, variable, unary, binary, choice}
 
--- the word nearest to a number
+-- the value nearest to a number
 abbrev pub nearest : ℤ → ℤ
 nearest z = saturate_signed w64 z
 
--- a word is true if it isn't 0
+-- a value is true if it isn't 0
 abbrev pub holds : ℤ → Bool
 holds z = not (int_eq z (pos 0))
 
--- the word of a truth value
+-- the value of a truth value
 abbrev pub truth : Bool → ℤ
 truth b = if b then pos 1 else pos 0
 

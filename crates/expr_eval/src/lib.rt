@@ -21,7 +21,7 @@ pub use order::{LetFail, no_order_of_a_cycle, one_front_order, order_lets};
 // Most expressions have so few nodes, and to clear room for `MAX_NODES` would take longer than to evaluate them.
 const FEW_NODES: u32 = 8;
 
-/// The value of the expression, where each variable is the word at its place of the environment. A number outside of
+/// The value of the expression, where each variable is the value at its place of the environment. A number outside of
 /// `i64` becomes the nearest inside, and `/` and `%` by 0 give 0. Nothing is refused, and no memory is taken.
 pub fn eval(expr: &Expr<u32>, env: &[i64]) -> i64
     requires { VariablesBelow (length env.now) expr.now.nodes }
@@ -35,7 +35,7 @@ pub fn eval(expr: &Expr<u32>, env: &[i64]) -> i64
 }
 
 // The same, on a stack. Of the values that no operator has taken yet, the latest is `last`, and those before it are the
-// first `height` words of the stack. Before the first node `last` is a 0, which no operator takes.
+// first `height` values of the stack. Before the first node `last` is a 0, which no operator takes.
 fn eval_in(expr: &Expr<u32>, env: &[i64], stack: &mut [i64]) -> i64
     requires variables { VariablesBelow (length env.now) expr.now.nodes }
     requires room { length expr.now.nodes ≤ length stack.old }
@@ -47,10 +47,10 @@ fn eval_in(expr: &Expr<u32>, env: &[i64], stack: &mut [i64]) -> i64
     while let [node, rest @ ..] = nodes {
         nodes = rest;
         match *node {
-            Node::Num(word) => {
+            Node::Num(value) => {
                 stack[height] = last;
                 height += 1;
-                last = word;
+                last = value;
             }
             Node::Var(place) => {
                 stack[height] = last;

@@ -28,7 +28,7 @@ use Rattle.word_rule.specs.declared.seats.SlotWords.{SlotWords}
 use Rattle.word_rule.specs.declared.seats.TaskSeat.{TaskSeat}
 use Rattle.word_rule.proofs.Begins.{get_push}
 use Rattle.word_rule.proofs.TaskCalls.{in_wiring, task_wired, wired_is}
-use Rattle.party_exec.specs.Computed.{HasComputed, HasMeantRows, HasMeantWords, plan_of_task}
+use Rattle.party_exec.specs.Computed.{HasComputed, HasMeantRows, HasMeantValues, plan_of_task}
 use Rattle.party_exec.specs.Parties.{IsFresh, IsFreshReleaser}
 use Rattle.party_exec.specs.Rows.{first_and_zeros}
 use Rattle.party_exec.specs.declared.party.Party.{Party}
@@ -43,14 +43,14 @@ module _ (p : Plan) (i : ℕ) (below : i < length (run_wiring p).tasks) where
   starts : task (start_of p (run_wiring p)) i ≡ start_task (wired_task (run_wiring p) i) (declared_task p i)
   starts = get_or-map-range_with_len (λ (j : ℕ). start_task (wired_task (run_wiring p) j) (declared_task p j)) 0 (length (run_wiring p).tasks) i i no_task below (omega arith)
 
-  in_state : HasMeantWords p i (task (start_of p (run_wiring p)) i).part (task (start_of p (run_wiring p)) i).work
+  in_state : HasMeantValues p i (task (start_of p (run_wiring p)) i).part (task (start_of p (run_wiring p)) i).work
   in_state =
       let task_sound = sound.tasks i below in
       let shape = sound.shape.each_task i below in
       record { now = shape.now; next = shape.later; states = task_sound.states; taken = task_sound.taken; later = task_sound.later; row = task_sound.row }
 
-  first_words : HasMeantWords p i first_part (start_task no_task_wiring (declared_task p i)).work
-  first_words = subst (λ (t : TaskState). HasMeantWords p i t.part t.work) starts in_state
+  first_words : HasMeantValues p i first_part (start_task no_task_wiring (declared_task p i)).work
+  first_words = subst (λ (t : TaskState). HasMeantValues p i t.part t.work) starts in_state
 
   first_rows : HasMeantRows p i 0 (first_and_zeros (declared_task p i) (length (times_of p.batches i)))
   first_rows =

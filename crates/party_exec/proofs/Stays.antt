@@ -8,7 +8,7 @@ use Rattle.sync_meaning.specs.SomeMeaningRows.{states_at}
 use Rattle.dbp_rules.specs.Moves as move
 use Rattle.dbp_rules.specs.PartyRules.{Loaded, hears_at, is_opened_by, is_stamp_of, loaded_number, read_order_in, task_after, turn_at}
 use Rattle.dbp_rules.specs.Lookups.{wired_task}
-use Rattle.dbp_rules.specs.SoundParts.{meant_word, read_of, shut_by, taken_by}
+use Rattle.dbp_rules.specs.SoundParts.{meant_value, read_of, shut_by, taken_by}
 use Rattle.dbp_rules.specs.Work.{WorkWords}
 use Rattle.dbp_rules.specs.declared.parts.Place.TheVariants as place
 use Rattle.dbp_rules.specs.declared.parts.TaskPart.{TaskPart}
@@ -32,7 +32,7 @@ module _ (p : Plan) (i : ℕ) (t : TaskPart) (work : WorkWords) (rows : TaskRows
           now = has.words.now;
           next = has.words.next;
           states = has.words.states ∙ ap (λ (n : ℕ). states_at p.diagram p.samples p.batches (meaning_row p) i (declared_task p i) n) (sym ended);
-          taken = λ n few. has.words.taken n (omega (arith, few, taken)) ∙ ap (λ (m : ℕ). meant_word p (meaning_row p) i (m + 1) (read_of p (run_wiring p) i n)) (sym ended);
+          taken = λ n few. has.words.taken n (omega (arith, few, taken)) ∙ ap (λ (m : ℕ). meant_value p (meaning_row p) i (m + 1) (read_of p (run_wiring p) i n)) (sym ended);
           later = λ some. has.words.later (omega (arith, some, shut)) ∙ ap (λ (m : ℕ). states_at p.diagram p.samples p.batches (meaning_row p) i (declared_task p i) (m + 1)) (sym ended);
           row = has.words.row ∙ ap (meaning_row p i) (sym last);
         };

@@ -23,7 +23,7 @@ use Rattle.dbp_rules.specs.Moves as move
 use Rattle.dbp_rules.specs.PartyRules.{Loaded, task_after, turn_at}
 use Rattle.dbp_rules.specs.Lookups.{read_at, time, wired_task}
 use Rattle.dbp_rules.specs.Promises.{IsMeant}
-use Rattle.dbp_rules.specs.SoundParts.{meant_word, place_of_read, read_of, shut_by, taken_by}
+use Rattle.dbp_rules.specs.SoundParts.{meant_value, place_of_read, read_of, shut_by, taken_by}
 use Rattle.dbp_rules.specs.Shapes.{IsTaskWired}
 use Rattle.dbp_rules.specs.Work.{WorkWords}
 use Rattle.dbp_rules.specs.declared.parts.Place.{Place}
@@ -54,13 +54,13 @@ meant_width p i n named less =
     ap length ((row_solves p).each i n (declared_task p i) (slice_get-get_or p.diagram.tasks i no_declared_task named) less) ∙ row_width p i n
 
 -- the word that the meaning gives a read
-meant_is : (p : Plan) (i m r : ℕ) (word : ℤ) → IsMeant p (meaning_of p) i m r word → meant_word p (meaning_row p) i m (get_or (declared_task p i).reads r no_read) ≡ word
+meant_is : (p : Plan) (i m r : ℕ) (word : ℤ) → IsMeant p (meaning_of p) i m r word → meant_value p (meaning_row p) i m (get_or (declared_task p i).reads r no_read) ≡ word
 meant_is p i m r word is =
     let same : get_or (declared_task p i).reads r no_read ≡ is.read = get_or_from_slice_get (declared_task p i).reads r is.read no_read is.has_read in
     let number : ℕ = count_until (times_of p.batches is.is.link.writer) (time_of p.batches i m) - is.is.link.delay in
     let row : meaning_row p is.is.link.writer number ≡ is.is.row = row_in (meaning_of p) is.is.link.writer number is.is.row is.is.is_row in
-    let here : meant_word p (meaning_row p) i m is.read ≡ get_or (meaning_row p is.is.link.writer number) is.read.port (pos 0) = rw is.is.has_link refl in
-    ap (λ (x : Read). meant_word p (meaning_row p) i m x) same
+    let here : meant_value p (meaning_row p) i m is.read ≡ get_or (meaning_row p is.is.link.writer number) is.read.port (pos 0) = rw is.is.has_link refl in
+    ap (λ (x : Read). meant_value p (meaning_row p) i m x) same
     ∙ here
     ∙ ap (λ (l : List ℤ). get_or l is.read.port (pos 0)) row
     ∙ get_or_from_slice_get is.is.row is.read.port word (pos 0) is.is.has_word
@@ -97,7 +97,7 @@ module _ (p : Plan) (i : ℕ) (below : i < length (run_wiring p).tasks) (t : Tas
       let next_shut : shut_by (move.read_place reads (turn_at t.place + 1)) ≡ 0 = (early_read reads (turn_at t.place + 1)).shut in
       let place_is : place_of_read p (run_wiring p) i n ≡ spot = ap (λ (x : ℕ). length d.states + length d.senses + x) (sym read) ∙ sym here in
       let room : spot < length work.now = omega (arith, has.words.now, here, read, (own_task.each_read n few).read) in
-      let word_is : word ≡ meant_word p (meaning_row p) i (t.ended + 1) (read_of p (run_wiring p) i n) = sym (meant_is p i (t.ended + 1) r word meant) ∙ ap (λ (x : ℕ). meant_word p (meaning_row p) i (t.ended + 1) (get_or d.reads x no_read)) read in
+      let word_is : word ≡ meant_value p (meaning_row p) i (t.ended + 1) (read_of p (run_wiring p) i n) = sym (meant_is p i (t.ended + 1) r word meant) ∙ ap (λ (x : ℕ). meant_value p (meaning_row p) i (t.ended + 1) (get_or d.reads x no_read)) read in
       record {
         words = record {
           now = length-set work.now spot word ∙ has.words.now;

@@ -3,7 +3,7 @@
 use dbp_plan::{BinOp, Expr, MAX_NODES, Name, Node, UnOp};
 use dia_exprs::{MAX_DEPTH, depth, expression, node_tokens};
 use dia_lines::{Limit, Line, LineError, Part, Place, Position, ReadCode, TaskLine, read_line};
-use dia_tokens::{Symbol, Token, Word, line_spelling, tokens, tokens_into};
+use dia_tokens::{Keyword, Symbol, Token, line_spelling, tokens, tokens_into};
 use std::alloc::Global;
 use std::fmt::Write;
 use std::test::Fail;
@@ -15,7 +15,7 @@ fn tokens_of_a_line(rt: HostRuntime) -> Result<(), Fail> {
         matches!(
             tokens.as_slice(),
             [
-                Token::Word(Word::Let),
+                Token::Keyword(Keyword::Let),
                 Token::Name(_),
                 Token::Symbol(Symbol::Equal),
                 Token::Number(-7),
@@ -31,7 +31,12 @@ fn tokens_take_the_place_of_others(rt: HostRuntime) -> Result<(), Fail> {
     tokens_into(b"a b c", &mut held)?;
     assert_eq!(rt; held.len(), 3);
     tokens_into(b"done 5", &mut held)?;
-    assert!(rt; matches!(held.as_slice(), [Token::Word(Word::Done), Token::Number(5)]));
+    assert!(rt;
+        matches!(
+            held.as_slice(),
+            [Token::Keyword(Keyword::Done), Token::Number(5)]
+        )
+    );
     assert!(rt; tokens_into(b"a ?", &mut held).is_err());
     assert!(rt; held.is_empty());
     Ok(())

@@ -3,7 +3,7 @@
 use dbp_plan::{Expr, Name, Policy};
 use dia_lines::{Decl, Part, RawClock, TaskLine};
 use dia_print::Printer;
-use dia_tokens::{Symbol, Token, Word};
+use dia_tokens::{Keyword, Symbol, Token};
 use std::alloc::Global;
 use std::test::Fail;
 
@@ -92,12 +92,12 @@ fn push_spaced(printer: &mut Printer) -> Result<(), Fail> {
         Token::Number(5),
         Token::Symbol(Symbol::Minus),
         Token::Number(-5),
-        Token::Word(Word::Min),
+        Token::Keyword(Keyword::Min),
         Token::Symbol(Symbol::Open),
         Token::Symbol(Symbol::Open),
         Token::Symbol(Symbol::Minus),
         Token::Symbol(Symbol::Comma),
-        Token::Word(Word::Not),
+        Token::Keyword(Keyword::Not),
         Token::Symbol(Symbol::Open),
         Token::Symbol(Symbol::Close),
     ];

@@ -20,9 +20,9 @@ use Rattle.sync_meaning.proofs.Sets.{set_cases}
 abbrev values_for : ℕ → List Sample → List ℤ
 values_for x samples = map (λ s. s.value) (own_samples x samples)
 
-first_of : (inputs : List Input) (x : ℕ) (word : ℤ) → slice_get (map (λ i. i.first) inputs) x ≡ Some word → word ≡ first_value inputs x
-first_of inputs x word at =
-    let inside : x < length inputs = omega (arith, slice_get_within (map (λ i. i.first) inputs) x word at, length-map inputs (λ i. i.first)) in
+first_of : (inputs : List Input) (x : ℕ) (value : ℤ) → slice_get (map (λ i. i.first) inputs) x ≡ Some value → value ≡ first_value inputs x
+first_of inputs x value at =
+    let inside : x < length inputs = omega (arith, slice_get_within (map (λ i. i.first) inputs) x value at, length-map inputs (λ i. i.first)) in
     let i : (i : Input) × (slice_get inputs x ≡ Some i) = at_place inputs x inside in
     let first : slice_get (map (λ j. j.first) inputs) x ≡ Some i.0.first = slice_get-map (λ j. j.first) inputs x ∙ ap (option_map (λ j. j.first)) i.1 in
     rw i.1 (same_Some _ _ (sym at ∙ first))
@@ -33,7 +33,7 @@ taken_none inputs samples time taken values none is = rw none (record {
   size = ap length is ∙ length-map inputs (λ i. i.first);
   within = omega arith;
   come = λ k d below. absurd (omega arith);
-  last = λ x word at. first_of inputs x word (ap (λ (l : List ℤ). slice_get l x) (sym is) ∙ at);
+  last = λ x value at. first_of inputs x value (ap (λ (l : List ℤ). slice_get l x) (sym is) ∙ at);
 })
 
 -- what was taken at a time was taken at a later one
@@ -57,9 +57,9 @@ last-push : (first : ℤ) (values : List ℤ) (v : ℤ) → last_value first (va
 last-push first values v = fold-append (λ _ w. w) first values (v ∷ [])
 
 last_more : (inputs : List Input) (samples : List Sample) (s : Sample) (values : List ℤ) → HasLastValues inputs samples values → HasLastValues inputs (samples ++ s ∷ []) (set values s.input s.value)
-last_more inputs samples s values last x word at = elim (set_cases values s.input x s.value word at) [
+last_more inputs samples s values last x value at = elim (set_cases values s.input x s.value value at) [
   | inl here ↦ sym here.1 ∙ sym (ap (last_value (first_value inputs x)) (for_here x samples s (eq-eqb s.input x (sym here.0))) ∙ last-push (first_value inputs x) (values_for x samples) s.value)
-  | inr there ↦ last x word there.1 ∙ ap (last_value (first_value inputs x)) (sym (for_other x samples s (ne_eqb s.input x (λ e. there.0 (sym e)))))
+  | inr there ↦ last x value there.1 ∙ ap (last_value (first_value inputs x)) (sym (for_other x samples s (ne_eqb s.input x (λ e. there.0 (sym e)))))
 ]
 
 -- one sample more
@@ -111,10 +111,10 @@ filter_later x time (s ∷ samples) later =
 
 -- with all samples up to the time taken, the values are those of the time
 pub taken_all : (inputs : List Input) (samples : List Sample) (time k : ℕ) (values : List ℤ) → AreTaken inputs samples time k values → All (λ s. time < s.time) (drop k samples) → AreValuesAt inputs samples time values
-taken_all inputs samples time k values a later x word at =
+taken_all inputs samples time k values a later x value at =
     let parts : filter (is_given x time) (take k samples ++ drop k samples) ≡ filter (is_given x time) (take k samples) ++ filter (is_given x time) (drop k samples) = filter-append (is_given x time) (take k samples) (drop k samples) in
     let front : filter (is_given x time) (take k samples) ≡ own_samples x (take k samples) = filter_come x time (take k samples) a.come in
     let after : filter (is_given x time) (drop k samples) ≡ [] = filter_later x time (drop k samples) later in
     let all : filter (is_given x time) samples ≡ own_samples x (take k samples) =
     ap (filter (is_given x time)) (sym (take-append-drop k samples)) ∙ parts ∙ rw after (append-nil (filter (is_given x time) (take k samples))) ∙ front in
-    a.last x word at ∙ ap (λ (l : List Sample). last_value (first_value inputs x) (map (λ s. s.value) l)) (sym all)
+    a.last x value at ∙ ap (λ (l : List Sample). last_value (first_value inputs x) (map (λ s. s.value) l)) (sym all)

@@ -39,10 +39,10 @@ use Rattle.sync_meaning.proofs.Runs.{IsNext, done_of, named_of}
 use Rattle.sync_meaning.proofs.Sets.{item_at, refill_all, set_cases, zero_of}
 use Rattle.sync_meaning.proofs.Tables.{rows_all, set_old, set_value}
 
--- an instance: the senses and then the reads are written over the words that stood there, and then the lets
+-- an instance: the senses and then the reads are written over the values that stood there, and then the lets
 pub record IsInstance (d : Diagram) (table : Table) (t : Task) (inputs : List ℤ) (named : List ℕ) (before sensed read env : List ℤ) : Type 0 where
   pub places : length before ≡ place_count t
-  pub senses : AreWritten (length t.states) t.senses (λ s word. slice_get inputs s.input ≡ Some word) before sensed
+  pub senses : AreWritten (length t.states) t.senses (λ s value. slice_get inputs s.input ≡ Some value) before sensed
   pub reads : AreWritten (length t.states + length t.senses) t.reads (IsRead d.links (slice_index named) table) sensed read
   pub size : length env ≡ length read
   pub given : (j : ℕ) → j < let_base t → slice_get env j ≡ slice_get read j
@@ -69,19 +69,19 @@ pub env_exact : (d : Diagram) (samples : List Sample) (batches : List Batch) (ta
     → All (λ l. l.writer < length named) d.links → IsEnv d samples batches table t time (take (length t.states) before) env
 env_exact d samples batches table t time inputs named before sensed read env work values counts writers = record {
   size = work.size ∙ work.reads.size ∙ work.senses.size ∙ work.places;
-  state = λ k word at.
-      let below : k < length t.states = omega (arith, slice_get_within (take (length t.states) before) k word at, length-take (length t.states) before) in
-      state_kept d table t inputs named before sensed read env k work below ∙ (take_inside before (length t.states) k word at).1;
+  state = λ k value at.
+      let below : k < length t.states = omega (arith, slice_get_within (take (length t.states) before) k value at, length-take (length t.states) before) in
+      state_kept d table t inputs named before sensed read env k work below ∙ (take_inside before (length t.states) k value at).1;
   sense = λ k s at.
       let below : k < length t.senses = slice_get_within t.senses k s at in
       let there : length t.states + k < length sensed = omega (arith, below, work.senses.size, work.places) in
-      let word : (word : ℤ) × (slice_get sensed (length t.states + k) ≡ Some word) = at_place sensed (length t.states + k) there in
-      let value : word.0 ≡ input_value d.inputs samples s.input time = values s.input word.0 (work.senses.written k s word.0 at word.1) in
-      work.given (length t.states + k) (omega (arith, below)) ∙ work.reads.kept (length t.states + k) (inl (omega (arith, below))) ∙ word.1 ∙ ap (λ (z : ℤ). Some z) value;
-  read = λ k r word at at_w.
+      let value : (value : ℤ) × (slice_get sensed (length t.states + k) ≡ Some value) = at_place sensed (length t.states + k) there in
+      let is_value : value.0 ≡ input_value d.inputs samples s.input time = values s.input value.0 (work.senses.written k s value.0 at value.1) in
+      work.given (length t.states + k) (omega (arith, below)) ∙ work.reads.kept (length t.states + k) (inl (omega (arith, below))) ∙ value.1 ∙ ap (λ (z : ℤ). Some z) is_value;
+  read = λ k r value at at_w.
       let below : k < length t.reads = slice_get_within t.reads k r at in
-      let is : IsRead d.links (slice_index named) table r word = work.reads.written k r word at (sym (work.given (length t.states + length t.senses + k) (omega (arith, below))) ∙ at_w) in
-      read_counted d.links (slice_index named) (λ w. count_until (times_of batches w) time) table r word
+      let is : IsRead d.links (slice_index named) table r value = work.reads.written k r value at (sym (work.given (length t.states + length t.senses + k) (omega (arith, below))) ∙ at_w) in
+      read_counted d.links (slice_index named) (λ w. count_until (times_of batches w) time) table r value
       (λ l at_l.
       let link : get_or d.links r.link l ≡ l = get_or_from_slice_get d.links r.link l l at_l in
       let first : (get_or d.links r.link l).writer < length named = writers r.link l (slice_get_within d.links r.link l at_l) in
@@ -137,10 +137,10 @@ at_batch d samples batches batch run later before after ranked rising reached ne
           let rank : r.0 < length d.tasks = omega (arith, (ranking d ranked).below i r.0 r.1, length-ranks d ranked) in
           let old : (o : ℕ) × (slice_get run.named.items i ≡ Some o) = at_place run.named.items i (omega (arith, inside, reached.steps.size)) in
           let computed : m ≡ old.0 = reached.steps.above i m old.0 r.0 r.1 rank at_done old.1 in
-          let value : n ≡ old.0 + one_if (names i batch) = same_Some _ _ (sym (ap (λ (l : List ℕ). slice_get l i) (sym named) ∙ at_n) ∙ marked.each i old.0 old.1) in
+          let is_value : n ≡ old.0 + one_if (names i batch) = same_Some _ _ (sym (ap (λ (l : List ℕ). slice_get l i) (sym named) ∙ at_n) ∙ marked.each i old.0 old.1) in
           let is_named : names i batch ≡ true = elim (cases_Bool (names i batch)) [
             | inl is ↦ is
-            | inr isnt ↦ let same_count : n ≡ old.0 + 0 = value ∙ ap (λ b. old.0 + one_if b) isnt in absurd (omega (arith, same_count, computed, less))
+            | inr isnt ↦ let same_count : n ≡ old.0 + 0 = is_value ∙ ap (λ b. old.0 + one_if b) isnt in absurd (omega (arith, same_count, computed, less))
           ] in
           let count : m ≡ length (times_of (take k batches) i) = computed ∙ next.counted.each i old.0 old.1 in
           let task : names i (get_or batches k batch) ≡ true = ap (λ (b : Batch). names i b) here ∙ is_named in
@@ -174,12 +174,12 @@ streams_more d samples batches i n t run later before after env tables old new n
     let below : i < length run.table.tasks = omega (arith, slice_get_within d.tasks i t next.task, next.reached.rows.size) in
     let at_old : slice_get run.table.tasks i ≡ Some old = item_at run.table.tasks tables i old same below read in
     let old_ports : new.ports ≡ old.ports = ports ∙ ap (λ (r : TaskRows). r.ports) (sym read) in
-    let old_words : new.words ≡ old.words ++ outs_in t env = words ∙ ap (λ (r : TaskRows). r.words ++ outs_in t env) (sym read) in
+    let old_values : new.words ≡ old.words ++ outs_in t env = words ∙ ap (λ (r : TaskRows). r.words ++ outs_in t env) (sym read) in
     let all : later.table.tasks ≡ set run.table.tasks i new = table ∙ refill_all run.table.tasks (set tables i new) (length-set tables i new ∙ ap length same) ∙ ap (λ l. set l i new) same in
     let step : later.done.items ≡ set run.done.items i (m + 1) = done ∙ ap (λ k. set run.done.items i (k + 1)) count in
-    let stay : HasRowsOfTable run.table later.table = rows_stay i old new (outs_in t env) run.table later.table at_old old_ports old_words all in
+    let stay : HasRowsOfTable run.table later.table = rows_stay i old new (outs_in t env) run.table later.table at_old old_ports old_values all in
     let row : IsRow later.table i (m + 1) (outs_in t env) =
-    row_pushed i m (length t.outs) old new (outs_in t env) run.table later.table at_old (next.reached.rows.each i m t old next.task at_m at_old) (length-map t.outs (λ o. value_of o.expr env)) old_ports old_words all in
+    row_pushed i m (length t.outs) old new (outs_in t env) run.table later.table at_old (next.reached.rows.each i m t old next.task at_m at_old) (length-map t.outs (λ o. value_of o.expr env)) old_ports old_values all in
     let time : slice_get (times_of batches i) m ≡ Some at.time = at.due i m (get_or run.named.items i 0) at_m (named_of d i t run next) next.due in
     let old_stream : IsStreamTo d samples batches later.table i t m (take (length t.states) before.now) =
     stream_stays d samples batches run.table later.table i t m (take (length t.states) before.now) stay (has.each i m t before next.task at_m at_e) in
@@ -212,7 +212,7 @@ time_more d samples batches i n t run later next at number inputs named done =
     let count : n ≡ m = number ∙ get_or_from_slice_get run.done.items i m n at_m in
     record {
       time = at.time;
-      inputs = λ x word at_x. at.inputs x word (ap (λ (l : List ℤ). slice_get l x) (sym inputs) ∙ at_x);
+      inputs = λ x value at_x. at.inputs x value (ap (λ (l : List ℤ). slice_get l x) (sym inputs) ∙ at_x);
       counts = λ j y at_y. at.counts j y (ap (λ (l : List ℕ). slice_get l j) (sym named) ∙ at_y);
       due = λ j x y at_x at_y less.
           let y_there : slice_get run.named.items j ≡ Some y = ap (λ (l : List ℕ). slice_get l j) (sym named) ∙ at_y in

@@ -19,7 +19,7 @@ use Rattle.sync_meaning.specs.Streams.{HasRowsOfTable, IsStreamTo}
 use Rattle.dbp_plan.specs.ListItems.{set_here, set_other}
 use Rattle.dbp_plan.specs.Ranges.{range_after, range_front}
 
--- a row by the words and the number of ports
+-- a row by the values and the number of ports
 row_by : (rows : TaskRows) (n ports : ℕ) (words : List ℤ) → rows.ports ≡ ports → rows.words ≡ words → row_at rows n ≡ slice_range words (n * ports) ((n + 1) * ports)
 row_by rows n ports words same is = ap (λ p. slice_range rows.words (n * p) ((n + 1) * p)) same ∙ ap (λ ws. slice_range ws (n * ports) ((n + 1) * ports)) is
 
@@ -72,24 +72,24 @@ row_pushed i m outs old new row table later at has size ports words all =
     }
 
 -- what is read stays
-read_stays : (links : List Link) (occurred : ℕ → ℕ) (table later : Table) (r : Read) (word : ℤ) → HasRowsOfTable table later → IsRead links occurred table r word → IsRead links occurred later r word
-read_stays links occurred table later r word stay is = record {
+read_stays : (links : List Link) (occurred : ℕ → ℕ) (table later : Table) (r : Read) (value : ℤ) → HasRowsOfTable table later → IsRead links occurred table r value → IsRead links occurred later r value
+read_stays links occurred table later r value stay is = record {
   link = is.link;
   has_link = is.has_link;
   row = is.row;
   is_row = stay is.link.writer (occurred is.link.writer - is.link.delay) is.row is.is_row;
-  has_word = is.has_word;
+  has_value = is.has_value;
 }
 
 -- and is the same if the writer's occurrences are as many
-pub read_counted : (links : List Link) (occurred other : ℕ → ℕ) (table : Table) (r : Read) (word : ℤ) → ((l : Link) → slice_get links r.link ≡ Some l → occurred l.writer ≡ other l.writer) → IsRead links occurred table r word
-    → IsRead links other table r word
-read_counted links occurred other table r word same is = record {
+pub read_counted : (links : List Link) (occurred other : ℕ → ℕ) (table : Table) (r : Read) (value : ℤ) → ((l : Link) → slice_get links r.link ≡ Some l → occurred l.writer ≡ other l.writer) → IsRead links occurred table r value
+    → IsRead links other table r value
+read_counted links occurred other table r value same is = record {
   link = is.link;
   has_link = is.has_link;
   row = is.row;
   is_row = subst (λ n. IsRow table is.link.writer (n - is.link.delay) is.row) (same is.link is.has_link) is.is_row;
-  has_word = is.has_word;
+  has_value = is.has_value;
 }
 
 module _ (d : Diagram) (samples : List Sample) (batches : List Batch) where
@@ -98,7 +98,7 @@ module _ (d : Diagram) (samples : List Sample) (batches : List Batch) where
     size = is.size;
     state = is.state;
     sense = is.sense;
-    read = λ k r word at at_w. read_stays d.links (λ w. count_until (times_of batches w) time) table later r word stay (is.read k r word at at_w);
+    read = λ k r value at at_w. read_stays d.links (λ w. count_until (times_of batches w) time) table later r value stay (is.read k r value at at_w);
     lets = is.lets;
   }
 

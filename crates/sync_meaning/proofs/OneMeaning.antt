@@ -18,27 +18,27 @@ use Rattle.sync_meaning.specs.Meaning.{AreStatesAfter, IsEnv, IsMeaning, IsRead,
 use Rattle.dbp_plan.specs.ListItems.{at_place}
 use Rattle.sync_meaning.specs.SomeMeaningStreams.{env_at-is, length-states_at, read_given, sense_given, state_given}
 use Rattle.sync_meaning.specs.SomeMeaningEnvs.{IsEnvFrom, one_env, one_states_after, states_after, states_after-are}
-use Rattle.sync_meaning.specs.SomeMeaningRows.{AgreeBelow, Solves, env_at, given_at, one_solution, row_of, states_at, states_at-more, states_at-none, task_rules, turn, word_at}
+use Rattle.sync_meaning.specs.SomeMeaningRows.{AgreeBelow, Solves, env_at, given_at, one_solution, row_of, states_at, states_at-more, states_at-none, task_rules, turn, value_at}
 use Rattle.sync_meaning.specs.SomeMeaningTables.{row_in, same_table}
 
 module _ (d : Diagram) (samples : List Sample) (batches : List Batch) (table : Table) where
-  -- the word of a read is that of the table's rows
-  word_is : (time : ℕ) (r : Read) (word : ℤ) → IsRead d.links (λ w. count_until (times_of batches w) time) table r word → word_at d samples batches (table_row table) time r ≡ word
-  word_is time r word is =
+  -- the value of a read is that of the table's rows
+  value_is : (time : ℕ) (r : Read) (value : ℤ) → IsRead d.links (λ w. count_until (times_of batches w) time) table r value → value_at d samples batches (table_row table) time r ≡ value
+  value_is time r value is =
       let number : ℕ = count_until (times_of batches is.link.writer) time - is.link.delay in
       let row : table_row table is.link.writer number ≡ is.row = row_in table is.link.writer number is.row is.is_row in
-      let here : word_at d samples batches (table_row table) time r ≡ get_or (table_row table is.link.writer number) r.port (pos 0) = rw is.has_link refl in
-      here ∙ ap (λ (l : List ℤ). get_or l r.port (pos 0)) row ∙ get_or_from_slice_get is.row r.port word (pos 0) is.has_word
+      let here : value_at d samples batches (table_row table) time r ≡ get_or (table_row table is.link.writer number) r.port (pos 0) = rw is.has_link refl in
+      here ∙ ap (λ (l : List ℤ). get_or l r.port (pos 0)) row ∙ get_or_from_slice_get is.row r.port value (pos 0) is.has_value
 
-  -- an environment begins with the words that these rows give
+  -- an environment begins with the values that these rows give
   env_given : (task : Task) (time : ℕ) (states env : List ℤ) → length states ≡ length task.states → IsEnv d samples batches table task time states env
       → IsEnvFrom task (given_at d samples batches (table_row table) task time states) env
   env_given task time states env size is = record {
     size = is.size;
-    given_words = λ j below. elim (cases_lt j (length states)) [
+    given_values = λ j below. elim (cases_lt j (length states)) [
       | inl early ↦
-          let word : (w : ℤ) × (slice_get states j ≡ Some w) = at_place states j early in
-          is.state j word.0 word.1 ∙ sym word.1 ∙ sym (state_given d samples batches (table_row table) task time j states early)
+          let value : (w : ℤ) × (slice_get states j ≡ Some w) = at_place states j early in
+          is.state j value.0 value.1 ∙ sym value.1 ∙ sym (state_given d samples batches (table_row table) task time j states early)
       | inr later ↦ elim (cases_lt j (length task.states + length task.senses)) [
         | inl sensed ↦
             let k : ℕ = j - length task.states in
@@ -50,10 +50,10 @@ module _ (d : Diagram) (samples : List Sample) (batches : List Batch) (table : T
             let k : ℕ = j - (length task.states + length task.senses) in
             let place : length task.states + length task.senses + k ≡ j = omega arith in
             let r : (r : Read) × (slice_get task.reads k ≡ Some r) = at_place task.reads k (omega arith) in
-            let word : (w : ℤ) × (slice_get env (length task.states + length task.senses + k) ≡ Some w) = at_place env (length task.states + length task.senses + k) (omega (arith, is.size)) in
-            let same : word_at d samples batches (table_row table) time r.0 ≡ word.0 = word_is time r.0 word.0 (is.read k r.0 word.0 r.1 word.1) in
+            let value : (w : ℤ) × (slice_get env (length task.states + length task.senses + k) ≡ Some w) = at_place env (length task.states + length task.senses + k) (omega (arith, is.size)) in
+            let same : value_at d samples batches (table_row table) time r.0 ≡ value.0 = value_is time r.0 value.0 (is.read k r.0 value.0 r.1 value.1) in
             subst (λ (p : ℕ). slice_get env p ≡ slice_get (given_at d samples batches (table_row table) task time states) p) place
-            (word.1 ∙ ap (λ (w : ℤ). Some w) (sym same) ∙ sym (read_given d samples batches (table_row table) task time k r.0 states size r.1))
+            (value.1 ∙ ap (λ (w : ℤ). Some w) (sym same) ∙ sym (read_given d samples batches (table_row table) task time k r.0 states size r.1))
       ]
     ];
     lets = is.lets;
@@ -96,16 +96,16 @@ module _ (d : Diagram) (samples : List Sample) (batches : List Batch) (table : T
   pub meaning_solves : IsPlan d samples batches → IsMeaning d samples batches table → Solves d samples batches (table_row table)
   meaning_solves plan meaning = record { each = λ i n task at few. row_is plan i task at (meaning.each i task at) n few }
 
-  -- and the word that they give a read is the one that the meaning gives it
+  -- and the value that they give a read is the one that the meaning gives it
   pub read_is : IsMeaning d samples batches table → (i n k : ℕ) (task : Task) (r : Read) → slice_get d.tasks i ≡ Some task → n < length (times_of batches i) → slice_get task.reads k ≡ Some r
-      → IsRead d.links (λ w. count_until (times_of batches w) (get_or (times_of batches i) n 0)) table r (word_at d samples batches (table_row table) (get_or (times_of batches i) n 0) r)
+      → IsRead d.links (λ w. count_until (times_of batches w) (get_or (times_of batches i) n 0)) table r (value_at d samples batches (table_row table) (get_or (times_of batches i) n 0) r)
   read_is meaning i n k task r at below has =
       let stream : IsStream d samples batches table i task = meaning.each i task at in
       let time : ℕ = get_or (times_of batches i) n 0 in
       let env : IsEnv d samples batches table task time (stream.states n) (stream.envs n) = stream.env n time (slice_get-get_or (times_of batches i) n 0 below) in
-      let word : (w : ℤ) × (slice_get (stream.envs n) (length task.states + length task.senses + k) ≡ Some w) = at_place (stream.envs n) (length task.states + length task.senses + k) (omega (arith, env.size, slice_get_within task.reads k r has)) in
-      let is : IsRead d.links (λ w. count_until (times_of batches w) time) table r word.0 = env.read k r word.0 has word.1 in
-      subst (λ (w : ℤ). IsRead d.links (λ v. count_until (times_of batches v) time) table r w) (sym (word_is time r word.0 is)) is
+      let value : (w : ℤ) × (slice_get (stream.envs n) (length task.states + length task.senses + k) ≡ Some w) = at_place (stream.envs n) (length task.states + length task.senses + k) (omega (arith, env.size, slice_get_within task.reads k r has)) in
+      let is : IsRead d.links (λ w. count_until (times_of batches w) time) table r value.0 = env.read k r value.0 has value.1 in
+      subst (λ (w : ℤ). IsRead d.links (λ v. count_until (times_of batches v) time) table r w) (sym (value_is time r value.0 is)) is
 
 one_table : (d : Diagram) (samples : List Sample) (batches : List Batch) (y z : Table) → IsPlan d samples batches → IsMeaning d samples batches y → IsMeaning d samples batches z → y ≡ z
 one_table d samples batches y z plan one other =

@@ -130,7 +130,7 @@ next_skip d i k run ranked at none reached =
       steps = done_skip i (get_or run.done.items i 0) (get_or run.named.items i 0) k d.ranks run.named.items run.done.items (ranking d ranked) at m n none reached.steps;
     }
 
--- the words of an environment whose states go on
+-- the values of an environment whose states go on
 pub advanced : (t : Task) (before after : Env) → IsEnvOf t before → after.now ≡ before.later ++ drop (length before.later) before.now → after.later ≡ before.later → IsEnvOf t after
 advanced t before after fits now later = record {
   now = ap length now ∙ length-append before.later (drop (length before.later) before.now) ∙ omega (arith, length-drop (length before.later) before.now, fits.now, fits.later, before.fits);

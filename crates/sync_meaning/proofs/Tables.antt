@@ -106,7 +106,7 @@ length-row_at rows n there =
 
 -- a row that is there has its ports
 port_there : (outs m n port w : ℕ) (rows : TaskRows) (table : Table) → slice_get table.tasks w ≡ Some rows → HasRowsOf outs m rows → n ≤ m → port < outs
-    → (row : List ℤ) × IsRow table w n row × ((word : ℤ) × (slice_get row port ≡ Some word))
+    → (row : List ℤ) × IsRow table w n row × ((value : ℤ) × (slice_get row port ≡ Some value))
 port_there outs m n port w rows table at has le below =
     let fewer : (n + 1) * outs ≤ (m + 1) * outs = mul-le-mul_right outs (omega arith) in
     let same : (n + 1) * rows.ports ≡ (n + 1) * outs = ap (λ p. (n + 1) * p) has.ports in
@@ -138,7 +138,7 @@ enough d i p m n l named done at ranked at_l reader at_p at_m at_n steps = elim 
       omega (arith, close.1)
 ]
 
--- a task that is the next by rank finds the words that it reads
+-- a task that is the next by rank finds the values that it reads
 pub readable : (d : Diagram) (i k p : ℕ) (t : Task) (read : Read) (named done : List ℕ) (table : Table) → IsRanked d → slice_get d.tasks i ≡ Some t → slice_get t.reads k ≡ Some read
     → slice_get d.ranks i ≡ Some p → IsDoneAbove p d.ranks named done → HasRowsUpTo d.tasks done table.tasks → IsReadable d.links (slice_index named) table read
 readable d i k p t read named done table ranked at_t at_read at_p steps has =
@@ -154,7 +154,7 @@ readable d i k p t read named done table ranked at_t at_read at_p steps has =
     let port : read.port < length w.0.outs = closed.ports t w.0 read l.0 i k at_t at_read l.1 w.1 in
     let reader : l.0.reader ≡ i = closed.own i t read l.0 k at_t at_read l.1 in
     let le : n.0 - l.0.delay ≤ m.0 = enough d i p m.0 n.0 l.0 named done read.link ranked l.1 reader at_p m.1 n.1 steps in
-    let found : (row : List ℤ) × IsRow table l.0.writer (n.0 - l.0.delay) row × ((word : ℤ) × (slice_get row read.port ≡ Some word)) =
+    let found : (row : List ℤ) × IsRow table l.0.writer (n.0 - l.0.delay) row × ((value : ℤ) × (slice_get row read.port ≡ Some value)) =
     port_there (length w.0.outs) m.0 (n.0 - l.0.delay) read.port l.0.writer rows.0 table rows.1 (has.each l.0.writer m.0 w.0 rows.0 w.1 m.1 rows.1) le port in (
       found.2.0,
       record {
@@ -162,7 +162,7 @@ readable d i k p t read named done table ranked at_t at_read at_p steps has =
         has_link = l.1;
         row = found.0;
         is_row = subst (λ (k : ℕ). IsRow table l.0.writer (k - l.0.delay) found.0) (sym (get_or_from_slice_get named l.0.writer n.0 0 n.1)) found.1;
-        has_word = found.2.1;
+        has_value = found.2.1;
       },
     )
 

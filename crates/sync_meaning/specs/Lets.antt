@@ -20,7 +20,7 @@ use Rattle.dbp_plan.specs.Ranking.{IsRanking}
 use Rattle.dbp_plan.specs.ListItems.{all_place, after_place, front_place, pair_at, set_here, set_other}
 use Rattle.dbp_plan.specs.Rankings.{task_of}
 
--- both environments have the same words at the variables of the nodes
+-- both environments have the same values at the variables of the nodes
 pub record AgreeOn (nodes : List (Node ℕ)) (one other : List ℤ) : Type 0 where
   pub same : (k v : ℕ) → slice_get nodes k ≡ Some (Var v) → get_or one v (pos 0) ≡ get_or other v (pos 0)
 
@@ -85,35 +85,35 @@ apart_from task p q i k v at l order at_k at_l at_v le at_i same =
     other (omega arith)
 
 -- so its value stays when this let is written
-stays : (task : Task) (p q i k : ℕ) (l : Let) (word : ℤ) (env : List ℤ) → IsLetOrder (let_base task) task.lets task.order → slice_get task.order p ≡ Some k → slice_get task.lets k ≡ Some l → p ≤ q → slice_get task.order q ≡ Some i
-    → value_of l.expr (set env (let_base task + i) word) ≡ value_of l.expr env
-stays task p q i k l word env order at_k at_l le at_i =
-    same_value l.expr (set env (let_base task + i) word) env (record {
-      same = λ at v at_v. get_or-set_other env (let_base task + i) v word (pos 0) (apart_from task p q i k v at l order at_k at_l at_v le at_i);
+stays : (task : Task) (p q i k : ℕ) (l : Let) (value : ℤ) (env : List ℤ) → IsLetOrder (let_base task) task.lets task.order → slice_get task.order p ≡ Some k → slice_get task.lets k ≡ Some l → p ≤ q → slice_get task.order q ≡ Some i
+    → value_of l.expr (set env (let_base task + i) value) ≡ value_of l.expr env
+stays task p q i k l value env order at_k at_l le at_i =
+    same_value l.expr (set env (let_base task + i) value) env (record {
+      same = λ at v at_v. get_or-set_other env (let_base task + i) v value (pos 0) (apart_from task p q i k v at l order at_k at_l at_v le at_i);
     })
 
 pub lets_more : (n i : ℕ) (l : Let) (task : Task) (before after : List ℤ) → IsLetOrder (let_base task) task.lets task.order → slice_get task.order n ≡ Some i → slice_get task.lets i ≡ Some l → let_base task + i < length after
     → LetsUpTo n task before after → LetsUpTo (n + 1) task before (set after (let_base task + i) (value_of l.expr after))
 lets_more n i l task before after order at_i at_l inside done =
     let place : ℕ = let_base task + i in
-    let word : ℤ = value_of l.expr after in
+    let value : ℤ = value_of l.expr after in
     record {
-      size = length-set after place word ∙ done.size;
+      size = length-set after place value ∙ done.size;
       given = λ j below.
           let other : j ≢ place = λ e. omega arith in
-          set_other after place j word other ∙ done.given j below;
+          set_other after place j value other ∙ done.given j below;
       value = λ p k m below at_k at_m. elim (cases_eq p n) [
         | inl same ↦
             let number : i ≡ k = same_Some _ _ (sym at_i ∙ ap (λ q. slice_get task.order q) (sym same) ∙ at_k) in
             let one : l ≡ m = same_Some _ _ (sym at_l ∙ ap (λ q. slice_get task.lets q) number ∙ at_m) in
-            let old : value_of l.expr (set after place word) ≡ word = stays task n n i i l word after order at_i at_l (omega arith) at_i in
-            ap (λ q. slice_get (set after place word) (let_base task + q)) (sym number) ∙ set_here after place word inside ∙ ap (λ (z : ℤ). Some z) (sym old ∙ ap (λ (q : Let). value_of q.expr (set after place word)) one)
+            let old : value_of l.expr (set after place value) ≡ value = stays task n n i i l value after order at_i at_l (omega arith) at_i in
+            ap (λ q. slice_get (set after place value) (let_base task + q)) (sym number) ∙ set_here after place value inside ∙ ap (λ (z : ℤ). Some z) (sym old ∙ ap (λ (q : Let). value_of q.expr (set after place value)) one)
         | inr apart ↦
             let lower : p < n = omega arith in
             let numbers : k ≢ i = pair_at (λ (a b : ℕ). a ≢ b) task.order p n k i order.once lower at_k at_i in
             let other : let_base task + k ≢ place = λ e. numbers (omega arith) in
-            let old : value_of m.expr (set after place word) ≡ value_of m.expr after = stays task p n i k m word after order at_k at_m (omega arith) at_i in
-            set_other after place (let_base task + k) word other ∙ done.value p k m lower at_k at_m ∙ ap (λ (z : ℤ). Some z) (sym old)
+            let old : value_of m.expr (set after place value) ≡ value_of m.expr after = stays task p n i k m value after order at_k at_m (omega arith) at_i in
+            set_other after place (let_base task + k) value other ∙ done.value p k m lower at_k at_m ∙ ap (λ (z : ℤ). Some z) (sym old)
       ];
     }
 

@@ -16,15 +16,15 @@ use Rattle.dbp_plan.specs.Samples.{input_value}
 use Rattle.dbp_plan.specs.Table.{IsRow, HasAllRows}
 use Rattle.expr_eval.specs.Values.{value_of}
 
--- What a read gives if the tasks have occurred so often: the word of its port in the row of the writer's last
+-- What a read gives if the tasks have occurred so often: the value of its port in the row of the writer's last
 -- instance, or as many instances before that as the link's delay. If the writer had no such instance, the row is
 -- that of first values.
-pub record IsRead (links : List Link) (occurred : ℕ → ℕ) (table : Table) (read : Read) (word : ℤ) : Type 0 where
+pub record IsRead (links : List Link) (occurred : ℕ → ℕ) (table : Table) (read : Read) (value : ℤ) : Type 0 where
   pub link : Link
   pub has_link : slice_get links read.link ≡ Some link
   pub row : List ℤ
   pub is_row : IsRow table link.writer (occurred link.writer - link.delay) row
-  pub has_word : slice_get row read.port ≡ Some word
+  pub has_value : slice_get row read.port ≡ Some value
 
 -- each let has the value of its expression in the environment that it stands in
 abbrev pub HasLets : Task → List ℤ → Type 0
@@ -33,9 +33,9 @@ HasLets task env = (k : ℕ) (l : Let) → slice_get task.lets k ≡ Some l → 
 -- the environment of an instance of the task at the time, from the states before it
 pub record IsEnv (d : Diagram) (samples : List Sample) (batches : List Batch) (table : Table) (task : Task) (time : ℕ) (states env : List ℤ) : Type 0 where
   pub size : length env ≡ place_count task
-  pub state : (k : ℕ) (word : ℤ) → slice_get states k ≡ Some word → slice_get env k ≡ Some word
+  pub state : (k : ℕ) (value : ℤ) → slice_get states k ≡ Some value → slice_get env k ≡ Some value
   pub sense : (k : ℕ) (s : Sense) → slice_get task.senses k ≡ Some s → slice_get env (length task.states + k) ≡ Some (input_value d.inputs samples s.input time)
-  pub read : (k : ℕ) (r : Read) (word : ℤ) → slice_get task.reads k ≡ Some r → slice_get env (length task.states + length task.senses + k) ≡ Some word → IsRead d.links (λ w. count_until (times_of batches w) time) table r word
+  pub read : (k : ℕ) (r : Read) (value : ℤ) → slice_get task.reads k ≡ Some r → slice_get env (length task.states + length task.senses + k) ≡ Some value → IsRead d.links (λ w. count_until (times_of batches w) time) table r value
   pub lets : HasLets task env
 
 -- the states after an instance with this environment: one without a `next` keeps its value

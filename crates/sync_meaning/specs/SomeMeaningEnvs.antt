@@ -1,4 +1,4 @@
--- The environment of an instance, from the words that it is given: there is one, and one only.
+-- The environment of an instance, from the values that it is given: there is one, and one only.
 use Rattle.std.proofs.Common.{◌≡◌, ◌≢◌, ℕ, ℤ, pos, zero, suc, ◌<◌, ◌≤◌, ◌+◌, ◌-◌, true, List, [], ◌∷◌, ◌++◌, length, take, get_or, slice_get, set, Some, refl, sym, ◌∙◌, ap, subst, arith, ◌⊎◌, inl, inr, length-append, length-take}
 use Rattle.std.specs.Prelude.{◌==◌, All, AllPairs, replicate}
 use Rattle.std.specs.List.{Any}
@@ -19,10 +19,10 @@ use Rattle.sync_meaning.specs.Nexts.{NextsUpTo, nexts_all, nexts_more, nexts_non
 use Rattle.dbp_plan.specs.ListItems.{all_place, front_place, at_place, same_item, same_list}
 use Rattle.dbp_plan.specs.Rankings.{task_of}
 
--- the environment begins with the words that are given, and after them stand the lets
+-- the environment begins with the values that are given, and after them stand the lets
 pub record IsEnvFrom (task : Task) (given env : List ℤ) : Type 0 where
   pub size : length env ≡ place_count task
-  pub given_words : (j : ℕ) → j < let_base task → slice_get env j ≡ slice_get given j
+  pub given_values : (j : ℕ) → j < let_base task → slice_get env j ≡ slice_get given j
   pub lets : HasLets task env
 
 -- the lets at the first places of the order, one after another
@@ -52,7 +52,7 @@ lets_set-is (suc n) task env order size few =
     let one : n + 1 ≡ suc n = omega arith in
     subst (λ (m : ℕ). LetsUpTo m task env (let_set task k (lets_set task env n))) one (rw (let_set-is task k l.0 (lets_set task env n) l.1) next)
 
--- the environment that begins with the words
+-- the environment that begins with the values
 pub env_from : Task → List ℤ → List ℤ
 env_from task given = lets_set task (given ++ replicate (length task.lets) (pos 0)) (length task.order)
 
@@ -63,20 +63,20 @@ env_from-is task given order size =
     let done : LetsUpTo (length task.order) task (given ++ replicate (length task.lets) (pos 0)) (env_from task given) = lets_set-is (length task.order) task (given ++ replicate (length task.lets) (pos 0)) order whole (omega arith) in
     record {
       size = done.size ∙ whole;
-      given_words = λ j below. done.given j below ∙ front_place given (replicate (length task.lets) (pos 0)) j (omega arith);
+      given_values = λ j below. done.given j below ∙ front_place given (replicate (length task.lets) (pos 0)) j (omega arith);
       lets = lets_all (length task.order) task (given ++ replicate (length task.lets) (pos 0)) (env_from task given) order (omega arith) done;
     }
 
--- two environments that begin with the same words agree at the lets that stand first in the order
+-- two environments that begin with the same values agree at the lets that stand first in the order
 record AgreeUpTo (n : ℕ) (task : Task) (one other : List ℤ) : Type 0 where
   same : (p k : ℕ) → p < n → slice_get task.order p ≡ Some k → slice_get one (let_base task + k) ≡ slice_get other (let_base task + k)
 
--- so they have the same words at the variables of the next let
+-- so they have the same values at the variables of the next let
 agree_next : (n k : ℕ) (l : Let) (task : Task) (given one other : List ℤ) → IsLetOrder (let_base task) task.lets task.order → slice_get task.order n ≡ Some k → slice_get task.lets k ≡ Some l
     → IsEnvFrom task given one → IsEnvFrom task given other → AgreeUpTo n task one other → AgreeOn l.expr.nodes one other
 agree_next n k l task given one other order at_k at_l a b agree = record {
   same = λ place v at_v. same_item one other v (pos 0) (elim (cases_lt v (let_base task)) [
-    | inl below ↦ a.given_words v below ∙ sym (b.given_words v below)
+    | inl below ↦ a.given_values v below ∙ sym (b.given_values v below)
     | inr above ↦
         let used : Any (λ j. (let_base task + j == v) ≡ true) (take n task.order) = Any-from_list_any (λ j. let_base task + j == v) (take n task.order) (order.after n k place v l at_k at_l at_v above) in
         let same : let_base task + used.1 ≡ v = eqb-true (let_base task + used.1) v used.4 in
@@ -105,7 +105,7 @@ agree_all (suc n) task given one other order few a b =
 
 pub one_env : (task : Task) (given one other : List ℤ) → IsLetOrder (let_base task) task.lets task.order → IsEnvFrom task given one → IsEnvFrom task given other → one ≡ other
 one_env task given one other order a b = same_list one other (a.size ∙ sym b.size) (λ j below. elim (cases_lt j (let_base task)) [
-  | inl lower ↦ a.given_words j lower ∙ sym (b.given_words j lower)
+  | inl lower ↦ a.given_values j lower ∙ sym (b.given_values j lower)
   | inr above ↦
       let k : ℕ = j - let_base task in
       let place : let_base task + k ≡ j = omega arith in

@@ -36,13 +36,13 @@ rank_le (x ∷ xs) zero = omega (arith, sum_by-cons (λ (y : ℕ). y) x xs)
 rank_le (x ∷ xs) (suc i) = omega (arith, rank_le xs i, sum_by-cons (λ (y : ℕ). y) x xs)
 
 module _ (d : Diagram) (samples : List Sample) (batches : List Batch) where
-  -- the word that the read gives at a time if these are the rows
-  abbrev pub word_at : (ℕ → ℕ → List ℤ) → ℕ → Read → ℤ
-  word_at rows time read = option_map_or (λ l. get_or (rows l.writer (count_until (times_of batches l.writer) time - l.delay)) read.port (pos 0)) (slice_get d.links read.link) (pos 0)
+  -- the value that the read gives at a time if these are the rows
+  abbrev pub value_at : (ℕ → ℕ → List ℤ) → ℕ → Read → ℤ
+  value_at rows time read = option_map_or (λ l. get_or (rows l.writer (count_until (times_of batches l.writer) time - l.delay)) read.port (pos 0)) (slice_get d.links read.link) (pos 0)
 
   -- what an environment at the time begins with: states, senses and reads
   abbrev pub given_at : (ℕ → ℕ → List ℤ) → Task → ℕ → List ℤ → List ℤ
-  given_at rows task time states = (states ++ map (λ s. input_value d.inputs samples s.input time) task.senses) ++ map (word_at rows time) task.reads
+  given_at rows task time states = (states ++ map (λ s. input_value d.inputs samples s.input time) task.senses) ++ map (value_at rows time) task.reads
 
   -- the states before the instance at place n of task i
   pub states_at : (ℕ → ℕ → List ℤ) → ℕ → Task → ℕ → List ℤ
@@ -167,10 +167,10 @@ module _ (d : Diagram) (samples : List Sample) (batches : List Batch) where
       | inr late ↦ late_turn l.link.writer i (count_until (times_of batches l.link.writer) (get_or (times_of batches i) n 0) - l.link.delay) n (omega arith)
     ]
 
-    -- so the words that an instance reads are the same
-    word_same : (i n k : ℕ) (task : Task) (read : Read) (rows other : ℕ → ℕ → List ℤ) → slice_get d.tasks i ≡ Some task → slice_get task.reads k ≡ Some read
-        → AgreeBelow (turn i (suc n)) rows other → word_at rows (get_or (times_of batches i) n 0) read ≡ word_at other (get_or (times_of batches i) n 0) read
-    word_same i n k task read rows other at_task at_read agree =
+    -- so the values that an instance reads are the same
+    value_same : (i n k : ℕ) (task : Task) (read : Read) (rows other : ℕ → ℕ → List ℤ) → slice_get d.tasks i ≡ Some task → slice_get task.reads k ≡ Some read
+        → AgreeBelow (turn i (suc n)) rows other → value_at rows (get_or (times_of batches i) n 0) read ≡ value_at other (get_or (times_of batches i) n 0) read
+    value_same i n k task read rows other at_task at_read agree =
         let l : IsLinkOf i task read = link_of i k task read at_task at_read in
         let number : ℕ = count_until (times_of batches l.link.writer) (get_or (times_of batches i) n 0) - l.link.delay in
         let few : number ≤ length (times_of batches l.link.writer) = omega (arith, within l.link.writer (get_or (times_of batches i) n 0)) in
@@ -181,7 +181,7 @@ module _ (d : Diagram) (samples : List Sample) (batches : List Batch) where
         → states_at rows i task n ≡ states_at other i task n → env_at rows i task n ≡ env_at other i task n
     env_same i n task rows other at agree states =
         let time : ℕ = get_or (times_of batches i) n 0 in
-        let words : map (word_at rows time) task.reads ≡ map (word_at other time) task.reads = map_same (word_at rows time) (word_at other time) task.reads (λ k read at_read. word_same i n k task read rows other at at_read agree) in
+        let words : map (value_at rows time) task.reads ≡ map (value_at other time) task.reads = map_same (value_at rows time) (value_at other time) task.reads (λ k read at_read. value_same i n k task read rows other at at_read agree) in
         ap (λ (s : List ℤ). env_from task (given_at rows task time s)) states
         ∙ ap (λ (ws : List ℤ). env_from task ((states_at other i task n ++ map (λ s. input_value d.inputs samples s.input time) task.senses) ++ ws)) words
 

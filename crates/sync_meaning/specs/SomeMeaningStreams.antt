@@ -19,64 +19,64 @@ use Rattle.dbp_plan.specs.Table.{IsRow}
 use Rattle.sync_meaning.specs.Meaning.{AreStatesAfter, IsEnv, IsMeaning, IsRead, IsStream, outs_in}
 use Rattle.dbp_plan.specs.ListItems.{after_place, front_place}
 use Rattle.sync_meaning.specs.SomeMeaningEnvs.{IsEnvFrom, env_from-is, states_after, states_after-are}
-use Rattle.sync_meaning.specs.SomeMeaningRows.{IsLinkOf, Solves, env_at, given_at, link_of, row_of, solution, solution-solves, states_at, states_at-more, states_at-none, task_rules, word_at}
+use Rattle.sync_meaning.specs.SomeMeaningRows.{IsLinkOf, Solves, env_at, given_at, link_of, row_of, solution, solution-solves, states_at, states_at-more, states_at-none, task_rules, value_at}
 use Rattle.sync_meaning.specs.SomeMeaningTables.{AreWide, table_of, table_of-all, table_of-row}
 
 module _ (d : Diagram) (samples : List Sample) (batches : List Batch) where
-  -- the words that an environment begins with: states, senses and reads
+  -- the values that an environment begins with: states, senses and reads
   length-senses : (task : Task) (time : ℕ) → length (map (λ s. input_value d.inputs samples s.input time) task.senses) ≡ length task.senses
   length-senses task time = length-map task.senses (λ s. input_value d.inputs samples s.input time)
 
   pub length-given : (rows : ℕ → ℕ → List ℤ) (task : Task) (time : ℕ) (states : List ℤ) → length states ≡ length task.states → length (given_at d samples batches rows task time states) ≡ let_base task
   length-given rows task time states size =
       let senses : List ℤ = map (λ s. input_value d.inputs samples s.input time) task.senses in
-      let reads : List ℤ = map (word_at d samples batches rows time) task.reads in
-      length-append (states ++ senses) reads ∙ omega (arith, length-append states senses, length-senses task time, length-map task.reads (word_at d samples batches rows time), size)
+      let reads : List ℤ = map (value_at d samples batches rows time) task.reads in
+      length-append (states ++ senses) reads ∙ omega (arith, length-append states senses, length-senses task time, length-map task.reads (value_at d samples batches rows time), size)
 
   pub state_given : (rows : ℕ → ℕ → List ℤ) (task : Task) (time k : ℕ) (states : List ℤ) → k < length states → slice_get (given_at d samples batches rows task time states) k ≡ slice_get states k
   state_given rows task time k states below =
       let senses : List ℤ = map (λ s. input_value d.inputs samples s.input time) task.senses in
-      let reads : List ℤ = map (word_at d samples batches rows time) task.reads in
+      let reads : List ℤ = map (value_at d samples batches rows time) task.reads in
       front_place (states ++ senses) reads k (omega (arith, length-append states senses)) ∙ front_place states senses k below
 
   pub sense_given : (rows : ℕ → ℕ → List ℤ) (task : Task) (time k : ℕ) (s : Sense) (states : List ℤ) → length states ≡ length task.states → slice_get task.senses k ≡ Some s
       → slice_get (given_at d samples batches rows task time states) (length task.states + k) ≡ Some (input_value d.inputs samples s.input time)
   sense_given rows task time k s states size at =
       let senses : List ℤ = map (λ s. input_value d.inputs samples s.input time) task.senses in
-      let reads : List ℤ = map (word_at d samples batches rows time) task.reads in
+      let reads : List ℤ = map (value_at d samples batches rows time) task.reads in
       let inside : k < length task.senses = slice_get_within task.senses k s at in
       ap (λ (n : ℕ). slice_get ((states ++ senses) ++ reads) (n + k)) (sym size)
       ∙ front_place (states ++ senses) reads (length states + k) (omega (arith, length-append states senses, length-senses task time, inside))
       ∙ after_place states senses k ∙ slice_get-map (λ s. input_value d.inputs samples s.input time) task.senses k ∙ ap (option_map (λ s. input_value d.inputs samples s.input time)) at
 
   pub read_given : (rows : ℕ → ℕ → List ℤ) (task : Task) (time k : ℕ) (r : Read) (states : List ℤ) → length states ≡ length task.states → slice_get task.reads k ≡ Some r
-      → slice_get (given_at d samples batches rows task time states) (length task.states + length task.senses + k) ≡ Some (word_at d samples batches rows time r)
+      → slice_get (given_at d samples batches rows task time states) (length task.states + length task.senses + k) ≡ Some (value_at d samples batches rows time r)
   read_given rows task time k r states size at =
       let senses : List ℤ = map (λ s. input_value d.inputs samples s.input time) task.senses in
-      let reads : List ℤ = map (word_at d samples batches rows time) task.reads in
+      let reads : List ℤ = map (value_at d samples batches rows time) task.reads in
       let base : length task.states + length task.senses ≡ length (states ++ senses) = omega (arith, length-append states senses, length-senses task time, size) in
       ap (λ (n : ℕ). slice_get ((states ++ senses) ++ reads) (n + k)) base
-      ∙ after_place (states ++ senses) reads k ∙ slice_get-map (word_at d samples batches rows time) task.reads k ∙ ap (option_map (word_at d samples batches rows time)) at
+      ∙ after_place (states ++ senses) reads k ∙ slice_get-map (value_at d samples batches rows time) task.reads k ∙ ap (option_map (value_at d samples batches rows time)) at
 
-  -- the words are those that the table's rows give
+  -- the values are those that the table's rows give
   pub record Reads (rows : ℕ → ℕ → List ℤ) (table : Table) (task : Task) (time : ℕ) : Type 0 where
-    pub each : (k : ℕ) (r : Read) → slice_get task.reads k ≡ Some r → IsRead d.links (λ w. count_until (times_of batches w) time) table r (word_at d samples batches rows time r)
+    pub each : (k : ℕ) (r : Read) → slice_get task.reads k ≡ Some r → IsRead d.links (λ w. count_until (times_of batches w) time) table r (value_at d samples batches rows time r)
 
   env_of : (rows : ℕ → ℕ → List ℤ) (table : Table) (task : Task) (time : ℕ) (states env : List ℤ) → length states ≡ length task.states → Reads rows table task time
       → IsEnvFrom task (given_at d samples batches rows task time states) env → IsEnv d samples batches table task time states env
   env_of rows table task time states env size reads is = record {
     size = is.size;
-    state = λ k word at.
-        let inside : k < length states = slice_get_within states k word at in
-        is.given_words k (omega arith) ∙ state_given rows task time k states inside ∙ at;
+    state = λ k value at.
+        let inside : k < length states = slice_get_within states k value at in
+        is.given_values k (omega arith) ∙ state_given rows task time k states inside ∙ at;
     sense = λ k s at.
         let inside : k < length task.senses = slice_get_within task.senses k s at in
-        is.given_words (length task.states + k) (omega arith) ∙ sense_given rows task time k s states size at;
-    read = λ k r word at at_word.
+        is.given_values (length task.states + k) (omega arith) ∙ sense_given rows task time k s states size at;
+    read = λ k r value at at_value.
         let inside : k < length task.reads = slice_get_within task.reads k r at in
-        let there : slice_get env (length task.states + length task.senses + k) ≡ Some (word_at d samples batches rows time r) =
-        is.given_words (length task.states + length task.senses + k) (omega arith) ∙ read_given rows task time k r states size at in
-        let same : word_at d samples batches rows time r ≡ word = same_Some _ _ (sym there ∙ at_word) in
+        let there : slice_get env (length task.states + length task.senses + k) ≡ Some (value_at d samples batches rows time r) =
+        is.given_values (length task.states + length task.senses + k) (omega arith) ∙ read_given rows task time k r states size at in
+        let same : value_at d samples batches rows time r ≡ value = same_Some _ _ (sym there ∙ at_value) in
         subst (λ (w : ℤ). IsRead d.links (λ v. count_until (times_of batches v) time) table r w) same (reads.each k r at);
     lets = is.lets;
   }
@@ -118,13 +118,13 @@ module _ (d : Diagram) (samples : List Sample) (batches : List Batch) where
             let number : ℕ = count_until (times_of batches l.link.writer) time - l.link.delay in
             let few : number ≤ length (times_of batches l.link.writer) = omega (arith, count_by-le-length (λ (t : ℕ). nat_le t time) (times_of batches l.link.writer)) in
             let size : length (rows l.link.writer number) ≡ length l.writer.outs = wide.each l.link.writer number l.writer l.has_writer few in
-            let word : word_at d samples batches rows time r ≡ get_or (rows l.link.writer number) r.port (pos 0) = rw l.has_link refl in
+            let value : value_at d samples batches rows time r ≡ get_or (rows l.link.writer number) r.port (pos 0) = rw l.has_link refl in
             record {
               link = l.link;
               has_link = l.has_link;
               row = rows l.link.writer number;
               is_row = table_of-row rows batches d.tasks l.link.writer number l.writer wide l.has_writer few;
-              has_word = slice_get-get_or (rows l.link.writer number) r.port (pos 0) (omega (arith, size, l.port)) ∙ ap (λ (w : ℤ). Some w) (sym word);
+              has_value = slice_get-get_or (rows l.link.writer number) r.port (pos 0) (omega (arith, size, l.port)) ∙ ap (λ (w : ℤ). Some w) (sym value);
             };
       }
 

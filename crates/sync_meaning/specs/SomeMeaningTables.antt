@@ -15,39 +15,39 @@ use Rattle.dbp_plan.specs.Table.{HasAllRows, HasRowsOf, IsRow, row_at, table_row
 use Rattle.dbp_plan.specs.ListItems.{at_place, same_list}
 use Rattle.dbp_plan.specs.Ranges.{range_after, range_front}
 
--- the words of the rows up to this number
-words_to : (ℕ → List ℤ) → ℕ → List ℤ
-words_to row zero = row 0
-words_to row (suc n) = words_to row n ++ row (suc n)
+-- the values of the rows up to this number
+values_to : (ℕ → List ℤ) → ℕ → List ℤ
+values_to row zero = row 0
+values_to row (suc n) = values_to row n ++ row (suc n)
 
-length-words_to : (outs n : ℕ) (row : ℕ → List ℤ) → ((k : ℕ) → k ≤ n → length (row k) ≡ outs) → length (words_to row n) ≡ (n + 1) * outs
-unfolding words_to
-length-words_to outs zero row each = each 0 (omega arith) ∙ omega arith
-length-words_to outs (suc n) row each =
-    let before : length (words_to row n) ≡ (n + 1) * outs = length-words_to outs n row (λ k few. each k (omega arith)) in
+length-values_to : (outs n : ℕ) (row : ℕ → List ℤ) → ((k : ℕ) → k ≤ n → length (row k) ≡ outs) → length (values_to row n) ≡ (n + 1) * outs
+unfolding values_to
+length-values_to outs zero row each = each 0 (omega arith) ∙ omega arith
+length-values_to outs (suc n) row each =
+    let before : length (values_to row n) ≡ (n + 1) * outs = length-values_to outs n row (λ k few. each k (omega arith)) in
     let last : length (row (suc n)) ≡ outs = each (suc n) (omega arith) in
     let one : suc n ≡ n + 1 = omega arith in
-    length-append (words_to row n) (row (suc n)) ∙ rw (before, last, one) (omega arith)
+    length-append (values_to row n) (row (suc n)) ∙ rw (before, last, one) (omega arith)
 
-range_of : (outs n k : ℕ) (row : ℕ → List ℤ) → ((j : ℕ) → j ≤ n → length (row j) ≡ outs) → k ≤ n → slice_range (words_to row n) (k * outs) ((k + 1) * outs) ≡ row k
-unfolding words_to
+range_of : (outs n k : ℕ) (row : ℕ → List ℤ) → ((j : ℕ) → j ≤ n → length (row j) ≡ outs) → k ≤ n → slice_range (values_to row n) (k * outs) ((k + 1) * outs) ≡ row k
+unfolding values_to
 range_of outs zero zero row each few = range_after [] (row 0) (0 * outs) ((0 + 1) * outs) (omega arith) (omega (arith, each 0 few))
 range_of outs zero (suc k) row each few = absurd (omega arith)
 range_of outs (suc n) k row each few =
-    let size : length (words_to row n) ≡ (n + 1) * outs = length-words_to outs n row (λ j less. each j (omega arith)) in
+    let size : length (values_to row n) ≡ (n + 1) * outs = length-values_to outs n row (λ j less. each j (omega arith)) in
     elim (cases_lt k (suc n)) [
       | inl before ↦
           let scaled : (k + 1) * outs ≤ (n + 1) * outs = mul-le-mul_right outs (omega arith) in
-          range_front (words_to row n) (row (suc n)) (k * outs) ((k + 1) * outs) (omega arith) (omega arith) ∙ range_of outs n k row (λ j less. each j (omega arith)) (omega arith)
+          range_front (values_to row n) (row (suc n)) (k * outs) ((k + 1) * outs) (omega arith) (omega arith) ∙ range_of outs n k row (λ j less. each j (omega arith)) (omega arith)
       | inr last ↦
           let here : k ≡ suc n = omega arith in
           let one : k ≡ n + 1 = omega arith in
-          let first : k * outs ≡ length (words_to row n) = ap (λ (j : ℕ). j * outs) one ∙ sym size in
+          let first : k * outs ≡ length (values_to row n) = ap (λ (j : ℕ). j * outs) one ∙ sym size in
           let end : length (row (suc n)) ≡ outs = each (suc n) (omega arith) in
-          range_after (words_to row n) (row (suc n)) (k * outs) ((k + 1) * outs) first (omega arith) ∙ ap row (sym here)
+          range_after (values_to row n) (row (suc n)) (k * outs) ((k + 1) * outs) first (omega arith) ∙ ap row (sym here)
     ]
 
--- the first rows of two lists of words
+-- the first rows of two lists of values
 take_same : (outs n k : ℕ) (xs ys : List ℤ) → ((j : ℕ) → j ≤ n → slice_range xs (j * outs) ((j + 1) * outs) ≡ slice_range ys (j * outs) ((j + 1) * outs)) → k ≤ n + 1 → take (k * outs) xs ≡ take (k * outs) ys
 take_same outs n zero xs ys same few = let none : 0 * outs ≡ 0 = omega arith in rw none refl
 take_same outs n (suc k) xs ys same few =
@@ -58,9 +58,9 @@ take_same outs n (suc k) xs ys same few =
     ap (λ (m : ℕ). take m xs) all ∙ take-add (k * outs) outs xs ∙ ap (λ (l : List ℤ). l ++ take outs (drop (k * outs) xs)) before
     ∙ ap (λ (l : List ℤ). take (k * outs) ys ++ l) row ∙ sym (take-add (k * outs) outs ys) ∙ ap (λ (m : ℕ). take m ys) (sym all)
 
-same_words : (outs n : ℕ) (xs ys : List ℤ) → length xs ≡ (n + 1) * outs → length ys ≡ (n + 1) * outs
+same_values : (outs n : ℕ) (xs ys : List ℤ) → length xs ≡ (n + 1) * outs → length ys ≡ (n + 1) * outs
     → ((j : ℕ) → j ≤ n → slice_range xs (j * outs) ((j + 1) * outs) ≡ slice_range ys (j * outs) ((j + 1) * outs)) → xs ≡ ys
-same_words outs n xs ys size_x size_y same =
+same_values outs n xs ys size_x size_y same =
     sym (take_all ((n + 1) * outs) xs (omega arith)) ∙ take_same outs n (n + 1) xs ys same (omega arith) ∙ take_all ((n + 1) * outs) ys (omega arith)
 
 same_rows : (outs n : ℕ) (x y : TaskRows) → HasRowsOf outs n x → HasRowsOf outs n y → ((j : ℕ) → j ≤ n → row_at x j ≡ row_at y j) → x ≡ y
@@ -69,7 +69,7 @@ same_rows outs n x y has_x has_y same =
     let rows : (j : ℕ) → j ≤ n → slice_range x.words (j * outs) ((j + 1) * outs) ≡ slice_range y.words (j * outs) ((j + 1) * outs) =
     λ j few.
     ap (λ (p : ℕ). slice_range x.words (j * p) ((j + 1) * p)) (sym has_x.ports) ∙ same j few ∙ ap (λ (p : ℕ). slice_range y.words (j * p) ((j + 1) * p)) has_y.ports in
-    let words : x.words ≡ y.words = same_words outs n x.words y.words has_x.size has_y.size rows in
+    let words : x.words ≡ y.words = same_values outs n x.words y.words has_x.size has_y.size rows in
     λ i. record { ports = ports i; words = words i }
 
 -- a table's row with this number
@@ -94,7 +94,7 @@ same_table tasks batches x y has_x has_y same =
 
 -- the table of given rows
 abbrev task_rows : (ℕ → ℕ → List ℤ) → List Batch → ℕ → Task → TaskRows
-task_rows rows batches i task = record { ports = length task.outs; words = words_to (rows i) (length (times_of batches i)) }
+task_rows rows batches i task = record { ports = length task.outs; words = values_to (rows i) (length (times_of batches i)) }
 
 tables_from : (ℕ → ℕ → List ℤ) → List Batch → ℕ → List Task → List TaskRows
 tables_from rows batches i [] = []
@@ -132,8 +132,8 @@ table_of-all rows batches tasks wide = record {
   size = length-tables_from rows batches 0 tasks;
   each = λ i task has at_task at_rows.
       let same : task_rows rows batches i task ≡ has = same_Some _ _ (sym (table_of-at rows batches i tasks task at_task) ∙ at_rows) in
-      let size : length (words_to (rows i) (length (times_of batches i))) ≡ (length (times_of batches i) + 1) * length task.outs =
-      length-words_to (length task.outs) (length (times_of batches i)) (rows i) (λ k few. wide.each i k task at_task few) in
+      let size : length (values_to (rows i) (length (times_of batches i))) ≡ (length (times_of batches i) + 1) * length task.outs =
+      length-values_to (length task.outs) (length (times_of batches i)) (rows i) (λ k few. wide.each i k task at_task few) in
       subst (λ (r : TaskRows). HasRowsOf (length task.outs) (length (times_of batches i)) r) same (record { ports = refl; size = size });
 }
 
@@ -144,7 +144,7 @@ table_of-row rows batches tasks i n task wide at few =
     let last : ℕ = length (times_of batches i) in
     let each : (k : ℕ) → k ≤ last → length (rows i k) ≡ outs = λ k less. wide.each i k task at less in
     let scaled : (n + 1) * outs ≤ (last + 1) * outs = mul-le-mul_right outs (omega arith) in
-    let size : length (words_to (rows i) last) ≡ (last + 1) * outs = length-words_to outs last (rows i) each in
+    let size : length (values_to (rows i) last) ≡ (last + 1) * outs = length-values_to outs last (rows i) each in
     record {
       rows = task_rows rows batches i task;
       has_rows = table_of-at rows batches i tasks task at;

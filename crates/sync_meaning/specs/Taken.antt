@@ -6,11 +6,11 @@ use Rattle.dbp_plan.specs.Samples.{first_value, input_value, last_value, own_sam
 
 -- each input has the last value that the samples give it, else its first one
 abbrev pub HasLastValues : List Input → List Sample → List ℤ → Type 0
-HasLastValues inputs samples values = (x : ℕ) (word : ℤ) → slice_get values x ≡ Some word → word ≡ last_value (first_value inputs x) (map (λ s. s.value) (own_samples x samples))
+HasLastValues inputs samples values = (x : ℕ) (value : ℤ) → slice_get values x ≡ Some value → value ≡ last_value (first_value inputs x) (map (λ s. s.value) (own_samples x samples))
 
 -- each input has its value at the time
 abbrev pub AreValuesAt : List Input → List Sample → ℕ → List ℤ → Type 0
-AreValuesAt inputs samples time values = (x : ℕ) (word : ℤ) → slice_get values x ≡ Some word → word ≡ input_value inputs samples x time
+AreValuesAt inputs samples time values = (x : ℕ) (value : ℤ) → slice_get values x ≡ Some value → value ≡ input_value inputs samples x time
 
 -- so many samples are taken, none of them later than the time, and the inputs have these values
 pub record AreTaken (inputs : List Input) (samples : List Sample) (time taken : ℕ) (values : List ℤ) : Type 0 where

@@ -7,10 +7,10 @@ ghost use Rattle.dbp_plan.specs.declared.limits.TheConstants.{MAX_BODY};
 use dbp_plan::{List, NoMemory, State, Task};
 use std::alloc::Global;
 
-/// The words that a task's instance computes with.
+/// The values that a task's instance computes with.
 #[derive(Drop)]
 pub struct Env {
-    /// A word for each place of the task's environment: its states, its senses, its reads and its lets.
+    /// A value for each place of the task's environment: its states, its senses, its reads and its lets.
     pub now: List<i64>,
     /// The values of the states after the instance.
     pub later: List<i64>,
@@ -27,7 +27,7 @@ impl Env {
     }
 }
 
-// Writes the words over the first ones.
+// Writes the values over the first ones.
 fn copy_to_front(words: &mut [i64], front: &[i64])
     requires { length front.now ≤ length words.old }
     ensures { words.new ≡ front.now ++ drop (length front.now) words.old }

@@ -11,7 +11,7 @@ use dbp_plan::{Link, Read, Table, Task};
 pub(crate) fn set_senses(task: &Task, inputs: &[i64], env: &mut Env)
     requires env { IsEnvOf task.now env.old }
     requires inputs { All (λ s. s.input < length inputs.now) task.now.senses }
-    ensures now { AreWritten (length task.now.states) task.now.senses (λ s word. slice_get inputs.now s.input ≡ Some word) env.old.now env.new.now }
+    ensures now { AreWritten (length task.now.states) task.now.senses (λ s value. slice_get inputs.now s.input ≡ Some value) env.old.now env.new.now }
     ensures later { env.new.later ≡ env.old.later }
 {
     let now = env.now.items_mut();
@@ -21,7 +21,7 @@ pub(crate) fn set_senses(task: &Task, inputs: &[i64], env: &mut Env)
     }
 }
 
-// Gives the reads the words that stand in the table.
+// Gives the reads the values that stand in the table.
 pub(crate) fn set_reads(task: &Task, links: &[Link], named: &[u32], table: &Table, env: &mut Env)
     requires env { IsEnvOf task.now env.old }
     requires writers { All (λ l. l.writer < length named.now) links.now }
@@ -32,12 +32,12 @@ pub(crate) fn set_reads(task: &Task, links: &[Link], named: &[u32], table: &Tabl
     let now = env.now.items_mut();
     let base = task.states.items().len() + task.senses.items().len();
     for (k, read) in task.reads.items().iter().enumerate() {
-        now[base + k] = read_word(read, links, named, table);
+        now[base + k] = read_value(read, links, named, table);
     }
 }
 
-// The word of the port in the writer's row of as many occurrences ago as the link's delay.
-fn read_word(read: &Read, links: &[Link], named: &[u32], table: &Table) -> i64
+// The value of the port in the writer's row of as many occurrences ago as the link's delay.
+fn read_value(read: &Read, links: &[Link], named: &[u32], table: &Table) -> i64
     requires writers { All (λ l. l.writer < length named.now) links.now }
     requires there { IsReadable links.now (slice_index named.now) table.now read.now }
     ensures { IsRead links.now (slice_index named.now) table.now read.now result }

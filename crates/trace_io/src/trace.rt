@@ -38,7 +38,7 @@ ghost use Rattle.dbp_plan.specs.declared.schedule.Sample.{Sample as AnySample};
 
 /// The fault of the `until` line: all tasks together occur more often than `MAX_OCCURRENCES`, if these are the times of
 /// the events and the samples of each input.
-fn few_occurrences(
+fn check_occurrences(
     diagram: &Diagram,
     doc: &Doc,
     events: &[List<u64>],
@@ -81,7 +81,7 @@ fn empty_trace(alloc: Global, diagram: &Diagram, doc: &Doc) -> Result<Trace, Tra
     ensures many { MAX_OCCURRENCES < total_of diagram.now [] []
         → result ≡ Err (Refused doc.now.lines.until_at TooManyOccurrences) }
 {
-    few_occurrences(diagram, doc, &[], &[])?;
+    check_occurrences(diagram, doc, &[], &[])?;
     Ok(Trace {
         events: no_times(alloc, diagram.events.items().len())?,
         samples: List::new(alloc),
@@ -136,7 +136,7 @@ fn own_lists<'s>(
 }
 
 /// What the lines of the document's trace section give to the inputs and events of its diagram, or their first fault.
-fn lines_of_section(
+fn read_section(
     alloc: Global,
     diagram: &Diagram,
     doc: &Doc,
@@ -209,10 +209,10 @@ fn section_trace(
     if text.is_empty() {
         return Err(bad_header(doc.lines.trace_at));
     }
-    let said = lines_of_section(alloc, diagram, doc, text)?;
+    let said = read_section(alloc, diagram, doc, text)?;
     let own = own_samples(alloc, diagram, &said.samples)?;
     let lists = own_lists(diagram, &said.samples, &own);
-    few_occurrences(diagram, doc, &said.events, lists)?;
+    check_occurrences(diagram, doc, &said.events, lists)?;
     Ok(Trace {
         events: said.events,
         samples: said.samples,

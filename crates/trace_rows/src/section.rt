@@ -12,7 +12,7 @@ use std::alloc::Global;
 
 /// What an error of the reader of records says, if it doesn't say that a record is no text or of another length: a
 /// slice can always be read, so memory ran out.
-fn want_of_memory(error: &Error) -> NoMemory
+fn out_of_memory(error: &Error) -> NoMemory
     requires { IsOfMemory (error_kind error.now) }
 {
     match error.kind() {
@@ -81,7 +81,7 @@ impl<'t> Records<'t> {
                 Ok(true)
             }
             Ok(false) => Ok(false),
-            Err(error) => Err(want_of_memory(&error)),
+            Err(error) => Err(out_of_memory(&error)),
         }
     }
 }

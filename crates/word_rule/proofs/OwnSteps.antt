@@ -223,11 +223,11 @@ module _ (p : Plan) (split : ℕ) (s : State) (sound : Sound p (run_wiring p) (m
     | inr isnt ↦ let bad : heard.NotYet ≡ heard.Ready = rw isnt at is in absurd (cc (bad))
   ]
 
-  take_promised : (i j r : ℕ) (t : TaskPart) → i < length p.diagram.tasks → t ≡ (task s i).part → j ≡ i → rule.refusal (run_wiring p) s (Take j r) ≡ None → IsMeant p (meaning_of p) i (t.ended + 1) r (rule.read_word (run_wiring p) s j (turn_at (task s j).part.place))
+  take_promised : (i j r : ℕ) (t : TaskPart) → i < length p.diagram.tasks → t ≡ (task s i).part → j ≡ i → rule.refusal (run_wiring p) s (Take j r) ≡ None → IsMeant p (meaning_of p) i (t.ended + 1) r (rule.read_value (run_wiring p) s j (turn_at (task s j).part.place))
   take_promised i j r t named is one free =
       let takes = take_meant p (run_wiring p) (meaning_of p) s i r (own_wiring p All) (meaning_of-is p) sound named (subst (λ (k : ℕ). rule.refusal (run_wiring p) s (Take k r) ≡ None) one free) in
-      let word : takes.word ≡ rule.read_word (run_wiring p) s i (turn_at (task s i).part.place) = sym (one_word (rule.read_word (run_wiring p) s i (turn_at (task s i).part.place)) takes.word takes.hears) in
-      subst (λ (k : ℕ). IsMeant p (meaning_of p) i (t.ended + 1) r (rule.read_word (run_wiring p) s k (turn_at (task s k).part.place))) (sym one)
+      let word : takes.word ≡ rule.read_value (run_wiring p) s i (turn_at (task s i).part.place) = sym (one_word (rule.read_value (run_wiring p) s i (turn_at (task s i).part.place)) takes.word takes.hears) in
+      subst (λ (k : ℕ). IsMeant p (meaning_of p) i (t.ended + 1) r (rule.read_value (run_wiring p) s k (turn_at (task s k).part.place))) (sym one)
       (subst (λ (y : TaskPart × ℤ). IsMeant p (meaning_of p) i (y.0.ended + 1) r y.1) (λ z. (sym is z, word z)) takes.meant)
 
   look_promised : (i j r : ℕ) (t : TaskPart) → i < length p.diagram.tasks → t ≡ (task s i).part → j ≡ i → rule.refusal (run_wiring p) s (Look j r) ≡ None

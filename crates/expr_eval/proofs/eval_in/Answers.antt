@@ -16,8 +16,8 @@ loop-nodes-init c =
 
 pub loop-nodes-preserved-in-Num : goal.loop-nodes-preserved-in-Num
 loop-nodes-preserved-in-Num c =
-    let is = first_and_rest c.loop-nodes.nodes.now (Num (pos 0)) (Num c.in-Num.word) c.in-len1-up.len_at_least c.in-Num.is in
-    let shown : to_z w64 (of_z w64 c.in-Num.word) ≡ c.in-Num.word = search (rules, to_z-of_z) in
+    let is = first_and_rest c.loop-nodes.nodes.now (Num (pos 0)) (Num c.in-Num.value) c.in-len1-up.len_at_least c.in-Num.is in
+    let shown : to_z w64 (of_z w64 c.in-Num.value) ≡ c.in-Num.value = search (rules, to_z-of_z) in
     let within : c.loop-nodes.height < length c.loop-nodes.stack = omega (arith, ap length is) in
     record {
       runs = rw shown (runs_number _ _ _ _ _ _ _ _ is within c.loop-nodes.invariant.runs);

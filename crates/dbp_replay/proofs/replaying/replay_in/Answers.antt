@@ -14,16 +14,16 @@ returns-in_err-all_heard-clause-refused c = λ number why illegal.
     let same = refused-once (plan_in c.args.core) (count_in c.args.core) c.args.steps.now refused.step number refused.why why c.in_err-all_heard.ensures.illegal illegal in
     told.1 ∙ ap (λ e. Err e) (told.2 ∙ (λ i. replay_fail.Illegal (same.0 i) (same.1 i)))
 
-pub taken_text-requires-clause-there : goal.taken_text-requires-clause-there
-taken_text-requires-clause-there c =
+pub transcript-requires-clause-there : goal.transcript-requires-clause-there
+transcript-requires-clause-there c =
     let plan : c.plan.result.now ≡ plan_in c.args.core = c.plan.ensures ∙ c.in_ok-all_heard.ensures.plan in
     rw plan c.requires.there
 
-pub taken_text-requires-clause-size : goal.taken_text-requires-clause-size
-taken_text-requires-clause-size c = rw c.deref.ensures.value c.in_ok-all_heard.ensures.size
+pub transcript-requires-clause-size : goal.transcript-requires-clause-size
+transcript-requires-clause-size c = rw c.deref.ensures.value c.in_ok-all_heard.ensures.size
 
-pub returns-in_err-taken_text-clause-refused : goal.returns-in_err-taken_text-clause-refused
-returns-in_err-taken_text-clause-refused c = λ number why illegal.
+pub returns-in_err-transcript-clause-refused : goal.returns-in_err-transcript-clause-refused
+returns-in_err-transcript-clause-refused c = λ number why illegal.
     absurd (taken-not-refused (plan_in c.args.core) (count_in c.args.core) c.args.steps.now (zip c.args.steps.now c.in_ok-all_heard.all_heard.items) number why c.in_ok-all_heard.ensures.taken illegal)
 
 pub returns-clause-refused : goal.returns-clause-refused

@@ -15,23 +15,23 @@ returns-in-Some c =
     let k = c.loop-row.row-index in
     let row = get_or rows k no_row in
     let found = c.in-Some.command in
-    let named : Names c.args.words.now found =
+    let named : Names c.args.arguments.now found =
     by_row k (row_of row) found (row-listed rows k no_row c.rows-row-items.ensures (omega arith)) ((c.in-Some.ensures found).0 refl) in
     λ command. (
-      λ told. subst (λ (d : Command). Names c.args.words.now d) (same_Some found command told) named,
-      λ other. ap (λ (d : Command). Some d) (one-command c.args.words.now found command named other),
+      λ told. subst (λ (d : Command). Names c.args.arguments.now d) (same_Some found command told) named,
+      λ other. ap (λ (d : Command). Some d) (one-command c.args.arguments.now found command named other),
     )
 
--- words that name no command by a row name none
-no-names : (rows : List Row) (words : List (String Global)) (command : Command) → HasAllCommands rows
-    → ((k : ℕ) → k < length rows → (other : Command) → NamesBy (row_of (get_or rows k no_row)) words other → ⊥) → Names words command → ⊥
-no-names rows words command all none (by_row k line _ at named) =
+-- arguments that name no command by a row name none
+no-names : (rows : List Row) (arguments : List (String Global)) (command : Command) → HasAllCommands rows
+    → ((k : ℕ) → k < length rows → (other : Command) → NamesBy (row_of (get_or rows k no_row)) arguments other → ⊥) → Names arguments command → ⊥
+no-names rows arguments command all none (by_row k line _ at named) =
     let row = listed-row rows k no_row line all at in
-    none k row.0 command (subst (λ (l : CommandRow). NamesBy l words command) (sym row.1) named)
+    none k row.0 command (subst (λ (l : CommandRow). NamesBy l arguments command) (sym row.1) named)
 
 pub returns : goal.returns
 returns c =
     let rows = c.rows-row-items.result.now in
-    let none : (k : ℕ) → k < length rows → (command : Command) → NamesBy (row_of (get_or rows k no_row)) c.args.words.now command → ⊥ =
+    let none : (k : ℕ) → k < length rows → (command : Command) → NamesBy (row_of (get_or rows k no_row)) c.args.arguments.now command → ⊥ =
     λ k below. c.loop-row.invariant k (omega arith) in
-    λ command. (λ told. absurd cc, λ named. absurd (no-names rows c.args.words.now command c.rows-row-items.ensures none named))
+    λ command. (λ told. absurd cc, λ named. absurd (no-names rows c.args.arguments.now command c.rows-row-items.ensures none named))

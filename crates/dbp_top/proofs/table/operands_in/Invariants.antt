@@ -6,5 +6,5 @@ use Rattle.dbp_top.proofs.table.operands_in.Given as goal
 
 abbrev pub invariant-loop-place : goal.invariant-loop-place
 invariant-loop-place l = (given : Operands) →
-    AllFit (map form_of l.patterns) (map (λ w. string_bytes w) l.words) first_operands given
-    ↔ AllFit (map form_of (drop l.place l.patterns)) (map (λ w. string_bytes w) (drop l.place l.words)) l.operands given
+    AllFit (map form_of l.patterns) (map (λ w. string_bytes w) l.arguments) first_operands given
+    ↔ AllFit (map form_of (drop l.place l.patterns)) (map (λ w. string_bytes w) (drop l.place l.arguments)) l.operands given

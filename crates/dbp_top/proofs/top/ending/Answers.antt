@@ -12,31 +12,31 @@ use Rattle.dbp_top.proofs.top.ending.Goals as goal
 
 pub returns-in-Some-Run-None-clause-ends : goal.returns-in-Some-Run-None-clause-ends
 returns-in-Some-Run-None-clause-ends g c =
-    let named : Names c.args.words.now (Run None) = (c.command_of.ensures (Run None)).0 (let a = c.in-Some-Run-None.is in let b = c.in-Some-Run-None.field-0-is in let d = c.in-Some-Run-None.field-0-0-is in cc) in
-    ends-named g.S.Source.left g.S.Source.faults g.S.Source.ends g.K.Sink.written g.K.Sink.faults serves_all c.args.words.now (Run None) c.args.source.now c.run_ending.new.source c.args.sink.now c.run_ending.new.sink c.run_ending.result named refl
+    let named : Names c.args.arguments.now (Run None) = (c.command_of.ensures (Run None)).0 (let a = c.in-Some-Run-None.is in let b = c.in-Some-Run-None.field-0-is in let d = c.in-Some-Run-None.field-0-0-is in cc) in
+    ends-named g.S.Source.left g.S.Source.faults g.S.Source.ends g.K.Sink.written g.K.Sink.faults serves_all c.args.arguments.now (Run None) c.args.source.now c.run_ending.new.source c.args.sink.now c.run_ending.new.sink c.run_ending.result named refl
     (c.run_ending.ensures.ends None)
 
 pub returns-in-Some-Run-None-clause-crews : goal.returns-in-Some-Run-None-clause-crews
 returns-in-Some-Run-None-clause-crews g c =
-    let named : Names c.args.words.now (Run None) = (c.command_of.ensures (Run None)).0 (let a = c.in-Some-Run-None.is in let b = c.in-Some-Run-None.field-0-is in let d = c.in-Some-Run-None.field-0-0-is in cc) in
+    let named : Names c.args.arguments.now (Run None) = (c.command_of.ensures (Run None)).0 (let a = c.in-Some-Run-None.is in let b = c.in-Some-Run-None.field-0-is in let d = c.in-Some-Run-None.field-0-0-is in cc) in
     record {
       named = λ command other.
           subst (λ (d : Command). CrewsAfter g.C.Crew.runs (runner_of d) c.run_ending.result (text_to_run d (g.S.Source.left c.args.source.now)) c.args.crew.now c.run_ending.new.crew c.args.turns.now c.args.turns.now)
-          (one-command c.args.words.now (Run None) command named other) (c.run_ending.ensures.runs, refl);
+          (one-command c.args.arguments.now (Run None) command named other) (c.run_ending.ensures.runs, refl);
       unnamed = λ none. absurd (none (Run None) named);
     }
 
 pub returns-in-Some-Run-Some-clause-ends : goal.returns-in-Some-Run-Some-clause-ends
 returns-in-Some-Run-Some-clause-ends g c =
     let seed = c.in-Some-Run-Some.seed in
-    let named : Names c.args.words.now (Run (Some seed)) = (c.command_of.ensures (Run (Some seed))).0 (let a = c.in-Some-Run-Some.is in let b = c.in-Some-Run-Some.field-0-is in let d = c.in-Some-Run-Some.field-0-0-is in cc) in
-    ends-named g.S.Source.left g.S.Source.faults g.S.Source.ends g.K.Sink.written g.K.Sink.faults serves_all c.args.words.now (Run (Some seed)) c.args.source.now c.run_ending-in-Some-Run-Some.new.source c.args.sink.now
+    let named : Names c.args.arguments.now (Run (Some seed)) = (c.command_of.ensures (Run (Some seed))).0 (let a = c.in-Some-Run-Some.is in let b = c.in-Some-Run-Some.field-0-is in let d = c.in-Some-Run-Some.field-0-0-is in cc) in
+    ends-named g.S.Source.left g.S.Source.faults g.S.Source.ends g.K.Sink.written g.K.Sink.faults serves_all c.args.arguments.now (Run (Some seed)) c.args.source.now c.run_ending-in-Some-Run-Some.new.source c.args.sink.now
     c.run_ending-in-Some-Run-Some.new.sink c.run_ending-in-Some-Run-Some.result named refl (c.run_ending-in-Some-Run-Some.ensures.ends (Some seed))
 
 pub returns-in-Some-Run-Some-clause-crews : goal.returns-in-Some-Run-Some-clause-crews
 returns-in-Some-Run-Some-clause-crews g c =
     let seed = c.in-Some-Run-Some.seed in
-    let named : Names c.args.words.now (Run (Some seed)) = (c.command_of.ensures (Run (Some seed))).0 (let a = c.in-Some-Run-Some.is in let b = c.in-Some-Run-Some.field-0-is in let d = c.in-Some-Run-Some.field-0-0-is in cc) in
+    let named : Names c.args.arguments.now (Run (Some seed)) = (c.command_of.ensures (Run (Some seed))).0 (let a = c.in-Some-Run-Some.is in let b = c.in-Some-Run-Some.field-0-is in let d = c.in-Some-Run-Some.field-0-0-is in cc) in
     let input = g.S.Source.left c.args.source.now in
     let turns = c.args.turns.now in
     let new_turns = c.run_ending-in-Some-Run-Some.new.crew in
@@ -48,30 +48,30 @@ returns-in-Some-Run-Some-clause-crews g c =
     record {
       named = λ command other.
           subst (λ (d : Command). CrewsAfter g.C.Crew.runs (runner_of d) status (text_to_run d input) c.args.crew.now c.args.crew.now turns new_turns)
-          (one-command c.args.words.now (Run (Some seed)) command named other) (refl, runs, c.run_ending-in-Some-Run-Some.ensures.seed ∙ c.seed.ensures.seed, drawn);
+          (one-command c.args.arguments.now (Run (Some seed)) command named other) (refl, runs, c.run_ending-in-Some-Run-Some.ensures.seed ∙ c.seed.ensures.seed, drawn);
       unnamed = λ none. absurd (none (Run (Some seed)) named);
     }
 
 pub soak_ending-requires : goal.soak_ending-requires
 soak_ending-requires g c =
     let command = Soak c.in-Some-Soak.seed c.in-Some-Soak.size in
-    let size = named-size c.args.words.now command ((c.command_of.ensures command).0 (let a = c.in-Some-Soak.is in let b = c.in-Some-Soak.field-0-is in cc)) in
+    let size = named-size c.args.arguments.now command ((c.command_of.ensures command).0 (let a = c.in-Some-Soak.is in let b = c.in-Some-Soak.field-0-is in cc)) in
     search (rules, size)
 
 pub returns-in-Some-Soak-clause-ends : goal.returns-in-Some-Soak-clause-ends
 returns-in-Some-Soak-clause-ends g c =
     let command = Soak c.in-Some-Soak.seed c.in-Some-Soak.size in
-    let named : Names c.args.words.now command = (c.command_of.ensures command).0 (let a = c.in-Some-Soak.is in let b = c.in-Some-Soak.field-0-is in cc) in
-    ends-named g.S.Source.left g.S.Source.faults g.S.Source.ends g.K.Sink.written g.K.Sink.faults serves_all c.args.words.now command c.args.source.now c.soak_ending.new._source c.args.sink.now c.soak_ending.new.sink c.soak_ending.result named refl
+    let named : Names c.args.arguments.now command = (c.command_of.ensures command).0 (let a = c.in-Some-Soak.is in let b = c.in-Some-Soak.field-0-is in cc) in
+    ends-named g.S.Source.left g.S.Source.faults g.S.Source.ends g.K.Sink.written g.K.Sink.faults serves_all c.args.arguments.now command c.args.source.now c.soak_ending.new._source c.args.sink.now c.soak_ending.new.sink c.soak_ending.result named refl
     c.soak_ending.ensures.ends
 
 pub returns-in-Some-Soak-clause-crews : goal.returns-in-Some-Soak-clause-crews
 returns-in-Some-Soak-clause-crews g c =
     let command = Soak c.in-Some-Soak.seed c.in-Some-Soak.size in
-    let named : Names c.args.words.now command = (c.command_of.ensures command).0 (let a = c.in-Some-Soak.is in let b = c.in-Some-Soak.field-0-is in cc) in
+    let named : Names c.args.arguments.now command = (c.command_of.ensures command).0 (let a = c.in-Some-Soak.is in let b = c.in-Some-Soak.field-0-is in cc) in
     record {
       named = λ other is.
           subst (λ (d : Command). CrewsAfter g.C.Crew.runs (runner_of d) c.soak_ending.result (text_to_run d (g.S.Source.left c.args.source.now)) c.args.crew.now c.soak_ending.new.crew c.args.turns.now c.args.turns.now)
-          (one-command c.args.words.now command other named is) (c.soak_ending.ensures.runs, refl);
+          (one-command c.args.arguments.now command other named is) (c.soak_ending.ensures.runs, refl);
       unnamed = λ none. absurd (none command named);
     }

@@ -4,7 +4,7 @@ use Rattle.dbp_plan.specs.Tree.{binary, unary, choice}
 use Rattle.dia_exprs.specs.declared.level.Level.{Level}
 use Rattle.dia_exprs.specs.declared.level.Level.TheVariants.{Factor}
 use Rattle.dia_exprs.specs.Parsing.{is_lone, HasRead, HasNone, of_level, of_inside, of_call}
-use Rattle.dia_exprs.proofs.Steps.{unary-nodes, binary-nodes, choice-nodes, first-refused, first-read, next-refused, next-read, last-read, compared-refused, compared-alone, compared-next-refused, compared-read, unprefixed-refused, unprefixed-read, prefix-refused, prefix-read, unchosen-refused, unchosen-read, choosing-refused, choosing-read, choice-refused, no-then, first-part-refused, no-else, second-part-refused, choice-read, no-open, first-argument-refused, no-comma, second-argument-refused, no-close, call-read, inside-refused, unclosed, closed-read, nothing-read, number-read, name-read, parentheses-read, called-read, symbol-refused, word-refused, refused, ok_map, err_map, pushed}
+use Rattle.dia_exprs.proofs.Steps.{unary-nodes, binary-nodes, choice-nodes, first-refused, first-read, next-refused, next-read, last-read, compared-refused, compared-alone, compared-next-refused, compared-read, unprefixed-refused, unprefixed-read, prefix-refused, prefix-read, unchosen-refused, unchosen-read, choosing-refused, choosing-read, choice-refused, no-then, first-part-refused, no-else, second-part-refused, choice-read, no-open, first-argument-refused, no-comma, second-argument-refused, no-close, call-read, inside-refused, unclosed, closed-read, nothing-read, number-read, name-read, parentheses-read, called-read, symbol-refused, keyword-refused, refused, ok_map, err_map, pushed}
 use Rattle.dia_exprs.proofs.Lone.{lone-read, lone-refused}
 use Rattle.dia_exprs.proofs.descent.+expression.Goals as goal
 
@@ -235,7 +235,7 @@ factor-returns-in-Some-called-clause-none t c =
 
 pub factor-returns-in-None-clause-none : goal.factor-returns-in-None-clause-none
 factor-returns-in-None-clause-none t c =
-    word-refused c.args.tokens.now c.in-Some-split_token.rest.now c.in-Some-split_token.token.now c.in-Word.field-0 c.in-Some-split_token.ensures.some c.in-Word.is (sym c.in-None.ensures)
+    keyword-refused c.args.tokens.now c.in-Some-split_token.rest.now c.in-Some-split_token.token.now c.in-Keyword.field-0 c.in-Some-split_token.ensures.some c.in-Keyword.is (sym c.in-None.ensures)
 
 pub at_level-returns-in-Product-clause-found : goal.at_level-returns-in-Product-clause-found
 at_level-returns-in-Product-clause-found t c =

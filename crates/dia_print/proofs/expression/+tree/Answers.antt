@@ -1,8 +1,8 @@
 use Rattle.std.proofs.Common.{◌≡◌, [], ◌∷◌, ◌++◌, ◌∙◌, subst, arith, rules}
 use Rattle.std.specs.Prelude.{OnOk}
 use Rattle.dbp_plan.specs.ListItems.{read_place}
-use Rattle.dia_tokens.specs.declared.token.Token.TheVariants.{Word, Symbol}
-use Rattle.dia_tokens.specs.declared.token.Word.TheVariants.{If, Then, Else}
+use Rattle.dia_tokens.specs.declared.token.Token.TheVariants.{Keyword, Symbol}
+use Rattle.dia_tokens.specs.declared.token.Keyword.TheVariants.{If, Then, Else}
 use Rattle.dia_tokens.specs.declared.token.Symbol.TheVariants.{Open, Close, Comma}
 use Rattle.dia_exprs.specs.Grammar.{operator_token}
 use Rattle.dia_print.specs.ExpressionTokens.{tokens_of, operand_tokens, enclosed, prefix_token}
@@ -104,11 +104,11 @@ push_choice-returns t c d x y s u v =
     let last = operand_tokens y in
     let second = operand_tokens x in
     OnOk-map c.push_operand-3.result (c.push_operand-3.ensures y v) (λ e.
-    after _ _ _ (Word If ∷ []) (operand_tokens d ++ Word Then ∷ (second ++ Word Else ∷ last)) (c.in_ok-push.ensures)
-    (after _ _ _ (operand_tokens d) (Word Then ∷ (second ++ Word Else ∷ last)) (c.in_ok-push_operand.ensures d s)
-    (after _ _ _ (Word Then ∷ []) (second ++ Word Else ∷ last) (c.in_ok-push-2.ensures)
-    (after _ _ _ second (Word Else ∷ last) (c.in_ok-push_operand-2.ensures x u)
-    (after _ _ _ (Word Else ∷ []) last (c.in_ok-push-3.ensures) e)))))
+    after _ _ _ (Keyword If ∷ []) (operand_tokens d ++ Keyword Then ∷ (second ++ Keyword Else ∷ last)) (c.in_ok-push.ensures)
+    (after _ _ _ (operand_tokens d) (Keyword Then ∷ (second ++ Keyword Else ∷ last)) (c.in_ok-push_operand.ensures d s)
+    (after _ _ _ (Keyword Then ∷ []) (second ++ Keyword Else ∷ last) (c.in_ok-push-2.ensures)
+    (after _ _ _ second (Keyword Else ∷ last) (c.in_ok-push_operand-2.ensures x u)
+    (after _ _ _ (Keyword Else ∷ []) last (c.in_ok-push-3.ensures) e)))))
 
 pub push_operand-returns-then-not-is_compound : goal.push_operand-returns-then-not-is_compound
 push_operand-returns-then-not-is_compound t c x s =

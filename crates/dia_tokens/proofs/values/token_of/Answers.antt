@@ -1,14 +1,14 @@
 use Rattle.std.proofs.Common.{◌≡◌, w64, rules}
 use Rattle.std.proofs.lemmas.Int.{to_z-of_z}
 use Rattle.dia_tokens.specs.Shapes.{IsNameText}
-use Rattle.dia_tokens.specs.Values.{of_word, of_name, of_number, of_symbol}
+use Rattle.dia_tokens.specs.Values.{of_keyword, of_name, of_number, of_symbol}
 use Rattle.std.proofs.lemmas.Bool.Decides.{nat_tests}
 use Rattle.dia_tokens.proofs.ValueLaws.{name-from-text}
 use Rattle.dia_tokens.proofs.values.token_of.Goals as goal
 use mir.Val.{to_z, of_z}
 
-pub returns-in-Word-clause-found : goal.returns-in-Word-clause-found
-returns-in-Word-clause-found c = rw c.in-Word.is (of_word c.in-Word.word)
+pub returns-in-Keyword-clause-found : goal.returns-in-Keyword-clause-found
+returns-in-Keyword-clause-found c = rw c.in-Keyword.is (of_keyword c.in-Keyword.keyword)
 
 pub of_text-requires : goal.of_text-requires
 of_text-requires c =

@@ -9,7 +9,7 @@ use Rattle.trace_rows.specs.Rows.{row_faults}
 use Rattle.trace_rows.specs.Records.{fields_of, records_left, records_of}
 use Rattle.trace_io.proofs.TraceFaults.{rows-refused, whole-section}
 use Rattle.trace_io.proofs.TraceLines.{few-lines, rest-whole}
-use Rattle.trace_io.proofs.trace.lines_of_section.Goals as goal
+use Rattle.trace_io.proofs.trace.read_section.Goals as goal
 
 pub bounds-lines-0 : goal.bounds-lines-0
 bounds-lines-0 c =

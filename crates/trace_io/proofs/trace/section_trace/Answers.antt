@@ -16,12 +16,12 @@ pub own_samples-requires-clause-order : goal.own_samples-requires-clause-order
 own_samples-requires-clause-order c =
     rising-samples c.args.doc.now c.args.diagram.now c.in_ok-said.said.events.items c.in_ok-said.said.samples c.in_ok-said.ensures.trace c.requires.printable c.requires.lines
 
-pub few_occurrences-requires-clause-table : goal.few_occurrences-requires-clause-table
-few_occurrences-requires-clause-table c =
+pub check_occurrences-requires-clause-table : goal.check_occurrences-requires-clause-table
+check_occurrences-requires-clause-table c =
     rw c.deref.ensures.value (timetable c.args.doc.now c.args.diagram.now c.in_ok-said.said.events.items c.in_ok-said.said.samples c.in_ok-said.ensures.trace c.requires.printable c.requires.lines c.requires.ranked)
 
-pub few_occurrences-requires-clause-rising : goal.few_occurrences-requires-clause-rising
-few_occurrences-requires-clause-rising c = rw c.own_lists-lists.ensures c.in_ok-own.ensures.rising
+pub check_occurrences-requires-clause-rising : goal.check_occurrences-requires-clause-rising
+check_occurrences-requires-clause-rising c = rw c.own_lists-lists.ensures c.in_ok-own.ensures.rising
 
 pub returns-then-is_empty-clause-fault : goal.returns-then-is_empty-clause-fault
 returns-then-is_empty-clause-fault c =
@@ -34,24 +34,24 @@ returns-in_err-said-clause-no_line c empty = absurd (some-bytes c.args.text.now 
 pub returns-in_err-own-clause-no_line : goal.returns-in_err-own-clause-no_line
 returns-in_err-own-clause-no_line c empty = absurd (some-bytes c.args.text.now (sym c.is_empty.ensures ∙ c.if-is_empty.false) empty)
 
-pub returns-in_err-few_occurrences-clause-no_line : goal.returns-in_err-few_occurrences-clause-no_line
-returns-in_err-few_occurrences-clause-no_line c empty = absurd (some-bytes c.args.text.now (sym c.is_empty.ensures ∙ c.if-is_empty.false) empty)
+pub returns-in_err-check_occurrences-clause-no_line : goal.returns-in_err-check_occurrences-clause-no_line
+returns-in_err-check_occurrences-clause-no_line c empty = absurd (some-bytes c.args.text.now (sym c.is_empty.ensures ∙ c.if-is_empty.false) empty)
 
 pub returns-clause-no_line : goal.returns-clause-no_line
 returns-clause-no_line c empty = absurd (some-bytes c.args.text.now (sym c.is_empty.ensures ∙ c.if-is_empty.false) empty)
 
-pub returns-in_err-few_occurrences-clause-fault : goal.returns-in_err-few_occurrences-clause-fault
-returns-in_err-few_occurrences-clause-fault c =
+pub returns-in_err-check_occurrences-clause-fault : goal.returns-in_err-check_occurrences-clause-fault
+returns-in_err-check_occurrences-clause-fault c =
     let doc = c.args.doc.now in
     let d = c.args.diagram.now in
     let said = c.in_ok-said.said in
-    let told = c.in_err-few_occurrences.ensures in
+    let told = c.in_err-check_occurrences.ensures in
     let trace : IsTraceOf doc d said.events.items said.samples = c.in_ok-said.ensures.trace in
     let its : All (HasItsSamples said.samples c.own_lists-lists.result.now) d.tasks = rw c.own_lists-lists.ensures c.in_ok-own.ensures.own in
     let events : c.deref.result.now ≡ events_of doc d = c.deref.ensures.value ∙ trace.events_are in
     let over : MAX_OCCURRENCES < total_of d said.samples c.deref.result.now = told.many said.samples its in
     let many : MAX_OCCURRENCES < total_of d (given_samples doc d) (events_of doc d) = rw (events, trace.samples_are) at over in
-    let p = err_from_is_err_and c.from_residual-in_err-few_occurrences.result c.from_residual-in_err-few_occurrences.ensures.1 in
+    let p = err_from_is_err_and c.from_residual-in_err-check_occurrences.result c.from_residual-in_err-check_occurrences.ensures.1 in
     rw (p.1, p.2) (too-many-at doc d _ _ told.line told.code trace.faultless many)
 
 pub returns-clause-few : goal.returns-clause-few
@@ -62,6 +62,6 @@ returns-clause-few c =
     let trace : IsTraceOf doc d said.events.items said.samples = c.in_ok-said.ensures.trace in
     let its : All (HasItsSamples said.samples c.own_lists-lists.result.now) d.tasks = rw c.own_lists-lists.ensures c.in_ok-own.ensures.own in
     let events : c.deref.result.now ≡ events_of doc d = c.deref.ensures.value ∙ trace.events_are in
-    let under : total_of d said.samples c.deref.result.now ≤ MAX_OCCURRENCES = c.in_ok-few_occurrences.ensures.few said.samples its in
+    let under : total_of d said.samples c.deref.result.now ≤ MAX_OCCURRENCES = c.in_ok-check_occurrences.ensures.few said.samples its in
     let few : total_of d (given_samples doc d) (events_of doc d) ≤ MAX_OCCURRENCES = rw (events, trace.samples_are) at under in
     few

@@ -41,7 +41,7 @@ returns-in-Ok-false-clause-left c =
     let last = rows-end (λ (s : Bor (List ℕ)). Some s.now) c.args.self.now.reader c.read_byte_record.new.self raw default_config c.requires.text c.requires.config c.requires.left read in
     ap records_of c.requires.left ∙ no-line-left c.requires.text c.requires.kept (rw c.requires.state at last)
 
-pub want_of_memory-requires : goal.want_of_memory-requires
-want_of_memory-requires c =
+pub out_of_memory-requires : goal.out_of_memory-requires
+out_of_memory-requires c =
     want-of-memory (λ (s : Bor (List ℕ)). Some s.now) c.args.self.now.reader c.read_byte_record.new.self c.in-Err.error.kind
     (rw c.in-Err.is at c.read_byte_record.ensures.why c.requires.ready) c.requires.flexible
