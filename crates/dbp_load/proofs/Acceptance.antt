@@ -26,9 +26,9 @@ use Rattle.trace_io.specs.WrittenTraces.{HasWrittenTrace, written_events}
 use Rattle.trace_io.proofs.Counting.{base-count}
 use Rattle.trace_io.proofs.MergeClocks.{plain-times}
 use Rattle.dbp_load.specs.Bodies.{early_count, few_early, generated_body, has_late, trace_row, words_before}
-use Rattle.dbp_load.specs.Draws.{after_draw, after_draws, drawn}
+use Rattle.drawn_numbers.specs.Draws.{after_draw, after_draws, drawn}
 use Rattle.dbp_load.specs.Listed.{first_items}
-use Rattle.dbp_load.proofs.DrawLaws.{drawn-below}
+use Rattle.drawn_numbers.proofs.DrawLaws.{drawn-below}
 use Rattle.dbp_load.proofs.FaultlessLines.{AreFine, fine-at}
 use Rattle.dbp_load.proofs.GeneratedDiagrams.{diagram_of, is-diagram, no-rank-faults, whole}
 use Rattle.dbp_load.proofs.GeneratedNames.{new-name, parts-fine, ports, task_at}

@@ -10,9 +10,9 @@ use Rattle.trace_rows.specs.Headers.{kind_of_column}
 use Rattle.trace_rows.proofs.WrittenRows.{each-row}
 use Rattle.trace_rows.proofs.WrittenText.{section-kept}
 use Rattle.dbp_load.specs.Bodies.{early_count, few_early, generated_body, generated_task, has_late, trace_row, trace_text, words_before}
-use Rattle.dbp_load.specs.Draws.{after_draw, after_draws}
+use Rattle.drawn_numbers.specs.Draws.{after_draw, after_draws}
 use Rattle.dbp_load.specs.Listed.{first_items}
-use Rattle.dbp_load.proofs.DrawLaws.{drawn-below}
+use Rattle.drawn_numbers.proofs.DrawLaws.{drawn-below}
 use Rattle.dbp_load.proofs.GeneratedParts.{few-lines, parts-print}
 use Rattle.dbp_load.proofs.GeneratedTraces.{can-write, the_columns, the_inputs}
 use Rattle.dia_check.proofs.PlaceLaws.{only-one}

@@ -30,9 +30,9 @@ use Rattle.dia_check.proofs.LinkLists.{all-firsts}
 use Rattle.dia_check.proofs.NoOuts.{no-cycle}
 use Rattle.dia_check.proofs.RankLaws.{no-rank-fault}
 use Rattle.dbp_load.specs.Bodies.{parts_of, task_name, early_count, generated_task, has_late, few_early}
-use Rattle.dbp_load.specs.Draws.{after_draw, drawn, after_draws}
+use Rattle.drawn_numbers.specs.Draws.{after_draw, drawn, after_draws}
 use Rattle.dbp_load.specs.Listed.{first_items}
-use Rattle.dbp_load.proofs.DrawLaws.{drawn-below}
+use Rattle.drawn_numbers.proofs.DrawLaws.{drawn-below}
 use Rattle.dbp_load.proofs.FaultlessLines.{map-fine, then-fine}
 use Rattle.dbp_load.proofs.GeneratedParts.{by-reads}
 use Rattle.dbp_load.proofs.GeneratedShapes.{lets-none, outs-are}

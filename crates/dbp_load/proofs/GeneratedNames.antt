@@ -13,9 +13,9 @@ use Rattle.dia_read.specs.declared.document.RawTask.{RawTask}
 use Rattle.dia_check.specs.Faults.{part_fault}
 use Rattle.dia_check.specs.Names.{declared_name, input_name, out_name, port_names, task_names}
 use Rattle.dbp_load.specs.Bodies.{parts_of, read_of, read_name, task_name, early_count, early_read, few_early, has_late, late_read, generated_task}
-use Rattle.dbp_load.specs.Draws.{after_draw, drawn, after_draws}
+use Rattle.drawn_numbers.specs.Draws.{after_draw, drawn, after_draws}
 use Rattle.dbp_load.specs.Listed.{first_items}
-use Rattle.dbp_load.proofs.DrawLaws.{drawn-below}
+use Rattle.drawn_numbers.proofs.DrawLaws.{drawn-below}
 use Rattle.dbp_load.proofs.FaultlessLines.{AreFine}
 use Rattle.dbp_load.proofs.GeneratedParts.{by-reads}
 use Rattle.dbp_load.proofs.GeneratedShapes.{outs-are}

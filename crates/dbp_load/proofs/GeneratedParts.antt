@@ -12,10 +12,10 @@ use Rattle.dbp_plan.specs.Tree.{Tree}
 use Rattle.dia_read.specs.Printable.{is_read_part, is_out_part, IsPrintablePart}
 use Rattle.dia_check.proofs.PlaceLaws.{only-one}
 use Rattle.dbp_load.specs.Bodies.{parts_of, early_read, late_read, late_names, names_of_reads, few_reads, read_name, read_of}
-use Rattle.dbp_load.specs.Draws.{drawn, after_draws}
+use Rattle.drawn_numbers.specs.Draws.{drawn, after_draws}
 use Rattle.dbp_load.specs.Expressions.{with_read, first_sum, out_tree, out_expr, next_tree, next_expr}
 use Rattle.dbp_load.specs.Listed.{first_items}
-use Rattle.dbp_load.proofs.DrawLaws.{drawn-below}
+use Rattle.drawn_numbers.proofs.DrawLaws.{drawn-below}
 use Rattle.dbp_load.proofs.ListedItems.{all-listed}
 use Rattle.dbp_load.proofs.NameTexts.{s-prints, g-prints, g0-prints, q-prints, y-prints, read-prints, task-prints}
 

@@ -1,5 +1,4 @@
 pub mod Acceptance
-pub mod DrawLaws
 pub mod ExpressionNodes
 pub mod FaultlessLines
 pub mod GeneratedBodies

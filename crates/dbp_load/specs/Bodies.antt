@@ -10,7 +10,7 @@ use Rattle.dia_lines.specs.declared.item.RawClock.TheVariants.{Every}
 use Rattle.dia_read.specs.declared.document.Body.{Body}
 use Rattle.dia_read.specs.declared.document.RawTask.{RawTask}
 use Rattle.trace_rows.specs.Written.{WrittenRow, value, written_section}
-use Rattle.dbp_load.specs.Draws.{drawn, after_draw, after_draws}
+use Rattle.drawn_numbers.specs.Draws.{drawn, after_draw, after_draws}
 use Rattle.dbp_load.specs.Expressions.{next_expr, out_expr}
 use Rattle.dbp_load.specs.Listed.{first_items}
 

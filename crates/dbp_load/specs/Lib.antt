@@ -1,6 +1,5 @@
 -- Definitions that public clauses cite.
 pub mod Bodies
-pub mod Draws
 pub mod Expressions
 pub mod Listed
 pub mod Texts

@@ -7,7 +7,6 @@
 #![tactic(auto)]
 
 mod document;
-mod draws;
 mod expressions;
 mod laws;
 mod names;

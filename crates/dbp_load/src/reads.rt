@@ -2,13 +2,13 @@
 
 ghost use Rattle.std.specs.Prelude.{◌≡◌, ◌+◌, ◌-◌, ◌<◌, ◌≤◌, ◌++◌, length, IfOk, OnOk};
 ghost use Rattle.dbp_load.specs.Bodies.{early_count, early_read, has_late, late_read, late_reads, names_of_reads, read_of};
-ghost use Rattle.dbp_load.specs.Draws.{after_draws};
+ghost use Rattle.drawn_numbers.specs.Draws.{after_draws};
 ghost use Rattle.dbp_load.specs.Listed.{first_items};
 
-use crate::draws::draw;
 use crate::names::{name, read_name, task_name};
 use dbp_plan::{List, Name, NoMemory};
 use dia_read::Part;
+use drawn_numbers::draw;
 use rand_xoshiro::SplitMix64;
 use std::alloc::Global;
 
@@ -62,7 +62,7 @@ pub(crate) fn push_early_reads(
     ensures draws { OnOk result (draws.new ≡ after_draws (early_count number) draws.old) }
 {
     for read in 0..early_count(number) {
-        let writer = draw(draws, number);
+        let writer = draw(draws, u64::from(number)) as u32;
         parts.push(read_of(read_name(read), 0, writer))?;
     }
     Ok(())
@@ -84,6 +84,6 @@ pub(crate) fn push_late_read(
     if number + 1 >= size {
         return Ok(());
     }
-    let writer = number + 1 + draw(draws, size - 1 - number);
+    let writer = number + 1 + draw(draws, u64::from(size - 1 - number)) as u32;
     parts.push(read_of(name(b"q"), 1, writer))
 }

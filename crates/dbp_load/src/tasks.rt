@@ -3,14 +3,14 @@
 ghost use Rattle.std.specs.Prelude.{◌≡◌, ◌+◌, ◌<◌, ◌≤◌, codes, pos, IfOk, OnOk};
 ghost use Rattle.dia_lines.specs.declared.item.Part.TheVariants.{Out};
 ghost use Rattle.dbp_load.specs.Bodies.{body_of_task, early_count, generated_task, generated_tasks};
-ghost use Rattle.dbp_load.specs.Draws.{after_draws};
+ghost use Rattle.drawn_numbers.specs.Draws.{after_draws};
 
-use crate::draws::draw;
 use crate::expressions::{next_value, out_value};
 use crate::names::{name, task_name};
 use crate::reads::{names_of_reads, push_early_reads, push_late_read};
 use dbp_plan::{Expr, List, Name, NoMemory};
 use dia_read::{Part, RawClock, RawTask};
+use drawn_numbers::draw;
 use rand_core::SeedableRng;
 use rand_xoshiro::SplitMix64;
 use std::alloc::Global;
@@ -59,7 +59,7 @@ fn generated_task(
     ensures task { IfOk result (λ task. task ≡ generated_task size draws.old number) }
     ensures draws { OnOk result (number + 1 < size → draws.new ≡ after_draws (early_count number + 2) draws.old) }
 {
-    let period = size + draw(draws, size);
+    let period = size + draw(draws, u64::from(size)) as u32;
     let parts = body_of_task(alloc, draws, size, number)?;
     Ok(RawTask {
         name: task_name(number),

@@ -7,24 +7,20 @@ use Rattle.std.proofs.lemmas.List.{get_or-set_other, get_or_default}
 use mathlib.Core.Logic.{dite}
 use native.Mathlib.Decide.{dec_lt, ℕ_discrete}
 use Rattle.word_rule.specs.declared.seats.SlotWords.{SlotWords}
-use Rattle.party_exec.specs.Draws.{HaveDrawnRounds, IsDrawnRound, MakesDrawnTurns, MakeTurnsBetween, after_draw, after_draws, after_round, first_place, no_round, one_round, turns_before}
+use Rattle.drawn_numbers.specs.Draws.{after_draw, after_draws}
+use Rattle.party_exec.specs.Draws.{HaveDrawnRounds, IsDrawnRound, MakesDrawnTurns, MakeTurnsBetween, after_round, first_place, no_round, one_round, turns_before}
+use Rattle.drawn_numbers.proofs.DrawLaws.{draws-add}
 use Rattle.party_exec.specs.SameSeats.{AreSame, IsSameParty}
 use Rattle.party_exec.specs.declared.party.Party.{Party}
 use Rattle.party_exec.proofs.SameParties.{all_same, same_all_further, same_party, turned_same}
 
--- ---- words
+-- ---- draws
 
-pub draws_add : (m n draws : ℕ) → after_draws m (after_draws n draws) ≡ after_draws (n + m) draws
-draws_add zero n draws = let same : n + 0 ≡ n = omega arith in ap (λ (k : ℕ). after_draws k draws) (sym same)
-draws_add (suc m) n draws =
-    let next : n + suc m ≡ suc (n + m) = omega arith in
-    ap after_draw (draws_add m n draws) ∙ ap (λ (k : ℕ). after_draws k draws) (sym next)
-
--- the words of a round: its first one, those of the places from the first one on, and those of the places before it
+-- the draws of a round: its first one, those of the places from the first one on, and those of the places before it
 pub round_draws : (count first draws : ℕ) → first < count → after_draws (first - 0) (after_draws (count - first) (after_draw draws)) ≡ after_round count draws
 round_draws count first draws few =
     let all : 1 + (count - first) + (first - 0) ≡ count + 1 = omega (arith, few) in
-    ap (after_draws (first - 0)) (draws_add (count - first) 1 draws) ∙ draws_add (first - 0) (1 + (count - first)) draws ∙ ap (λ (k : ℕ). after_draws k draws) all
+    ap (after_draws (first - 0)) (draws-add (count - first) 1 draws) ∙ draws-add (first - 0) (1 + (count - first)) draws ∙ ap (λ (k : ℕ). after_draws k draws) all
 
 pub one_draw : (from place draws now : ℕ) → from ≤ place → now ≡ after_draws (place - from) draws → after_draw now ≡ after_draws (place + 1 - from) draws
 one_draw from place draws now low is =
@@ -72,14 +68,14 @@ module _ (w : SlotWords) (draws count first : ℕ) (ps qs rs : List Party) (head
   turns_from : (k : ℕ) (d : Party) → k < count → first ≤ k → MakesDrawnTurns w (1 + turns_before count first k) draws (get_or ps k d) (get_or rs k d)
   turns_from k d few high =
       let place : turns_before count first k ≡ k - first = rw (lt_not k first high) refl in
-      let words : after_draws (k - first) (after_draw draws) ≡ after_draws (1 + turns_before count first k) draws = draws_add (k - first) 1 draws ∙ ap (λ (n : ℕ). after_draws (1 + n) draws) (sym place) in
+      let words : after_draws (k - first) (after_draw draws) ≡ after_draws (1 + turns_before count first k) draws = draws-add (k - first) 1 draws ∙ ap (λ (n : ℕ). after_draws (1 + n) draws) (sym place) in
       subst (λ (x : ℕ × Party). MakesDrawnTurns w 0 x.0 (get_or ps k d) x.1) (λ j. (words j, sym (rest.later k d high) j)) (head.turns k d high few)
 
   turns_to : (k : ℕ) (d : Party) → k < first → first < count → MakesDrawnTurns w (1 + turns_before count first k) draws (get_or ps k d) (get_or rs k d)
   turns_to k d few inside =
       let place : 1 + turns_before count first k ≡ 1 + (count - first) + (k - 0) = rw (lt_below k first few) (omega arith) in
       let words : after_draws (k - 0) (after_draws (count - first) (after_draw draws)) ≡ after_draws (1 + turns_before count first k) draws =
-      ap (after_draws (k - 0)) (draws_add (count - first) 1 draws) ∙ draws_add (k - 0) (1 + (count - first)) draws ∙ ap (λ (n : ℕ). after_draws n draws) (sym place) in
+      ap (after_draws (k - 0)) (draws-add (count - first) 1 draws) ∙ draws-add (k - 0) (1 + (count - first)) draws ∙ ap (λ (n : ℕ). after_draws n draws) (sym place) in
       subst (λ (x : ℕ × Party). MakesDrawnTurns w 0 x.0 x.1 (get_or rs k d)) (λ j. (words j, head.earlier k d few j)) (rest.turns k d (omega arith) few)
 
   pub drawn_round_is : count ≡ length ps → first ≡ first_place count draws → first < count → IsDrawnRound w draws ps rs

@@ -1,29 +1,20 @@
--- What is drawn from the words of SplitMix64, and the rounds that are drawn.
-use Rattle.std.specs.Prelude.{◌≡◌, ℕ, zero, suc, ◌+◌, ◌-◌, ◌<◌, ◌≤◌, ◌%◌, nat_lt, if◌then◌else◌, List, length, All, slice_index_or}
-use Rattle.rand_xoshiro.specs.SplitMix64.{mix_u64}
+-- The rounds that are drawn.
+use Rattle.std.specs.Prelude.{◌≡◌, ℕ, zero, suc, ◌+◌, ◌-◌, ◌<◌, ◌≤◌, nat_lt, if◌then◌else◌, List, length, All, slice_index_or}
+use Rattle.drawn_numbers.specs.Draws.{drawn, after_draw, after_draws}
 use Rattle.word_rule.specs.declared.seats.SlotWords.{SlotWords}
 use Rattle.party_exec.specs.Jobs.{MakesTurns}
 use Rattle.party_exec.specs.Parties.{HasFinished}
 use Rattle.party_exec.specs.declared.party.Party.{Party}
 
--- the generator after one word
-abbrev pub after_draw : ℕ → ℕ
-after_draw draws = (mix_u64 draws).1
-
--- the generator after so many words
-abbrev pub after_draws : ℕ → ℕ → ℕ
-after_draws zero draws = draws
-after_draws (suc n) draws = after_draw (after_draws n draws)
-
 -- the place among so many at which a round begins
 abbrev pub first_place : ℕ → ℕ → ℕ
-first_place count draws = (mix_u64 draws).0 % count
+first_place count draws = drawn count draws
 
 -- how many turns a party makes
 abbrev pub turn_count : ℕ → ℕ
-turn_count draws = (mix_u64 draws).0 % 3 + 1
+turn_count draws = drawn 3 draws + 1
 
--- the party makes as many turns as the generator draws after so many words
+-- the party makes as many turns as the generator draws after so many draws
 abbrev pub MakesDrawnTurns : SlotWords → ℕ → ℕ → Party → Party → Type 0
 MakesDrawnTurns w words draws old new = MakesTurns w old (turn_count (after_draws words draws)) new
 

@@ -1,9 +1,10 @@
 // What is drawn for the turns of a round.
 
 ghost use Rattle.std.specs.Prelude.{◌≡◌, ◌<◌};
-ghost use Rattle.party_exec.specs.Draws.{after_draw, first_place, turn_count};
+ghost use Rattle.drawn_numbers.specs.Draws.{after_draw};
+ghost use Rattle.party_exec.specs.Draws.{first_place, turn_count};
 
-use rand_core::utils::NextWord;
+use drawn_numbers::draw;
 use rand_xoshiro::SplitMix64;
 
 // The place at which a round begins, of so many.
@@ -13,7 +14,7 @@ pub(crate) fn draw_place(draws: &mut SplitMix64, count: usize) -> usize
     ensures below { result < count }
     ensures draws { draws.new ≡ after_draw draws.old }
 {
-    (draws.next_word() % count as u64) as usize
+    draw(draws, count as u64) as usize
 }
 
 // How many turns a party makes.
@@ -21,5 +22,5 @@ pub(crate) fn draw_turns(draws: &mut SplitMix64) -> u64
     ensures turns { result ≡ turn_count draws.old }
     ensures draws { draws.new ≡ after_draw draws.old }
 {
-    draws.next_word() % 3 + 1
+    draw(draws, 3) + 1
 }

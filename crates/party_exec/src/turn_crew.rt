@@ -2,7 +2,8 @@
 
 ghost use Rattle.std.specs.Prelude.{◌≡◌, ◌<◌, ◌≤◌, ◌-◌, [], ◌∷◌, ◌++◌, ℕ, All, None, Some, length};
 ghost use Rattle.party_exec.specs.Crews.{last_seed_of, seed_of, turn_ready, turn_runs};
-ghost use Rattle.party_exec.specs.Draws.{HaveDrawnRounds, IsDrawnRound, MakeTurnsBetween, after_draw, after_draws, after_round, turn_count};
+ghost use Rattle.drawn_numbers.specs.Draws.{after_draw, after_draws};
+ghost use Rattle.party_exec.specs.Draws.{HaveDrawnRounds, IsDrawnRound, MakeTurnsBetween, after_round, turn_count};
 ghost use Rattle.party_exec.specs.Entries.{entry_of};
 ghost use Rattle.party_exec.specs.Jobs.{MakesTurns};
 ghost use Rattle.party_exec.specs.Parties.{AreFresh, Belongs, HaveFinished};

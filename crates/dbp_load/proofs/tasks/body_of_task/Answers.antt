@@ -5,10 +5,10 @@ use Rattle.dia_lines.specs.declared.item.Part.{Part}
 use Rattle.dia_lines.specs.declared.item.Part.TheVariants.{State, Sense, Next, Out}
 use Rattle.dbp_plan.specs.Tree.{nodes_of}
 use Rattle.dbp_load.specs.Bodies.{early_count, early_read, few_early, few_reads, has_late, late_read, late_reads, names_of_reads}
-use Rattle.dbp_load.specs.Draws.{after_draws}
+use Rattle.drawn_numbers.specs.Draws.{after_draws}
 use Rattle.dbp_load.specs.Expressions.{next_expr, out_expr, out_tree}
 use Rattle.dbp_load.specs.Listed.{first_items}
-use Rattle.dbp_load.proofs.DrawLaws.{draws-add}
+use Rattle.drawn_numbers.proofs.DrawLaws.{draws-add}
 use Rattle.dbp_load.proofs.ExpressionNodes.{same-nodes}
 use Rattle.dbp_load.proofs.ListedItems.{length-listed}
 use Rattle.dbp_load.proofs.LateReads.{few-late-reads, joined}

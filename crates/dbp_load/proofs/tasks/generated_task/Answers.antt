@@ -1,7 +1,7 @@
 use Rattle.std.proofs.Common.{◌≡◌, ℕ, ◌+◌, ap, ◌∙◌, arith}
 use Rattle.dbp_load.specs.Bodies.{early_count}
-use Rattle.dbp_load.specs.Draws.{after_draws}
-use Rattle.dbp_load.proofs.DrawLaws.{draws-add}
+use Rattle.drawn_numbers.specs.Draws.{after_draws}
+use Rattle.drawn_numbers.proofs.DrawLaws.{draws-add}
 use Rattle.dbp_load.proofs.tasks.generated_task.Goals as goal
 
 pub returns-clause-draws : goal.returns-clause-draws

@@ -1,8 +1,8 @@
 use Rattle.std.proofs.Common.{◌≡◌, ℕ, suc, ◌+◌, ◌++◌, ◌∷◌, [], length, ap, sym, ◌∙◌, arith}
 use Rattle.dia_read.specs.declared.document.RawTask.{RawTask}
 use Rattle.dbp_load.specs.Bodies.{early_count, generated_task, words_before}
-use Rattle.dbp_load.specs.Draws.{after_draws}
-use Rattle.dbp_load.proofs.DrawLaws.{draws-add}
+use Rattle.drawn_numbers.specs.Draws.{after_draws}
+use Rattle.drawn_numbers.proofs.DrawLaws.{draws-add}
 use Rattle.dbp_load.proofs.ListedItems.{length-listed, listed-more}
 use Rattle.dbp_load.proofs.tasks.generated_tasks.Goals as goal
 

@@ -1,6 +1,6 @@
 use Rattle.std.proofs.Common.{◌≡◌, ◌<◌}
 use Rattle.dbp_load.specs.Bodies.{generated_task, words_before}
-use Rattle.dbp_load.specs.Draws.{after_draws}
+use Rattle.drawn_numbers.specs.Draws.{after_draws}
 use Rattle.dbp_load.specs.Listed.{first_items}
 use Rattle.dbp_load.proofs.tasks.generated_tasks.Given as goal
 

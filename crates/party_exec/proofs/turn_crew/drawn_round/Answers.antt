@@ -1,5 +1,6 @@
 use Rattle.std.proofs.Common.{◌-◌, ℕ, length, ap, refl, ◌∙◌, subst}
-use Rattle.party_exec.specs.Draws.{MakeTurnsBetween, after_draws}
+use Rattle.drawn_numbers.specs.Draws.{after_draws}
+use Rattle.party_exec.specs.Draws.{MakeTurnsBetween}
 use Rattle.party_exec.proofs.DrawnRounds.{between_same, drawn_round_is, round_draws}
 use Rattle.party_exec.proofs.SameParties.{all_belong}
 use Rattle.party_exec.proofs.turn_crew.drawn_round.Goals as goal

@@ -1,5 +1,6 @@
 use Rattle.std.proofs.Common.{◌≡◌, ◌-◌, All}
-use Rattle.party_exec.specs.Draws.{MakeTurnsBetween, after_draws}
+use Rattle.drawn_numbers.specs.Draws.{after_draws}
+use Rattle.party_exec.specs.Draws.{MakeTurnsBetween}
 use Rattle.party_exec.specs.Parties.{Belongs}
 use Rattle.party_exec.proofs.turn_crew.turns_between.Given as goal
 

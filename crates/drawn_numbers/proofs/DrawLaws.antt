@@ -2,7 +2,7 @@
 use Rattle.std.proofs.Common.{◌≡◌, ℕ, zero, suc, ◌+◌, ◌<◌, sym, ap, ◌∙◌, arith}
 use Rattle.rand_xoshiro.specs.SplitMix64.{mix_u64}
 use Rattle.std.proofs.Math.Nat.{mod-lt}
-use Rattle.dbp_load.specs.Draws.{drawn, after_draw, after_draws}
+use Rattle.drawn_numbers.specs.Draws.{drawn, after_draw, after_draws}
 
 pub drawn-below : (count draws : ℕ) → 0 < count → drawn count draws < count
 unfolding drawn

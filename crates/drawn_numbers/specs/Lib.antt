@@ -1,0 +1,2 @@
+-- Definitions that public clauses cite.
+pub mod Draws
