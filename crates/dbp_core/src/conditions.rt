@@ -9,53 +9,53 @@ use crate::rank_mask::RankMask;
 use dbp_rules::{Broken, Count, Illegal, State, Wiring};
 
 // The time of the task's first instance that hasn't ended; 0 if all have.
-pub(crate) fn own_time(wiring: &Wiring, state: &State, i: u32) -> u64
-    requires wired { i < length wiring.now.tasks }
-    requires task { i < length state.now.tasks }
-    ensures { result ≡ rule.own_time wiring.now state.now i }
+pub(crate) fn own_time(wiring: &Wiring, state: &State, number: u32) -> u64
+    requires wired { number < length wiring.now.tasks }
+    requires task { number < length state.now.tasks }
+    ensures { result ≡ rule.own_time wiring.now state.now number }
 {
-    let next = task_at(state, i).part.ended as usize;
-    let times = wired_at(wiring, i).times.items();
+    let next = task_at(state, number).part.ended as usize;
+    let times = wired_at(wiring, number).times.items();
     if next < times.len() { times[next] } else { 0 }
 }
 
 // Whether task r is ranked above task i and has an instance that hasn't ended and that was aimed no later than that of i.
-fn blocks(wiring: &Wiring, state: &State, i: u32, r: u32) -> bool
-    requires wired { i < length wiring.now.tasks }
-    requires other { r < length wiring.now.tasks }
+fn blocks(wiring: &Wiring, state: &State, number: u32, other: u32) -> bool
+    requires wired { number < length wiring.now.tasks }
+    requires other { other < length wiring.now.tasks }
     requires tasks { length state.now.tasks ≡ length wiring.now.tasks }
     requires entries { length state.now.releaser.tasks ≡ length wiring.now.tasks }
-    ensures { result ≡ rule.blocks wiring.now state.now i r }
+    ensures { result ≡ rule.blocks wiring.now state.now number other }
 {
-    wired_at(wiring, r).rank < wired_at(wiring, i).rank
-        && task_at(state, r).part.ended < entry_at(state, r).aimed
-        && own_time(wiring, state, r) <= own_time(wiring, state, i)
+    wired_at(wiring, other).rank < wired_at(wiring, number).rank
+        && task_at(state, other).part.ended < entry_at(state, other).aimed
+        && own_time(wiring, state, other) <= own_time(wiring, state, number)
 }
 
 // The higher-ranked of the task found so far and this one.
-fn higher(wiring: &Wiring, found: Option<u32>, r: u32) -> u32
-    requires task { r < length wiring.now.tasks }
+fn higher(wiring: &Wiring, found: Option<u32>, other: u32) -> u32
+    requires task { other < length wiring.now.tasks }
     requires found { IfSome found (λ q. q < length wiring.now.tasks) }
-    ensures higher { result ≡ rule.higher wiring.now found r }
+    ensures higher { result ≡ rule.higher wiring.now found other }
     ensures within { result < length wiring.now.tasks }
 {
     match found {
-        Some(q) if wired_at(wiring, q).rank < wired_at(wiring, r).rank => q,
-        _ => r,
+        Some(highest) if wired_at(wiring, highest).rank < wired_at(wiring, other).rank => highest,
+        _ => other,
     }
 }
 
 // The highest-ranked task that blocks the task's step.
-fn highest_blocking(wiring: &Wiring, state: &State, i: u32) -> Option<u32>
-    requires wired { i < length wiring.now.tasks }
+fn highest_blocking(wiring: &Wiring, state: &State, number: u32) -> Option<u32>
+    requires wired { number < length wiring.now.tasks }
     requires tasks { length state.now.tasks ≡ length wiring.now.tasks }
     requires entries { length state.now.releaser.tasks ≡ length wiring.now.tasks }
-    ensures { result ≡ rule.highest wiring.now (rule.blocks wiring.now state.now i) (length wiring.now.tasks) }
+    ensures { result ≡ rule.highest wiring.now (rule.blocks wiring.now state.now number) (length wiring.now.tasks) }
 {
     let mut found = None;
-    for r in 0..wiring.tasks.len() {
-        if blocks(wiring, state, i, r) {
-            found = Some(higher(wiring, found, r));
+    for other in 0..wiring.tasks.len() {
+        if blocks(wiring, state, number, other) {
+            found = Some(higher(wiring, found, other));
         }
     }
     found
@@ -66,25 +66,25 @@ pub(crate) fn blocker_refusal(
     wiring: &Wiring,
     state: &State,
     unfinished: RankMask,
-    i: u32,
+    number: u32,
 ) -> Option<Illegal>
-    requires wired { i < length wiring.now.tasks }
+    requires wired { number < length wiring.now.tasks }
     requires tasks { length state.now.tasks ≡ length wiring.now.tasks }
     requires entries { length state.now.releaser.tasks ≡ length wiring.now.tasks }
     requires ranks { HasUnfinished wiring.now state.now unfinished }
-    ensures { result ≡ rule.blocker_refusal wiring.now.count wiring.now state.now i }
+    ensures { result ≡ rule.blocker_refusal wiring.now.count wiring.now state.now number }
 {
     match wiring.count {
         Count::All => None,
         Count::Ranked => {
-            if !unfinished.has_above(wired_at(wiring, i).rank) {
+            if !unfinished.has_above(wired_at(wiring, number).rank) {
                 return None;
             }
-            let highest = highest_blocking(wiring, state, i)?;
+            let highest = highest_blocking(wiring, state, number)?;
             Some(Illegal {
                 broken: Broken::HigherUnfinished,
                 left: u64::from(highest),
-                right: u64::from(i),
+                right: u64::from(number),
             })
         }
     }

@@ -21,49 +21,56 @@ fn ranked_refusal(
     wiring: &Wiring,
     state: &State,
     unfinished: RankMask,
-    i: u32,
+    number: u32,
     step: Step,
 ) -> Option<Illegal>
-    requires wired { i < length wiring.now.tasks }
+    requires wired { number < length wiring.now.tasks }
     requires tasks { length state.now.tasks ≡ length wiring.now.tasks }
     requires entries { length state.now.releaser.tasks ≡ length wiring.now.tasks }
-    requires place { PlaceIn (wired_task wiring.now i) (task state.now i).part.place }
+    requires place { PlaceIn (wired_task wiring.now number) (task state.now number).part.place }
     requires ranks { HasUnfinished wiring.now state.now unfinished }
-    ensures { result ≡ rule.ranked_refusal wiring.now state.now i step }
+    ensures { result ≡ rule.ranked_refusal wiring.now state.now number step }
 {
-    if let Some(why) = not_next(wiring, state, i, step) {
+    if let Some(why) = not_next(wiring, state, number, step) {
         return Some(why);
     }
-    blocker_refusal(wiring, state, unfinished, i)
+    blocker_refusal(wiring, state, unfinished, number)
 }
 
 // Why the step isn't the task's next one, if that is so.
-fn not_next(wiring: &Wiring, state: &State, i: u32, step: Step) -> Option<Illegal>
-    requires wired { i < length wiring.now.tasks }
-    requires tasks { i < length state.now.tasks }
-    requires place { PlaceIn (wired_task wiring.now i) (task state.now i).part.place }
-    ensures { result ≡ task_refusal (wired_task wiring.now i) (task state.now i).part step }
+fn not_next(wiring: &Wiring, state: &State, number: u32, step: Step) -> Option<Illegal>
+    requires wired { number < length wiring.now.tasks }
+    requires tasks { number < length state.now.tasks }
+    requires place { PlaceIn (wired_task wiring.now number) (task state.now number).part.place }
+    ensures { result ≡ task_refusal (wired_task wiring.now number) (task state.now number).part step }
 {
-    task_at(state, i).part.refusal(wired_at(wiring, i), step)
+    task_at(state, number)
+        .part
+        .refusal(wired_at(wiring, number), step)
 }
 
 // Why the start isn't allowed, if that is so. A start that finds its gate closed changes nothing, and no rank forbids it.
-fn start_refusal(wiring: &Wiring, state: &State, unfinished: RankMask, i: u32) -> Option<Illegal>
-    requires wired { i < length wiring.now.tasks }
+fn start_refusal(
+    wiring: &Wiring,
+    state: &State,
+    unfinished: RankMask,
+    number: u32,
+) -> Option<Illegal>
+    requires wired { number < length wiring.now.tasks }
     requires tasks { length state.now.tasks ≡ length wiring.now.tasks }
     requires entries { length state.now.releaser.tasks ≡ length wiring.now.tasks }
-    requires place { PlaceIn (wired_task wiring.now i) (task state.now i).part.place }
-    requires ended { (task state.now i).part.ended + 1 < 2 ^ 32 }
+    requires place { PlaceIn (wired_task wiring.now number) (task state.now number).part.place }
+    requires ended { (task state.now number).part.ended + 1 < 2 ^ 32 }
     requires ranks { HasUnfinished wiring.now state.now unfinished }
-    ensures { result ≡ rule.refusal wiring.now state.now (Step.Start i) }
+    ensures { result ≡ rule.refusal wiring.now state.now (Step.Start number) }
 {
-    if let Some(why) = not_next(wiring, state, i, Step::Start { task: i }) {
+    if let Some(why) = not_next(wiring, state, number, Step::Start { task: number }) {
         return Some(why);
     }
-    if !is_open(state, i) {
+    if !is_open(state, number) {
         return None;
     }
-    blocker_refusal(wiring, state, unfinished, i)
+    blocker_refusal(wiring, state, unfinished, number)
 }
 
 // Why the step isn't allowed, if that is so.

@@ -7,30 +7,30 @@ ghost use Rattle.dbp_plan.specs.Lookups.{declared_task};
 use dbp_plan::{Plan, Task};
 use dbp_rules::{State, TaskEntry, TaskState, TaskWiring, Wiring};
 
-pub(crate) fn task_at(state: &State, i: u32) -> &TaskState
-    requires { i < length state.now.tasks }
-    ensures { result.now ≡ task state.now i }
+pub(crate) fn task_at(state: &State, number: u32) -> &TaskState
+    requires { number < length state.now.tasks }
+    ensures { result.now ≡ task state.now number }
 {
-    &state.tasks.items()[i as usize]
+    &state.tasks.items()[number as usize]
 }
 
-pub(crate) fn entry_at(state: &State, i: u32) -> &TaskEntry
-    requires { i < length state.now.releaser.tasks }
-    ensures { result.now ≡ task_entry state.now i }
+pub(crate) fn entry_at(state: &State, number: u32) -> &TaskEntry
+    requires { number < length state.now.releaser.tasks }
+    ensures { result.now ≡ task_entry state.now number }
 {
-    state.releaser.entry(i)
+    state.releaser.entry(number)
 }
 
-pub(crate) fn wired_at(wiring: &Wiring, i: u32) -> &TaskWiring
-    requires { i < length wiring.now.tasks }
-    ensures { result.now ≡ wired_task wiring.now i }
+pub(crate) fn wired_at(wiring: &Wiring, number: u32) -> &TaskWiring
+    requires { number < length wiring.now.tasks }
+    ensures { result.now ≡ wired_task wiring.now number }
 {
-    wiring.task(i)
+    wiring.task(number)
 }
 
-pub(crate) fn declared_at(plan: &Plan, i: u32) -> &Task
-    requires { i < length plan.now.diagram.tasks }
-    ensures { result.now ≡ declared_task plan.now i }
+pub(crate) fn declared_at(plan: &Plan, number: u32) -> &Task
+    requires { number < length plan.now.diagram.tasks }
+    ensures { result.now ≡ declared_task plan.now number }
 {
-    &plan.diagram.tasks.items()[i as usize]
+    &plan.diagram.tasks.items()[number as usize]
 }

@@ -11,135 +11,135 @@ use crate::steps::{end, finish, hear, is_open, look, put, read_value, shut, star
 use dbp_plan::Plan;
 use dbp_rules::{Heard, Place, State, Step, Wiring};
 
-fn make_open(plan: &Plan, wiring: &Wiring, state: &mut State, i: u32) -> Heard
-    requires task { i < length wiring.now.tasks }
+fn make_open(plan: &Plan, wiring: &Wiring, state: &mut State, number: u32) -> Heard
+    requires task { number < length wiring.now.tasks }
     requires shape { IsShape plan.now wiring.now state.old }
-    requires allowed { rule.refusal wiring.now state.old (Step.OpenGate i) ≡ None }
-    ensures { IsStep plan.now wiring.now state.old (Step.OpenGate i) (Ok result) state.new }
+    requires allowed { rule.refusal wiring.now state.old (Step.OpenGate number) ≡ None }
+    ensures { IsStep plan.now wiring.now state.old (Step.OpenGate number) (Ok result) state.new }
 {
-    open(state, i);
+    open(state, number);
     Heard::Stored
 }
 
-fn make_aim(plan: &Plan, wiring: &Wiring, state: &mut State, i: u32, slot: u32) -> Heard
-    requires task { i < length wiring.now.tasks }
+fn make_aim(plan: &Plan, wiring: &Wiring, state: &mut State, number: u32, slot: u32) -> Heard
+    requires task { number < length wiring.now.tasks }
     requires shape { IsShape plan.now wiring.now state.old }
-    requires allowed { rule.refusal wiring.now state.old (Step.Aim i slot) ≡ None }
-    ensures { IsStep plan.now wiring.now state.old (Step.Aim i slot) (Ok result) state.new }
+    requires allowed { rule.refusal wiring.now state.old (Step.Aim number slot) ≡ None }
+    ensures { IsStep plan.now wiring.now state.old (Step.Aim number slot) (Ok result) state.new }
 {
-    aim(state, i, slot);
+    aim(state, number, slot);
     Heard::Stored
 }
 
-fn make_claim(plan: &Plan, wiring: &Wiring, state: &mut State, k: u32) -> Heard
-    requires link { k < length wiring.now.links }
+fn make_claim(plan: &Plan, wiring: &Wiring, state: &mut State, link_number: u32) -> Heard
+    requires link { link_number < length wiring.now.links }
     requires shape { IsShape plan.now wiring.now state.old }
-    requires allowed { rule.refusal wiring.now state.old (Step.Claim k) ≡ None }
-    ensures { IsStep plan.now wiring.now state.old (Step.Claim k) (Ok result) state.new }
+    requires allowed { rule.refusal wiring.now state.old (Step.Claim link_number) ≡ None }
+    ensures { IsStep plan.now wiring.now state.old (Step.Claim link_number) (Ok result) state.new }
 {
-    claim(wiring, state, k);
+    claim(wiring, state, link_number);
     Heard::Stored
 }
 
-fn make_start(plan: &Plan, wiring: &Wiring, state: &mut State, i: u32) -> Heard
-    requires task { i < length wiring.now.tasks }
+fn make_start(plan: &Plan, wiring: &Wiring, state: &mut State, number: u32) -> Heard
+    requires task { number < length wiring.now.tasks }
     requires shape { IsShape plan.now wiring.now state.old }
-    requires allowed { rule.refusal wiring.now state.old (Step.Start i) ≡ None }
-    ensures { IsStep plan.now wiring.now state.old (Step.Start i) (Ok result) state.new }
+    requires allowed { rule.refusal wiring.now state.old (Step.Start number) ≡ None }
+    ensures { IsStep plan.now wiring.now state.old (Step.Start number) (Ok result) state.new }
 {
-    if is_open(state, i) {
-        start(state, i);
+    if is_open(state, number) {
+        start(state, number);
         Heard::Started
     } else {
         Heard::Closed
     }
 }
 
-fn make_hear(plan: &Plan, wiring: &Wiring, state: &mut State, i: u32) -> Heard
-    requires task { i < length wiring.now.tasks }
+fn make_hear(plan: &Plan, wiring: &Wiring, state: &mut State, number: u32) -> Heard
+    requires task { number < length wiring.now.tasks }
     requires shape { IsShape plan.now wiring.now state.old }
-    requires allowed { rule.refusal wiring.now state.old (Step.Hear i) ≡ None }
-    ensures { IsStep plan.now wiring.now state.old (Step.Hear i) (Ok result) state.new }
+    requires allowed { rule.refusal wiring.now state.old (Step.Hear number) ≡ None }
+    ensures { IsStep plan.now wiring.now state.old (Step.Hear number) (Ok result) state.new }
 {
-    let Place::Hear(n) = task_at(state, i).part.place else {
+    let Place::Hear(turn) = task_at(state, number).part.place else {
         unreachable!()
     };
-    let order = hear(wiring, state, i, n);
+    let order = hear(wiring, state, number, turn);
     Heard::Order {
         slot: order.slot,
         number: order.number,
     }
 }
 
-fn make_look(plan: &Plan, wiring: &Wiring, state: &mut State, i: u32, read: u32) -> Heard
-    requires task { i < length wiring.now.tasks }
+fn make_look(plan: &Plan, wiring: &Wiring, state: &mut State, number: u32, read: u32) -> Heard
+    requires task { number < length wiring.now.tasks }
     requires shape { IsShape plan.now wiring.now state.old }
-    requires allowed { rule.refusal wiring.now state.old (Step.Look i read) ≡ None }
-    ensures { IsStep plan.now wiring.now state.old (Step.Look i read) (Ok result) state.new }
+    requires allowed { rule.refusal wiring.now state.old (Step.Look number read) ≡ None }
+    ensures { IsStep plan.now wiring.now state.old (Step.Look number read) (Ok result) state.new }
 {
-    let Place::Look(n) = task_at(state, i).part.place else {
+    let Place::Look(turn) = task_at(state, number).part.place else {
         unreachable!()
     };
-    if look(wiring, state, i, n) {
+    if look(wiring, state, number, turn) {
         Heard::Ready
     } else {
         Heard::NotYet
     }
 }
 
-fn make_take(plan: &Plan, wiring: &Wiring, state: &mut State, i: u32, read: u32) -> Heard
-    requires task { i < length wiring.now.tasks }
+fn make_take(plan: &Plan, wiring: &Wiring, state: &mut State, number: u32, read: u32) -> Heard
+    requires task { number < length wiring.now.tasks }
     requires shape { IsShape plan.now wiring.now state.old }
-    requires allowed { rule.refusal wiring.now state.old (Step.Take i read) ≡ None }
-    ensures { IsStep plan.now wiring.now state.old (Step.Take i read) (Ok result) state.new }
+    requires allowed { rule.refusal wiring.now state.old (Step.Take number read) ≡ None }
+    ensures { IsStep plan.now wiring.now state.old (Step.Take number read) (Ok result) state.new }
 {
-    let Place::Take(n) = task_at(state, i).part.place else {
+    let Place::Take(turn) = task_at(state, number).part.place else {
         unreachable!()
     };
-    let word = read_value(wiring, state, i, n);
-    let declared = declared_at(plan, i);
+    let word = read_value(wiring, state, number, turn);
+    let declared = declared_at(plan, number);
     let kept = (declared.states.len() + declared.senses.len() + read) as usize;
-    take(wiring, state, i, n, kept, word);
+    take(wiring, state, number, turn, kept, word);
     Heard::Word(word)
 }
 
-fn make_shut(plan: &Plan, wiring: &Wiring, state: &mut State, i: u32) -> Heard
-    requires task { i < length wiring.now.tasks }
+fn make_shut(plan: &Plan, wiring: &Wiring, state: &mut State, number: u32) -> Heard
+    requires task { number < length wiring.now.tasks }
     requires shape { IsShape plan.now wiring.now state.old }
-    requires allowed { rule.refusal wiring.now state.old (Step.Shut i) ≡ None }
-    ensures { IsStep plan.now wiring.now state.old (Step.Shut i) (Ok result) state.new }
+    requires allowed { rule.refusal wiring.now state.old (Step.Shut number) ≡ None }
+    ensures { IsStep plan.now wiring.now state.old (Step.Shut number) (Ok result) state.new }
 {
-    shut(plan, wiring, state, i);
+    shut(plan, wiring, state, number);
     Heard::Stored
 }
 
-fn make_put(plan: &Plan, wiring: &Wiring, state: &mut State, i: u32, port: u32) -> Heard
-    requires task { i < length wiring.now.tasks }
+fn make_put(plan: &Plan, wiring: &Wiring, state: &mut State, number: u32, port: u32) -> Heard
+    requires task { number < length wiring.now.tasks }
     requires shape { IsShape plan.now wiring.now state.old }
-    requires allowed { rule.refusal wiring.now state.old (Step.Put i port) ≡ None }
-    ensures { IsStep plan.now wiring.now state.old (Step.Put i port) (Ok result) state.new }
+    requires allowed { rule.refusal wiring.now state.old (Step.Put number port) ≡ None }
+    ensures { IsStep plan.now wiring.now state.old (Step.Put number port) (Ok result) state.new }
 {
-    put(wiring, state, i, port);
+    put(wiring, state, number, port);
     Heard::Stored
 }
 
-fn make_done(plan: &Plan, wiring: &Wiring, state: &mut State, i: u32) -> Heard
-    requires task { i < length wiring.now.tasks }
+fn make_done(plan: &Plan, wiring: &Wiring, state: &mut State, number: u32) -> Heard
+    requires task { number < length wiring.now.tasks }
     requires shape { IsShape plan.now wiring.now state.old }
-    requires allowed { rule.refusal wiring.now state.old (Step.Done i) ≡ None }
-    ensures { IsStep plan.now wiring.now state.old (Step.Done i) (Ok result) state.new }
+    requires allowed { rule.refusal wiring.now state.old (Step.Done number) ≡ None }
+    ensures { IsStep plan.now wiring.now state.old (Step.Done number) (Ok result) state.new }
 {
-    finish(state, i);
+    finish(state, number);
     Heard::Stored
 }
 
-fn make_end(plan: &Plan, wiring: &Wiring, state: &mut State, i: u32) -> Heard
-    requires task { i < length wiring.now.tasks }
+fn make_end(plan: &Plan, wiring: &Wiring, state: &mut State, number: u32) -> Heard
+    requires task { number < length wiring.now.tasks }
     requires shape { IsShape plan.now wiring.now state.old }
-    requires allowed { rule.refusal wiring.now state.old (Step.End i) ≡ None }
-    ensures { IsStep plan.now wiring.now state.old (Step.End i) (Ok result) state.new }
+    requires allowed { rule.refusal wiring.now state.old (Step.End number) ≡ None }
+    ensures { IsStep plan.now wiring.now state.old (Step.End number) (Ok result) state.new }
 {
-    end(state, i);
+    end(state, number);
     Heard::Stored
 }
 

@@ -20,15 +20,15 @@ impl RankMask {
 
     /// No rank.
     pub(crate) fn empty() -> RankMask
-        ensures { (r : ℕ) → has_rank result r ≡ false }
+        ensures { (other : ℕ) → has_rank result other ≡ false }
     {
         RankMask { bits: 0 }
     }
 
     /// Whether it has a rank above this one.
     pub(crate) fn has_above(self, rank: u32) -> bool
-        ensures none { result ≡ false → (r : ℕ) → r < rank → has_rank self r ≡ false }
-        ensures some { rank ≤ 32 → result ≡ true → (r : ℕ) × (r < rank) × (has_rank self r ≡ true) }
+        ensures none { result ≡ false → (other : ℕ) → other < rank → has_rank self other ≡ false }
+        ensures some { rank ≤ 32 → result ≡ true → (other : ℕ) × (other < rank) × (has_rank self other ≡ true) }
     {
         let bits = self.bits;
         bits.trailing_zeros() < rank
@@ -38,7 +38,7 @@ impl RankMask {
     fn set(&mut self, rank: u32, is_in: bool)
         requires { rank < 32 }
         ensures same { has_rank self.new rank ≡ is_in }
-        ensures others { (r : ℕ) → r < 32 → r ≢ rank → has_rank self.new r ≡ has_rank self.old r }
+        ensures others { (other : ℕ) → other < 32 → other ≢ rank → has_rank self.new other ≡ has_rank self.old other }
     {
         let bit = 1u32 << rank;
         if is_in {
@@ -54,7 +54,7 @@ impl RankMask {
         requires ranks { HasRanks wiring.now }
         requires tasks { length state.now.tasks ≡ length wiring.now.tasks }
         requires entries { length state.now.releaser.tasks ≡ length wiring.now.tasks }
-        requires named { (i : ℕ) → recounted_task step ≡ Some i → i < length wiring.now.tasks }
+        requires named { (number : ℕ) → recounted_task step ≡ Some number → number < length wiring.now.tasks }
         requires others { (j : ℕ) → j < length wiring.now.tasks → recounted_task step ≢ Some j → has_rank self.old (wired_task wiring.now j).rank ≡ is_unfinished state.now j }
         ensures { HasUnfinished wiring.now state.now self.new }
     {
@@ -76,10 +76,10 @@ fn recounted_task(step: Step) -> Option<u32>
 }
 
 // Whether the task has an aimed instance that hasn't ended.
-fn is_unfinished(state: &State, i: u32) -> bool
-    requires tasks { i < length state.now.tasks }
-    requires entries { i < length state.now.releaser.tasks }
-    ensures { result ≡ is_unfinished state.now i }
+fn is_unfinished(state: &State, number: u32) -> bool
+    requires tasks { number < length state.now.tasks }
+    requires entries { number < length state.now.releaser.tasks }
+    ensures { result ≡ is_unfinished state.now number }
 {
-    task_at(state, i).part.ended < entry_at(state, i).aimed
+    task_at(state, number).part.ended < entry_at(state, number).aimed
 }
