@@ -29,7 +29,7 @@ use Rattle.dia_lines.specs.Counting.{Counted, with_line}
 use Rattle.dia_lines.specs.Limits.{numbers_fit}
 use Rattle.dia_lines.specs.Positions.{AreCounts, IsAfter}
 use Rattle.dia_lines.specs.Statements.{Statement, nothing, header, script, done}
-use Rattle.dia_lines.specs.Lines.{Said, says, step, place_after, version_after, statements, keeps_lines, token_fault, limit_fault, MayStand, SaysStatement, SaysInTrace, an_empty_row, trace_ends, script_begins, a_row, SaysInScript, no_step, script_ends, a_step, Reads, of_the_diagram, of_the_trace, of_the_script, HasDiagramFault, of_the_text, of_the_tokens, no_statement, past_a_limit, HasFault, in_the_diagram, in_the_trace, in_the_script}
+use Rattle.dia_lines.specs.Lines.{Content, says, step, place_after, version_after, statements, keeps_lines, token_fault, limit_fault, MayStand, SaysStatement, SaysInTrace, an_empty_row, trace_ends, script_begins, a_row, SaysInScript, no_step, script_ends, a_step, Reads, of_the_diagram, of_the_trace, of_the_script, HasDiagramFault, of_the_text, of_the_tokens, no_statement, past_a_limit, HasFault, in_the_diagram, in_the_trace, in_the_script}
 use Rattle.dia_lines.specs.Places.{leads}
 use Rattle.dia_lines.specs.Sections.{is_trace_byte}
 use Rattle.dia_lines.proofs.CountLaws.{counted-line}
@@ -76,7 +76,7 @@ module _ (text kept : List ℕ) (ts : List Token) (spelled : SpellsTokens text t
 
 -- ---- lines of the diagram
 
-module _ (before : List Said) (position : Position) (after : IsAfter before position) (text : List ℕ) (ts : List Token) (spelled : SpellsTokens text ts) where
+module _ (before : List Content) (position : Position) (after : IsAfter before position) (text : List ℕ) (ts : List Token) (spelled : SpellsTokens text ts) where
   -- if the tokens have no fault except in their form
   module _ (free : token_fault position.place ts ≡ None) where
     faultless : token_fault (place_after before) ts ≡ None
@@ -114,14 +114,14 @@ module _ (before : List Said) (position : Position) (after : IsAfter before posi
   pub diagram-faulty : (code : ReadCode) → token_fault position.place ts ≡ Some code → HasDiagramFault before text code
   diagram-faulty code f = of_the_tokens ts code spelled (rw (← after.place) f)
 
-pub text-refused : (before : List Said) (text : List ℕ) (e : LineError) → RefusesText text e → RefusesInDiagram before text e
+pub text-refused : (before : List Content) (text : List ℕ) (e : LineError) → RefusesText text e → RefusesInDiagram before text e
 text-refused before text NoMemory r = tt
 text-refused before text (Refused code) r = of_the_text code r
 
 -- ---- any line
 
 -- the header alone names a version
-version-kept : (before : List Said) (said : Said) (l : Line) → IsHeld said l → version_after_line (version_after before) l ≡ version_after (said ∷ before)
+version-kept : (before : List Content) (said : Content) (l : Line) → IsHeld said l → version_after_line (version_after before) l ≡ version_after (said ∷ before)
 version-kept before (says (header v)) (line.Header w) k = sym k
 version-kept before (says (header v)) l k = absurd k
 version-kept before said (line.Header w) k = absurd k
@@ -135,27 +135,27 @@ trace-version trace_line.Script version = refl
 trace-version trace_line.Done version = refl
 
 -- a statement that passes no count leaves the counts
-kept-counts : (before : List Said) (s : Statement) (l : Line) (counts : Counts) → AreCounts (statements before) counts → IsKept s l → with_line counts l ≡ Ok counts → AreCounts (s ∷ statements before) counts
+kept-counts : (before : List Content) (s : Statement) (l : Line) (counts : Counts) → AreCounts (statements before) counts → IsKept s l → with_line counts l ≡ Ok counts → AreCounts (s ∷ statements before) counts
 kept-counts before s l counts a k e = (subst (Counted (statements before) s) e (counted-line (statements before) s l counts a k)).1
 
-counts-in-trace : (before : List Said) (text : List ℕ) (said : Said) (counts : Counts) → AreCounts (statements before) counts → SaysInTrace text said → AreCounts (statements (said ∷ before)) counts
+counts-in-trace : (before : List Content) (text : List ℕ) (said : Content) (counts : Counts) → AreCounts (statements before) counts → SaysInTrace text said → AreCounts (statements (said ∷ before)) counts
 counts-in-trace before text said counts a (an_empty_row t e) = kept-counts before nothing line.Nothing counts a tt refl
 counts-in-trace before text said counts a (trace_ends t e) = kept-counts before done line.Done counts a tt refl
 counts-in-trace before text said counts a (script_begins t e) = kept-counts before script line.Script counts a tt refl
 counts-in-trace before text said counts a (a_row t e k) = a
 
-counts-in-script : (before : List Said) (text : List ℕ) (said : Said) (counts : Counts) → AreCounts (statements before) counts → SaysInScript text said → AreCounts (statements (said ∷ before)) counts
+counts-in-script : (before : List Content) (text : List ℕ) (said : Content) (counts : Counts) → AreCounts (statements before) counts → SaysInScript text said → AreCounts (statements (said ∷ before)) counts
 counts-in-script before text said counts a (no_step t e) = kept-counts before nothing line.Nothing counts a tt refl
 counts-in-script before text said counts a (script_ends t e) = kept-counts before done line.Done counts a tt refl
 counts-in-script before text said counts a (a_step t k ts s n o h) = a
 
-module _ (before : List Said) (position : Position) (after : IsAfter before position) (text : List ℕ) where
-  pub trace-found : (l : Line) → position.place ≡ Trace → (said : Said) × SaysInTrace text said × IsHeld said l
-      → (said : Said) × Reads before text said × IsHeld said l × AreCounts (statements (said ∷ before)) position.counts
+module _ (before : List Content) (position : Position) (after : IsAfter before position) (text : List ℕ) where
+  pub trace-found : (l : Line) → position.place ≡ Trace → (said : Content) × SaysInTrace text said × IsHeld said l
+      → (said : Content) × Reads before text said × IsHeld said l × AreCounts (statements (said ∷ before)) position.counts
   trace-found l here (said, says_so, held) = (said, of_the_trace text said (sym after.place ∙ here) says_so, held, counts-in-trace before text said position.counts after.counts says_so)
 
-  pub script-found : (l : Line) → position.place ≡ Script → (said : Said) × SaysInScript text said × IsHeld said l
-      → (said : Said) × Reads before text said × IsHeld said l × AreCounts (statements (said ∷ before)) position.counts
+  pub script-found : (l : Line) → position.place ≡ Script → (said : Content) × SaysInScript text said × IsHeld said l
+      → (said : Content) × Reads before text said × IsHeld said l × AreCounts (statements (said ∷ before)) position.counts
   script-found l here (said, says_so, held) = (said, of_the_script text said (sym after.place ∙ here) says_so, held, counts-in-script before text said position.counts after.counts says_so)
 
   in-the-diagram : (position.place ≡ Trace → ⊥) → (position.place ≡ Script → ⊥) → keeps_lines (place_after before) ≡ false
@@ -168,7 +168,7 @@ module _ (before : List Said) (position : Position) (after : IsAfter before posi
 
   pub line-found : (r : Result (Line × Counts) LineError) → (position.place ≡ Trace → ⊥) → (position.place ≡ Script → ⊥)
       → IfOk r (λ r. (s : Statement) × SaysStatement before text s × IsKept s r.0 × AreCounts (s ∷ statements before) r.1)
-      → IfOk r (λ r. (said : Said) × Reads before text said × IsHeld said r.0 × AreCounts (statements (said ∷ before)) r.1)
+      → IfOk r (λ r. (said : Content) × Reads before text said × IsHeld said r.0 × AreCounts (statements (said ∷ before)) r.1)
   line-found (Ok r) no_trace no_script (s, says_so, kept, counts) = (says s, of_the_diagram text s (in-the-diagram no_trace no_script) says_so, kept, counts)
   line-found (Err e) no_trace no_script found = tt
 
@@ -187,15 +187,15 @@ module _ (before : List Said) (position : Position) (after : IsAfter before posi
 
   -- the version and the place after a line that was read
   pub after-found : (l : Line) (counts : Counts) (version : ℕ) (place : Place) → version ≡ version_after_line position.version l → place ≡ place_after_line position.place l
-      → (said : Said) × Reads before text said × IsHeld said l × AreCounts (statements (said ∷ before)) counts
-      → (said : Said) × Reads before text said × IsHeld said l × IsAfter (said ∷ before) (record { version = version; place = place; counts = counts })
+      → (said : Content) × Reads before text said × IsHeld said l × AreCounts (statements (said ∷ before)) counts
+      → (said : Content) × Reads before text said × IsHeld said l × IsAfter (said ∷ before) (record { version = version; place = place; counts = counts })
   after-found l counts version place named is (said, reads, held, right) =
       (said, reads, held, record { version = named ∙ ap (λ (v : ℕ). version_after_line v l) after.version ∙ version-kept before said l held; place = is ∙ led said l reads held; counts = right })
     where
       kept : (s : Statement) (l : Line) (q : Place) → leads (place_after before) s ≡ Some q → IsKept s l → place_after_line position.place l ≡ place_after (says s ∷ before)
       kept s l q e k = rw (e, after.place) (sym (leads-line (place_after before) q s l e k))
 
-      led : (said : Said) (l : Line) → Reads before text said → IsHeld said l → place_after_line position.place l ≡ place_after (said ∷ before)
+      led : (said : Content) (l : Line) → Reads before text said → IsHeld said l → place_after_line position.place l ≡ place_after (said ∷ before)
       led said l (of_the_diagram t s e says_so) k = kept s l says_so.stands.next says_so.stands.stands k
       led said l (of_the_trace t s here (an_empty_row u e)) k = kept nothing l Trace (rw here refl) k
       led said l (of_the_trace t s here (trace_ends u e)) k = kept done l Ended (rw here refl) k

@@ -11,7 +11,7 @@ use Rattle.dia_tokens.specs.Kinds.{is_allowed}
 use Rattle.dia_lines.specs.Statements.{nothing, script, done}
 use Rattle.dia_lines.specs.Sections.{is_space, is_trace_byte, IsAlone}
 use Rattle.dia_lines.specs.Trimmed.{trimmed}
-use Rattle.dia_lines.specs.Lines.{Said, says, row, SaysInTrace, an_empty_row, trace_ends, script_begins, a_row}
+use Rattle.dia_lines.specs.Lines.{Content, says, row, SaysInTrace, an_empty_row, trace_ends, script_begins, a_row}
 use Rattle.dia_lines.proofs.TrimLaws.{trimmed-alone, alone-trimmed, trimmed-nil, nil-trimmed}
 
 trimmed-done : (line : List ℕ) → IsAlone (codes "done") line → trimmed line ≡ codes "done"
@@ -43,7 +43,7 @@ says_row line h full no_end no_script =
 
 -- ---- a line says one thing at most
 
-said_in_trace : List ℕ → Said
+said_in_trace : List ℕ → Content
 said_in_trace line =
     if bytes_eq (trimmed line) [] then says nothing else
     if bytes_eq (trimmed line) (codes "done") then says done else
@@ -52,7 +52,7 @@ said_in_trace line =
 differs : (text other : List ℕ) → (text ≡ other → ⊥) → bytes_eq text other ≡ false
 differs text other ne = false_from_ne_true _ (λ y. ne ((bytes_eq-Decides text other).0 y))
 
-says_what : (line : List ℕ) (a : Said) → SaysInTrace line a → a ≡ said_in_trace line
+says_what : (line : List ℕ) (a : Content) → SaysInTrace line a → a ≡ said_in_trace line
 unfolding said_in_trace
 says_what line a (an_empty_row l h) = rw (trimmed-nil l h) refl
 says_what line a (trace_ends l h) = rw (trimmed-done l h) refl
@@ -64,7 +64,7 @@ says_what line a (a_row l h kept) =
       differs (trimmed l) (codes "script") (λ e. kept.inside (inl (alone l (codes "script") e))),
     ) refl
 
-pub one-in-trace : (line : List ℕ) (a b : Said) → SaysInTrace line a → SaysInTrace line b → a ≡ b
+pub one-in-trace : (line : List ℕ) (a b : Content) → SaysInTrace line a → SaysInTrace line b → a ≡ b
 one-in-trace line a b h k = says_what line a h ∙ sym (says_what line b k)
 
 -- a kept row is the line itself
@@ -87,7 +87,7 @@ alone_allowed text line h a =
     rw (a.4, list_all-append, list_all-append)
     (and_from _ _ (and_from _ _ (spaces_allowed a.0 a.2) h) (spaces_allowed a.1 a.3))
 
-pub all_allowed : (line : List ℕ) (a : Said) → SaysInTrace line a → list_all is_trace_byte line ≡ true
+pub all_allowed : (line : List ℕ) (a : Content) → SaysInTrace line a → list_all is_trace_byte line ≡ true
 all_allowed line a (an_empty_row l h) = spaces_allowed l h
 all_allowed line a (trace_ends l h) = alone_allowed (codes "done") l refl h
 all_allowed line a (script_begins l h) = alone_allowed (codes "script") l refl h
@@ -103,5 +103,5 @@ trace_allowed (b ∷ bs) h =
     let both = and_parts (is_trace_byte b) (list_all is_trace_byte bs) h in
     and_from _ _ (byte_allowed b both.0) (trace_allowed bs both.1)
 
-pub no-fault-in-trace : (line : List ℕ) (a : Said) → SaysInTrace line a → list_all is_trace_byte line ≡ false → ⊥
+pub no-fault-in-trace : (line : List ℕ) (a : Content) → SaysInTrace line a → list_all is_trace_byte line ≡ false → ⊥
 no-fault-in-trace line a s h = both_ways _ h (all_allowed line a s)

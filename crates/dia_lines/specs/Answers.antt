@@ -20,7 +20,7 @@ use Rattle.dia_lines.specs.declared.fault.ReadCode.TheVariants.{BadLine, LimitHi
 use Rattle.dia_lines.specs.declared.place.Place.{Place}
 use Rattle.dia_lines.specs.Statements.{Statement}
 use Rattle.dia_lines.specs.Limits.{numbers_fit}
-use Rattle.dia_lines.specs.Lines.{Said, Reads, MayStand, code_of, HasTextFault, HasDiagramFault, HasFault}
+use Rattle.dia_lines.specs.Lines.{Content, Reads, MayStand, code_of, HasTextFault, HasDiagramFault, HasFault}
 
 -- the refusal with the code, or out of memory if there is none
 abbrev pub error_of : Option ReadCode → LineError
@@ -37,19 +37,19 @@ error_of_expression of_expression.NoExpression = Refused BadLine
 error_of_expression of_expression.NoMemory = NoMemory
 
 -- the line has the fault, as its first one
-abbrev pub Refuses : List Said → List ℕ → LineError → Type 0
+abbrev pub Refuses : List Content → List ℕ → LineError → Type 0
 Refuses before line (Refused code) = HasFault before line code
 Refuses before line NoMemory = Unit {0}
 
 -- after any lines that lead to the position, the line says something, this is held of it, and the next position is after it
 abbrev pub IsNextLine : Position → List ℕ → Line → Position → Type 0
 IsNextLine position line held next =
-    (before : List Said) → IsAfter before position
-    → (said : Said) × Reads before line said × IsHeld said held × IsAfter (said ∷ before) next
+    (before : List Content) → IsAfter before position
+    → (said : Content) × Reads before line said × IsHeld said held × IsAfter (said ∷ before) next
 
 -- after any lines that lead to the position, the line has the fault, as its first one
 abbrev pub RefusesAfter : Position → List ℕ → LineError → Type 0
-RefusesAfter position line e = (before : List Said) → IsAfter before position → Refuses before line e
+RefusesAfter position line e = (before : List Content) → IsAfter before position → Refuses before line e
 
 -- the line spells no tokens, and has the fault
 abbrev pub RefusesText : List ℕ → LineError → Type 0
@@ -57,7 +57,7 @@ RefusesText line (Refused code) = HasTextFault line code
 RefusesText line NoMemory = Unit {0}
 
 -- the line of the diagram has the fault, as its first one
-abbrev pub RefusesInDiagram : List Said → List ℕ → LineError → Type 0
+abbrev pub RefusesInDiagram : List Content → List ℕ → LineError → Type 0
 RefusesInDiagram before line (Refused code) = HasDiagramFault before line code
 RefusesInDiagram before line NoMemory = Unit {0}
 

@@ -13,7 +13,7 @@ use Rattle.dia_lines.specs.declared.item.Line.{Line}
 use Rattle.dia_lines.specs.declared.item.Line.TheVariants as line
 use Rattle.dia_lines.specs.Delays.{delay_of}
 use Rattle.dia_lines.specs.Statements.{Statement, Clock, every, on, nothing, header, policy, until, input, event, task, state, sense, read, a_let, a_next, out, trace, script, done}
-use Rattle.dia_lines.specs.Lines.{Said, says, row, step}
+use Rattle.dia_lines.specs.Lines.{Content, says, row, step}
 
 -- the declaration that a line is
 abbrev pub IsDecl : Statement → Decl → Type 0
@@ -64,7 +64,7 @@ IsKept done line.Done = Unit {0}
 IsKept _ _ = ⊥
 
 -- what is kept of a line: of a row no more than that it is one, of a step its text
-abbrev pub IsHeld : Said → Line → Type 0
+abbrev pub IsHeld : Content → Line → Type 0
 IsHeld (says s) l = IsKept s l
 IsHeld (row text) line.Row = Unit {0}
 IsHeld (step text) (line.Step kept) = text ≡ kept

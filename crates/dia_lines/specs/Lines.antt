@@ -24,10 +24,10 @@ use Rattle.dia_lines.specs.Limits.{numbers_fit, passed_count}
 use Rattle.dia_lines.specs.Sections.{is_space, is_trace_byte, IsAlone, IsKeptRow}
 
 -- what a line says: a statement, a row of the trace section, or a step of the script section as it is kept
-pub data Said : Type 0 where
-  says : Statement → Said
-  row : List ℕ → Said
-  step : List ℕ → Said
+pub data Content : Type 0 where
+  says : Statement → Content
+  row : List ℕ → Content
+  step : List ℕ → Content
 
 -- where a line leads: lines that were read lead somewhere
 abbrev pub led_to : Place → Option Place → Place
@@ -35,19 +35,19 @@ led_to place None = place
 led_to place (Some next) = next
 
 -- where the lines lead, of which the latest is the first
-abbrev pub place_after : List Said → Place
+abbrev pub place_after : List Content → Place
 place_after [] = Header
 place_after (says s ∷ before) = led_to (place_after before) (leads (place_after before) s)
 place_after (_ ∷ before) = place_after before
 
 -- the version that the lines name, of which the latest is the first: 1 before the header
-abbrev pub version_after : List Said → ℕ
+abbrev pub version_after : List Content → ℕ
 version_after [] = 1
 version_after (says (header version) ∷ before) = version
 version_after (_ ∷ before) = version_after before
 
 -- the statements of the lines, the latest first
-abbrev pub statements : List Said → List Statement
+abbrev pub statements : List Content → List Statement
 statements [] = []
 statements (says s ∷ before) = s ∷ statements before
 statements (_ ∷ before) = statements before
@@ -114,7 +114,7 @@ pub record MayStand (version : ℕ) (place : Place) (ts : List Token) (s : State
   pub known : is_of_version version s ≡ true
 
 -- after those before it, the line of the diagram is without fault and says the statement
-pub record SaysStatement (before : List Said) (line : List ℕ) (s : Statement) : Type 0 where
+pub record SaysStatement (before : List Content) (line : List ℕ) (s : Statement) : Type 0 where
   pub tokens : List Token
   pub spelled : SpellsTokens line tokens
   pub faultless : token_fault (place_after before) tokens ≡ None
@@ -122,31 +122,31 @@ pub record SaysStatement (before : List Said) (line : List ℕ) (s : Statement) 
   pub within : limit_fault (statements before) s ≡ None
 
 -- the line of the trace section is without fault, and says this
-pub data SaysInTrace : List ℕ → Said → Type 0 where
+pub data SaysInTrace : List ℕ → Content → Type 0 where
   an_empty_row : (line : List ℕ) → list_all is_space line ≡ true → SaysInTrace line (says nothing)
   trace_ends : (line : List ℕ) → IsAlone (codes "done") line → SaysInTrace line (says done)
   script_begins : (line : List ℕ) → IsAlone (codes "script") line → SaysInTrace line (says script)
   a_row : (line : List ℕ) → list_all is_trace_byte line ≡ true → IsKeptRow line → SaysInTrace line (row line)
 
 -- the line of the script section is without fault, and says this
-pub data SaysInScript : List ℕ → Said → Type 0 where
+pub data SaysInScript : List ℕ → Content → Type 0 where
   no_step : (line : List ℕ) → SpellsTokens line [] → SaysInScript line (says nothing)
   script_ends : (line : List ℕ) → SpellsTokens line (token.Keyword keyword.Done ∷ []) → SaysInScript line (says done)
   a_step : (line kept : List ℕ) (ts : List Token) → SpellsTokens line ts → ts ≢ [] → ts ≢ token.Keyword keyword.Done ∷ [] → IsSpelling line kept
       → SaysInScript line (step kept)
 
 -- after those before it the line is without fault, and says this
-pub data Reads (before : List Said) : List ℕ → Said → Type 0 where
+pub data Reads (before : List Content) : List ℕ → Content → Type 0 where
   of_the_diagram : (line : List ℕ) (s : Statement) → keeps_lines (place_after before) ≡ false → SaysStatement before line s → Reads before line (says s)
-  of_the_trace : (line : List ℕ) (said : Said) → place_after before ≡ Trace → SaysInTrace line said → Reads before line said
-  of_the_script : (line : List ℕ) (said : Said) → place_after before ≡ Script → SaysInScript line said → Reads before line said
+  of_the_trace : (line : List ℕ) (said : Content) → place_after before ≡ Trace → SaysInTrace line said → Reads before line said
+  of_the_script : (line : List ℕ) (said : Content) → place_after before ≡ Script → SaysInScript line said → Reads before line said
 
 -- the first fault of a line that spells no tokens
 abbrev pub HasTextFault : List ℕ → ReadCode → Type 0
 HasTextFault line code = (fault : LineFail) × HasTokenFault line fault × (code_of fault ≡ Some code)
 
 -- the first fault of a line of the diagram after those before it
-pub data HasDiagramFault (before : List Said) (line : List ℕ) : ReadCode → Type 0 where
+pub data HasDiagramFault (before : List Content) (line : List ℕ) : ReadCode → Type 0 where
   of_the_text : (code : ReadCode) → HasTextFault line code → HasDiagramFault before line code
   of_the_tokens : (ts : List Token) (code : ReadCode) → SpellsTokens line ts → token_fault (place_after before) ts ≡ Some code → HasDiagramFault before line code
   no_statement : (ts : List Token) → SpellsTokens line ts → token_fault (place_after before) ts ≡ None
@@ -155,7 +155,7 @@ pub data HasDiagramFault (before : List Said) (line : List ℕ) : ReadCode → T
       → MayStand (version_after before) (place_after before) ts s → limit_fault (statements before) s ≡ Some code → HasDiagramFault before line code
 
 -- the first fault of a line after those before it
-pub data HasFault (before : List Said) (line : List ℕ) : ReadCode → Type 0 where
+pub data HasFault (before : List Content) (line : List ℕ) : ReadCode → Type 0 where
   in_the_diagram : (code : ReadCode) → keeps_lines (place_after before) ≡ false → HasDiagramFault before line code → HasFault before line code
   in_the_trace : place_after before ≡ Trace → list_all is_trace_byte line ≡ false → HasFault before line BadByte
   in_the_script : (code : ReadCode) → place_after before ≡ Script → HasTextFault line code → HasFault before line code

@@ -5,7 +5,7 @@ use Rattle.dia_lines.specs.declared.position.Position.{Position}
 use Rattle.dia_lines.specs.Statements.{Statement}
 use Rattle.dia_lines.specs.Places.{is_body}
 use Rattle.dia_lines.specs.Limits.{is_input, is_event, is_task, is_read, is_out, of_this_task}
-use Rattle.dia_lines.specs.Lines.{Said, place_after, version_after, statements}
+use Rattle.dia_lines.specs.Lines.{Content, place_after, version_after, statements}
 
 -- so many statements of each kind stand before, of which the latest is the first
 pub record AreCounts (before : List Statement) (counts : Counts) : Type 0 where
@@ -18,7 +18,7 @@ pub record AreCounts (before : List Statement) (counts : Counts) : Type 0 where
   pub outs : counts.outs ≡ length (filter is_out (of_this_task before))
 
 -- the position after the lines before, of which the latest is the first
-pub record IsAfter (before : List Said) (position : Position) : Type 0 where
+pub record IsAfter (before : List Content) (position : Position) : Type 0 where
   pub version : position.version ≡ version_after before
   pub place : position.place ≡ place_after before
   pub counts : AreCounts (statements before) position.counts

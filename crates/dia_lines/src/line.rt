@@ -6,7 +6,7 @@ ghost use Rattle.dia_tokens.specs.Kinds.{is_allowed};
 ghost use Rattle.dia_tokens.specs.Line.{Spells as SpellsTokens, HasBadStart};
 ghost use Rattle.dia_lines.specs.Answers.{Refuses, RefusesText, RefusesInDiagram, IsNextLine, RefusesAfter};
 ghost use Rattle.dia_lines.specs.Held.{IsHeld, IsKept};
-ghost use Rattle.dia_lines.specs.Lines.{Said, SaysStatement, SaysInScript, Reads, statements};
+ghost use Rattle.dia_lines.specs.Lines.{Content, SaysStatement, SaysInScript, Reads, statements};
 ghost use Rattle.dia_lines.specs.Moves.{kept_in_trace, place_after_line, version_after_line};
 ghost use Rattle.dia_lines.specs.Positions.{AreCounts, IsAfter};
 ghost use Rattle.dia_lines.specs.Statements.{Statement};
@@ -38,10 +38,10 @@ fn diagram_line(
     line: &[u8],
     tokens: &mut Vec<Token>,
 ) -> Result<(Line, Counts), LineError>
-    ensures found { (before : List Said) → IsAfter before position
+    ensures found { (before : List Content) → IsAfter before position
         → IfOk result (λ r. (s : Statement) × SaysStatement before line.now s × IsKept s r.0
         × AreCounts (s ∷ statements before) r.1) }
-    ensures fault { (before : List Said) → IsAfter before position
+    ensures fault { (before : List Content) → IsAfter before position
         → IfErr result (λ e. RefusesInDiagram before line.now e) }
     ensures bad_byte { list_all is_allowed line.now ≡ false → result ≡ Err (Refused BadByte) }
     ensures bad_token { HasBadStart line.now → result ≡ Err (Refused BadToken) }
@@ -59,7 +59,7 @@ fn diagram_line(
 
 /// A line of the script section.
 fn script_line(alloc: Global, line: &[u8]) -> Result<Line, LineError>
-    ensures found { IfOk result (λ l. (said : Said) × SaysInScript line.now said × IsHeld said l) }
+    ensures found { IfOk result (λ l. (said : Content) × SaysInScript line.now said × IsHeld said l) }
     ensures fault { IfErr result (λ e. RefusesText line.now e) }
     ensures bad_byte { list_all is_allowed line.now ≡ false → result ≡ Err (Refused BadByte) }
 {
@@ -127,10 +127,10 @@ fn counted_line(
     tokens: &mut Vec<Token>,
 ) -> Result<(Line, Counts), LineError>
     requires { position.place ≢ Trace }
-    ensures found { (before : List Said) → IsAfter before position
-        → IfOk result (λ r. (said : Said) × Reads before line.now said × IsHeld said r.0
+    ensures found { (before : List Content) → IsAfter before position
+        → IfOk result (λ r. (said : Content) × Reads before line.now said × IsHeld said r.0
         × AreCounts (statements (said ∷ before)) r.1) }
-    ensures fault { (before : List Said) → IsAfter before position
+    ensures fault { (before : List Content) → IsAfter before position
         → IfErr result (λ e. Refuses before line.now e) }
     ensures bad_byte { list_all is_allowed line.now ≡ false → result ≡ Err (Refused BadByte) }
     ensures bad_token { position.place ≢ Script → HasBadStart line.now

@@ -5,7 +5,7 @@ ghost use Rattle.std.specs.List.{list_all, prefix_len, suffix_len};
 ghost use Rattle.dia_lines.specs.declared.fault.ReadCode.TheVariants.{BadByte};
 ghost use Rattle.dia_lines.specs.Sections.{is_space, is_trace_byte};
 ghost use Rattle.dia_lines.specs.Trimmed.{after_spaces, before_spaces, trimmed};
-ghost use Rattle.dia_lines.specs.Lines.{Said, SaysInTrace};
+ghost use Rattle.dia_lines.specs.Lines.{Content, SaysInTrace};
 ghost use Rattle.dia_lines.specs.Held.{IsHeld};
 ghost use Rattle.dia_lines.specs.Moves.{kept_in_trace};
 
@@ -93,7 +93,7 @@ fn trim(line: &[u8]) -> &[u8]
 
 /// What a line of the trace section says, or its fault.
 pub(crate) fn trace_line(line: &[u8]) -> Result<TraceLine, ReadCode>
-    ensures found { IfOk result (λ l. (said : Said) × SaysInTrace line.now said
+    ensures found { IfOk result (λ l. (said : Content) × SaysInTrace line.now said
         × IsHeld said (kept_in_trace l)) }
     ensures fault { IfErr result (λ e. (e ≡ BadByte) × (list_all is_trace_byte line.now ≡ false)) }
 {

@@ -18,7 +18,7 @@ use Rattle.dia_lines.specs.declared.item.TaskLine.{TaskLine}
 use Rattle.dia_lines.specs.Statements.{Statement, Clock, every, on, input, event, task, state, sense, read, a_let, a_next, out}
 use Rattle.dia_lines.specs.Delays.{delay_of}
 use Rattle.dia_lines.specs.Held.{IsDecl, IsClock, cpu_of, IsTaskLine, IsPart}
-use Rattle.dia_lines.specs.Lines.{Said}
+use Rattle.dia_lines.specs.Lines.{Content}
 use Rattle.dia_lines.specs.Text.{lines_of}
 use Rattle.dia_read.specs.declared.document.Body.{Body}
 use Rattle.dia_read.specs.declared.document.Doc.{Doc}
@@ -148,7 +148,7 @@ tasks-one ss ts us d e = go ss ss ts us refl d e
 
 -- ---- documents
 
-body-one : (lines : List Said) (a b : Body) → IsBody lines a → IsBody lines b → a ≡ b
+body-one : (lines : List Content) (a b : Body) → IsBody lines a → IsBody lines b → a ≡ b
 body-one lines a b x y =
     let the_version : a.version ≡ b.version = (let e : a.version ∷ [] ≡ b.version ∷ [] = sym x.header_line ∙ y.header_line in cc) in
     let the_policy : a.policy ≡ b.policy = (let e : a.policy ∷ [] ≡ b.policy ∷ [] = sym x.policy_line ∙ y.policy_line in cc) in
@@ -159,7 +159,7 @@ body-one lines a b x y =
     let the_script : a.script ≡ b.script = x.scripted ∙ sym y.scripted in
     λ i. record { version = the_version i; policy = the_policy i; until = the_until i; decls = the_decls i; tasks = the_tasks i; trace = the_trace i; script = the_script i }
 
-item-lines-one : (lines : List Said) (a b : DocLines) → AreItemLines lines a → AreItemLines lines b → a ≡ b
+item-lines-one : (lines : List Content) (a b : DocLines) → AreItemLines lines a → AreItemLines lines b → a ≡ b
 item-lines-one lines a b x y =
     let the_until : a.until_at ≡ b.until_at = (let e : a.until_at ∷ [] ≡ b.until_at ∷ [] = sym x.until_line ∙ y.until_line in cc) in
     let the_done : a.done_at ≡ b.done_at = (let e : a.done_at ∷ [] ≡ b.done_at ∷ [] = sym x.done_line ∙ y.done_line in cc) in

@@ -8,7 +8,7 @@ use Rattle.dia_lines.specs.declared.fault.ReadCode.TheVariants.{MissingDone}
 use Rattle.dia_lines.specs.declared.place.Place.TheVariants.{Ended}
 use Rattle.dia_lines.specs.declared.position.Position.{Position}
 use Rattle.dia_lines.specs.Answers.{Refuses as RefusesLine}
-use Rattle.dia_lines.specs.Lines.{Said, place_after, HasFault}
+use Rattle.dia_lines.specs.Lines.{Content, place_after, HasFault}
 use Rattle.dia_lines.specs.Text.{lines_of}
 use Rattle.dia_lines.proofs.TextLaws.{lines_of-nil}
 use Rattle.dia_read.specs.declared.draft.Draft.{Draft}
@@ -73,7 +73,7 @@ module _ (bytes : List ℕ) (number : ℕ) (position : Position) (draft : Draft)
       let count : length (lines_of bytes) ≡ number = sym (ap length whole) ∙ reached.lines in
       rw (← count) (no_end reached.before full run (λ end. open_end (reached.after.place ∙ end)))
 
-pub refused : (bytes : List ℕ) (number : ℕ) (before : List Said) (line : List ℕ) (error : LineError) → is_blank_text bytes ≡ false → RefusesLine before line error
+pub refused : (bytes : List ℕ) (number : ℕ) (before : List Content) (line : List ℕ) (error : LineError) → is_blank_text bytes ≡ false → RefusesLine before line error
     → ((code : ReadCode) → HasFault before line code → IsFirstLine (lines_of bytes) number code) → Refuses bytes (refused_at (number + 1) error)
 refused bytes number before line (of_line.Refused code) full fault first = at_a_line number code full (first code fault)
 refused bytes number before line of_line.NoMemory full fault first = tt

@@ -10,7 +10,7 @@ use Rattle.dia_tokens.specs.Values.{HaveValues, none, another}
 use Rattle.dia_lines.specs.declared.fault.ReadCode.{ReadCode}
 use Rattle.dia_lines.specs.declared.place.Place.TheVariants.{Header, Trace, Script, Ended}
 use Rattle.dia_lines.specs.Statements.{nothing, IsStatement, a_blank_line}
-use Rattle.dia_lines.specs.Lines.{Said, place_after, Reads, of_the_diagram, of_the_trace, of_the_script}
+use Rattle.dia_lines.specs.Lines.{Content, place_after, Reads, of_the_diagram, of_the_trace, of_the_script}
 use Rattle.dia_lines.specs.Text.{lines_of}
 use Rattle.dia_lines.proofs.FormLaws.{one-statement}
 use Rattle.dia_read.specs.declared.document.Doc.{Doc}
@@ -23,7 +23,7 @@ no-values : (ps : List Piece) (ts : List Token) → HaveValues ps ts → ps ≡ 
 no-values ps ts none e = refl
 no-values ps ts (another p t qs us h d) e = absurd cc
 
-blank-reads : (before : List Said) (line : List ℕ) (said : Said) → place_after before ≡ Header → is_blank_line line ≡ true → Reads before line said → place_after (said ∷ before) ≡ Header
+blank-reads : (before : List Content) (line : List ℕ) (said : Content) → place_after before ≡ Header → is_blank_line line ≡ true → Reads before line said → place_after (said ∷ before) ≡ Header
 blank-reads before line said here blank (of_the_diagram l s e x) =
     let texts : x.spelled.texts ≡ [] = blank-texts true l x.spelled.texts x.spelled.lexes blank in
     let tokens : x.tokens ≡ [] = no-values x.spelled.texts x.tokens x.spelled.values texts in
@@ -32,7 +32,7 @@ blank-reads before line said here blank (of_the_diagram l s e x) =
 blank-reads before line said here blank (of_the_trace l s e x) = absurd (let n : Header ≡ Trace = sym here ∙ e in cc)
 blank-reads before line said here blank (of_the_script l s e x) = absurd (let n : Header ≡ Script = sym here ∙ e in cc)
 
-blank-run : (before after : List Said) (lines : List (List ℕ)) → Run before lines after → place_after before ≡ Header → list_all is_blank_line lines ≡ true → place_after after ≡ Header
+blank-run : (before after : List Content) (lines : List (List ℕ)) → Run before lines after → place_after before ≡ Header → list_all is_blank_line lines ≡ true → place_after after ≡ Header
 blank-run before after lines (no_line b) here blank = here
 blank-run before after lines (a_line b a line ls said r run) here blank =
     let each = and_parts (is_blank_line line) (list_all is_blank_line ls) blank in

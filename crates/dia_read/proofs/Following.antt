@@ -18,7 +18,7 @@ use Rattle.dia_lines.specs.declared.position.Position.{Position}
 use Rattle.dia_lines.specs.Statements.{Statement}
 use Rattle.dia_lines.specs.Places.{is_body, leads, is_of_version}
 use Rattle.dia_lines.specs.Limits.{numbers_fit, is_input, is_event, is_task, is_read, is_out, of_this_task, passed_count}
-use Rattle.dia_lines.specs.Lines.{Said, says, statements, place_after, version_after, keeps_lines, Reads, of_the_diagram}
+use Rattle.dia_lines.specs.Lines.{Content, says, statements, place_after, version_after, keeps_lines, Reads, of_the_diagram}
 use Rattle.dia_lines.specs.Held.{IsKept, IsHeld}
 use Rattle.dia_lines.specs.Positions.{IsAfter}
 use Rattle.dia_lines.specs.Sections.{is_trace_byte}
@@ -69,7 +69,7 @@ bare-drafted d n text line.Done = refl
 bare-drafted d n text line.Row = refl
 bare-drafted d n text (line.Step kept) = refl
 
-abbrev pub position_at : List Said → Position
+abbrev pub position_at : List Content → Position
 position_at before = record {
   version = version_after before;
   place = place_after before;
@@ -84,7 +84,7 @@ position_at before = record {
   };
 }
 
-pub after-there : (before : List Said) → IsAfter before (position_at before)
+pub after-there : (before : List Content) → IsAfter before (position_at before)
 after-there before = record { version = refl; place = refl; counts = record { inputs = refl; events = refl; tasks = refl; links = refl; body = refl; reads = refl; outs = refl } }
 
 -- ---- where a reader stands
@@ -105,9 +105,9 @@ pub at-same : (bytes xs ys : List ℕ) (place : Place) (content : Draft) → xs 
 at-same bytes xs ys place content e at = subst (λ rest. At bytes rest place content) e at
 
 -- after a line
-pub next-line : (bytes text rest : List ℕ) (place q : Place) (content : Draft) (said : Said) (l : Line) → list_all is_inside text ≡ true → IsHeld said l
-    → ((before : List Said) → place_after before ≡ place → place_after (said ∷ before) ≡ q)
-    → ((before : List Said) (d : Draft) → place_after before ≡ place → version_after before ≡ content.version → bare d ≡ content → PrintsAll (statements before) d → Reads before text said)
+pub next-line : (bytes text rest : List ℕ) (place q : Place) (content : Draft) (said : Content) (l : Line) → list_all is_inside text ≡ true → IsHeld said l
+    → ((before : List Content) → place_after before ≡ place → place_after (said ∷ before) ≡ q)
+    → ((before : List Content) (d : Draft) → place_after before ≡ place → version_after before ≡ content.version → bare d ≡ content → PrintsAll (statements before) d → Reads before text said)
     → At bytes (text ++ 10 ∷ rest) place content → At bytes rest q (bare (drafted content 0 (kept_text said) l))
 next-line bytes text rest place q content said l inside held stands reads at =
     let r = at.reached in

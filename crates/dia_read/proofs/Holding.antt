@@ -16,7 +16,7 @@ use Rattle.dia_lines.specs.declared.item.TaskLine.{TaskLine}
 use Rattle.dia_lines.specs.Statements.{Statement, nothing, header, policy, until, input, event, task, state, sense, read, a_let, a_next, out, trace, script, done}
 use Rattle.dia_lines.specs.Places.{is_body, is_declaration}
 use Rattle.dia_lines.specs.Limits.{is_task}
-use Rattle.dia_lines.specs.Lines.{Said, says, row, step, version_after, statements}
+use Rattle.dia_lines.specs.Lines.{Content, says, row, step, version_after, statements}
 use Rattle.dia_lines.specs.Held.{IsDecl, IsTaskLine, IsPart, IsHeld}
 use Rattle.dia_read.specs.declared.document.RawTask.{RawTask}
 use Rattle.dia_read.specs.declared.draft.Draft.{Draft}
@@ -37,14 +37,14 @@ last_or-append [] ys d = refl
 last_or-append (x ∷ xs) ys d = last_or-append xs ys x
 
 -- the version after lines is the last that they name
-pub version-said : (before : List Said) → version_after before ≡ last_or (versions (statements (reverse before))) 1
+pub version-said : (before : List Content) → version_after before ≡ last_or (versions (statements (reverse before))) 1
 version-said [] = refl
 version-said (x ∷ before) =
-    let split = ap (λ (said : List Said). last_or (versions (statements said)) 1) (reverse-more x before) ∙ ap (λ vs. last_or vs 1) (versions-more (reverse before) x)
+    let split = ap (λ (said : List Content). last_or (versions (statements said)) 1) (reverse-more x before) ∙ ap (λ vs. last_or vs 1) (versions-more (reverse before) x)
     ∙ last_or-append (versions (statements (reverse before))) (versions (statements (x ∷ []))) 1 in
     one-more x (version-said before) ∙ sym split
   where
-    one-more : (x : Said) → version_after before ≡ last_or (versions (statements (reverse before))) 1
+    one-more : (x : Content) → version_after before ≡ last_or (versions (statements (reverse before))) 1
         → version_after (x ∷ before) ≡ last_or (versions (statements (x ∷ []))) (last_or (versions (statements (reverse before))) 1)
     one-more (says (header v)) e = refl
     one-more (says s) e = e
@@ -56,7 +56,7 @@ all_tasks t = t.earlier ++ option_to_list t.latest
 
 -- ---- the first lines and the last one
 
-pub record HoldsEnds (said : List Said) (d : Draft) : Type 0 where
+pub record HoldsEnds (said : List Content) (d : Draft) : Type 0 where
   pub version : last_or (versions (statements said)) 1 ≡ d.version
   pub policy : last_or (policies (statements said)) Fp ≡ d.policy
   pub until : last_or (ends (statements said)) (pos 0) ≡ pos d.until
@@ -64,7 +64,7 @@ pub record HoldsEnds (said : List Said) (d : Draft) : Type 0 where
   pub done_at : last_or (lines_with (is_statement_of is_done) said) 0 ≡ d.lines.done_at
   pub trace_at : last_or (lines_with (is_statement_of is_trace) said) 0 ≡ d.lines.trace_at
 
-ends-with : (said : List Said) (x : Said) (d e : Draft) → HoldsEnds said d
+ends-with : (said : List Content) (x : Content) (d e : Draft) → HoldsEnds said d
     → last_or (versions (statements (x ∷ []))) d.version ≡ e.version
     → last_or (policies (statements (x ∷ []))) d.policy ≡ e.policy → last_or (ends (statements (x ∷ []))) (pos d.until) ≡ pos e.until
     → last_or (lines_from (length said + 1) (is_statement_of is_until) (x ∷ [])) d.lines.until_at ≡ e.lines.until_at
@@ -72,7 +72,7 @@ ends-with : (said : List Said) (x : Said) (d e : Draft) → HoldsEnds said d
     → last_or (lines_from (length said + 1) (is_statement_of is_trace) (x ∷ [])) d.lines.trace_at ≡ e.lines.trace_at
     → HoldsEnds (said ++ x ∷ []) e
 ends-with said x d e h zero one two three four five =
-    let lines = λ (kind : Said → Bool). ap (λ ns. last_or ns 0) (lines-more kind said x) ∙ last_or-append (lines_with kind said) (lines_from (length said + 1) kind (x ∷ [])) 0 in
+    let lines = λ (kind : Content → Bool). ap (λ ns. last_or ns 0) (lines-more kind said x) ∙ last_or-append (lines_with kind said) (lines_from (length said + 1) kind (x ∷ [])) 0 in
     record {
       version = ap (λ vs. last_or vs 1) (versions-more said x) ∙ last_or-append (versions (statements said)) (versions (statements (x ∷ []))) 1 ∙ ap (last_or (versions (statements (x ∷ [])))) h.version ∙ zero;
       policy = ap (λ ps. last_or ps Fp) (policies-more said x) ∙ last_or-append (policies (statements said)) (policies (statements (x ∷ []))) Fp ∙ ap (last_or (policies (statements (x ∷ [])))) h.policy ∙ one;
@@ -84,7 +84,7 @@ ends-with said x d e h zero one two three four five =
 
 -- ---- sections
 
-pub record HoldsSections (said : List Said) (d : Draft) : Type 0 where
+pub record HoldsSections (said : List Content) (d : Draft) : Type 0 where
   pub trace_begun : list_any (is_statement_of is_trace) said ≡ d.trace.begun
   pub trace_text : kept is_row said ≡ d.trace.text
   pub script_begun : list_any (is_statement_of is_script) said ≡ d.script.begun
@@ -92,7 +92,7 @@ pub record HoldsSections (said : List Said) (d : Draft) : Type 0 where
   pub row_lines : lines_with is_row said ≡ d.lines.trace
   pub step_lines : lines_with is_step said ≡ d.lines.script
 
-sections-with : (said : List Said) (x : Said) (d e : Draft) → HoldsSections said d
+sections-with : (said : List Content) (x : Content) (d e : Draft) → HoldsSections said d
     → (d.trace.begun || list_any (is_statement_of is_trace) (x ∷ [])) ≡ e.trace.begun
     → d.trace.text ++ kept is_row (x ∷ []) ≡ e.trace.text
     → (d.script.begun || list_any (is_statement_of is_script) (x ∷ [])) ≡ e.script.begun
@@ -111,7 +111,7 @@ sections-with said x d e h one two three four five six = record {
 
 -- ---- declarations and tasks
 
-pub record HoldsItems (said : List Said) (d : Draft) : Type 0 where
+pub record HoldsItems (said : List Content) (d : Draft) : Type 0 where
   pub decls : Fit IsDecl (filter is_declaration (statements said)) d.decls
   pub tasks : AreTasks (filter is_of_task (statements said)) (all_tasks d.tasks)
   pub latest : 1 ≤ length (filter is_task (statements said)) → (t : RawTask) × (d.tasks.latest ≡ Some t)
@@ -119,7 +119,7 @@ pub record HoldsItems (said : List Said) (d : Draft) : Type 0 where
   pub task_lines : lines_with (is_statement_of is_task) said ≡ d.lines.tasks
   pub part_lines : lines_with (is_statement_of is_body) said ≡ d.lines.parts
 
-items-with : (said : List Said) (x : Said) (d e : Draft) → HoldsItems said d
+items-with : (said : List Content) (x : Content) (d e : Draft) → HoldsItems said d
     → Fit IsDecl (filter is_declaration (statements said) ++ filter is_declaration (statements (x ∷ []))) e.decls
     → AreTasks (filter is_of_task (statements said) ++ filter is_of_task (statements (x ∷ []))) (all_tasks e.tasks)
     → (1 ≤ length (filter is_task (statements (said ++ x ∷ []))) → (t : RawTask) × (e.tasks.latest ≡ Some t))
@@ -139,7 +139,7 @@ items-with said x d e h one two three four five six = record {
 -- ---- one more line
 
 -- a line that is of no section: the draft's sections stay
-sections-same : (said : List Said) (x : Said) (d e : Draft) → HoldsSections said d
+sections-same : (said : List Content) (x : Content) (d e : Draft) → HoldsSections said d
     → is_statement_of is_trace x ≡ false → is_row x ≡ false → is_statement_of is_script x ≡ false → is_step x ≡ false
     → d.trace ≡ e.trace → d.script ≡ e.script → d.lines.trace ≡ e.lines.trace → d.lines.script ≡ e.lines.script → HoldsSections (said ++ x ∷ []) e
 sections-same said x d e h t r s p one two three four =
@@ -152,7 +152,7 @@ sections-same said x d e h t r s p one two three four =
     (rw p (append-nil d.lines.script ∙ four))
 
 -- a line that is no declaration and of no task
-items-same : (said : List Said) (x : Said) (d e : Draft) → HoldsItems said d
+items-same : (said : List Content) (x : Content) (d e : Draft) → HoldsItems said d
     → filter is_declaration (statements (x ∷ [])) ≡ [] → filter is_of_task (statements (x ∷ [])) ≡ [] → filter is_task (statements (x ∷ [])) ≡ []
     → is_statement_of is_declaration x ≡ false → is_statement_of is_task x ≡ false → is_statement_of is_body x ≡ false
     → d.decls ≡ e.decls → d.tasks ≡ e.tasks → d.lines.decls ≡ e.lines.decls → d.lines.tasks ≡ e.lines.tasks → d.lines.parts ≡ e.lines.parts → HoldsItems (said ++ x ∷ []) e
@@ -165,13 +165,13 @@ items-same said x d e h a b c i t p one two three four five =
     (rw t (append-nil d.lines.tasks ∙ four))
     (rw p (append-nil d.lines.parts ∙ five))
 
-pub record Holds (said : List Said) (d : Draft) : Type 0 where
+pub record Holds (said : List Content) (d : Draft) : Type 0 where
   pub ends : HoldsEnds said d
   pub sections : HoldsSections said d
   pub items : HoldsItems said d
 
 -- a line of a body needs a task before it
-abbrev pub HasItsTask : List Said → Line → Type 0
+abbrev pub HasItsTask : List Content → Line → Type 0
 HasItsTask said (line.Part p) = 1 ≤ length (filter is_task (statements said))
 HasItsTask said _ = Unit {0}
 
@@ -197,12 +197,12 @@ body-kind (a_next n v) (part.Next m w) i = record { body = refl; no_task = refl;
 body-kind (out n v x) (part.Out m w y) i = record { body = refl; no_task = refl; no_declaration = refl; no_version = refl; no_policy = refl; no_end = refl; no_until = refl; no_done = refl; no_trace = refl; no_script = refl }
 body-kind s p i = absurd i
 
-module _ (said : List Said) (d : Draft) (h : Holds said d) where
+module _ (said : List Content) (d : Draft) (h : Holds said d) where
   abbrev n : ℕ
   n = length said + 1
 
   -- a line of which nothing is held
-  same : (x : Said) (e : Draft) → HoldsEnds (said ++ x ∷ []) e
+  same : (x : Content) (e : Draft) → HoldsEnds (said ++ x ∷ []) e
       → filter is_declaration (statements (x ∷ [])) ≡ [] → filter is_of_task (statements (x ∷ [])) ≡ [] → filter is_task (statements (x ∷ [])) ≡ []
       → is_statement_of is_declaration x ≡ false → is_statement_of is_task x ≡ false → is_statement_of is_body x ≡ false
       → HoldsSections (said ++ x ∷ []) e
@@ -210,7 +210,7 @@ module _ (said : List Said) (d : Draft) (h : Holds said d) where
   same x e ends a b c i t p sections one two three four five =
       record { ends = ends; sections = sections; items = items-same said x d e h.items a b c i t p one two three four five }
 
-  plain : (x : Said) (e : Draft) → HoldsEnds (said ++ x ∷ []) e
+  plain : (x : Content) (e : Draft) → HoldsEnds (said ++ x ∷ []) e
       → filter is_declaration (statements (x ∷ [])) ≡ [] → filter is_of_task (statements (x ∷ [])) ≡ [] → filter is_task (statements (x ∷ [])) ≡ []
       → is_statement_of is_declaration x ≡ false → is_statement_of is_task x ≡ false → is_statement_of is_body x ≡ false
       → is_statement_of is_trace x ≡ false → is_row x ≡ false → is_statement_of is_script x ≡ false → is_step x ≡ false
@@ -219,7 +219,7 @@ module _ (said : List Said) (d : Draft) (h : Holds said d) where
   plain x e ends a b c i t p u r v s six seven eight nine one two three four five =
       same x e ends a b c i t p (sections-same said x d e h.sections u r v s six seven eight nine) one two three four five
 
-  decl-more : (x : Said) (s : Statement) (e : _) → x ≡ says s → IsDecl s e → Holds (said ++ x ∷ []) (drafted d n [] (line.Decl e))
+  decl-more : (x : Content) (s : Statement) (e : _) → x ≡ says s → IsDecl s e → Holds (said ++ x ∷ []) (drafted d n [] (line.Decl e))
   decl-more x (input m v) (Input k w) is i = rw is (record {
     ends = ends-with said (says (input m v)) d (drafted d n [] (line.Decl (Input k w))) h.ends refl refl refl refl refl refl;
     sections = sections-same said (says (input m v)) d (drafted d n [] (line.Decl (Input k w))) h.sections refl refl refl refl refl refl refl refl;
@@ -274,7 +274,7 @@ module _ (said : List Said) (d : Draft) (h : Holds said d) where
             (rw k.no_declaration (append-nil d.lines.decls)) (rw k.no_task (append-nil d.lines.tasks)) (rw k.body refl);
       }
 
-  pub holds-more : (x : Said) (l : Line) → IsHeld x l → HasItsTask said l → Holds (said ++ x ∷ []) (drafted d (length said + 1) (kept_text x) l)
+  pub holds-more : (x : Content) (l : Line) → IsHeld x l → HasItsTask said l → Holds (said ++ x ∷ []) (drafted d (length said + 1) (kept_text x) l)
   holds-more (says nothing) line.Nothing i b =
       plain (says nothing) d (ends-with said (says nothing) d d h.ends refl refl refl refl refl refl) refl refl refl refl refl refl refl refl refl refl refl refl refl refl refl refl refl refl refl
   holds-more (says (header v)) (line.Header w) i b =

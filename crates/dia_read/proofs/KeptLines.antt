@@ -15,7 +15,7 @@ use Rattle.dia_lines.specs.declared.place.Place.TheVariants.{Header, Body}
 use Rattle.dia_lines.specs.Held.{IsPart, IsKept, IsHeld}
 use Rattle.dia_lines.specs.Statements.{Statement, nothing, header, IsStatement, in_version_1, in_version_2}
 use Rattle.dia_lines.specs.Places.{leads}
-use Rattle.dia_lines.specs.Lines.{Said, says, row, step, place_after, statements, Reads, of_the_diagram, of_the_trace, of_the_script, an_empty_row, trace_ends, script_begins, a_row, no_step, script_ends, a_step}
+use Rattle.dia_lines.specs.Lines.{Content, says, row, step, place_after, statements, Reads, of_the_diagram, of_the_trace, of_the_script, an_empty_row, trace_ends, script_begins, a_row, no_step, script_ends, a_step}
 use Rattle.dia_lines.specs.Limits.{is_task}
 use Rattle.dia_lines.proofs.PlaceLaws.{part-stands}
 use Rattle.dia_lines.proofs.TraceLaws.{row_is_line}
@@ -26,7 +26,7 @@ use Rattle.dia_read.proofs.Once.{Once, tasks_before}
 
 -- ---- runs
 
-pub run-more : (before after : List Said) (lines : List (List ℕ)) (line : List ℕ) (said : Said) → Run before lines after → Reads after line said → Run before (lines ++ line ∷ []) (said ∷ after)
+pub run-more : (before after : List Content) (lines : List (List ℕ)) (line : List ℕ) (said : Content) → Run before lines after → Reads after line said → Run before (lines ++ line ∷ []) (said ∷ after)
 run-more before after lines line said (no_line b) r = a_line b (said ∷ b) line [] said r (no_line (said ∷ b))
 run-more before after lines line said (a_line b a l ls s q run) r = a_line b (said ∷ a) l (ls ++ line ∷ []) s q (run-more (s ∷ b) a ls line said run r)
 
@@ -40,7 +40,7 @@ pub no-step : (s : Statement) (kept : List ℕ) → IsKept s (line.Step kept) �
 no-step nothing kept h = h
 no-step s kept h = h
 
-pub kept-is : (before : List Said) (bytes : List ℕ) (said : Said) (l : Line) → Reads before bytes said → IsHeld said l → kept_text said ≡ text_of_line bytes l
+pub kept-is : (before : List Content) (bytes : List ℕ) (said : Content) (l : Line) → Reads before bytes said → IsHeld said l → kept_text said ≡ text_of_line bytes l
 kept-is before bytes (row t) line.Row (of_the_trace b s here i) h = row_is_line bytes t i
 kept-is before bytes (row t) line.Row (of_the_script b s here i) h = elim i [ ]
 kept-is before bytes (row t) l r h = absurd h
@@ -51,7 +51,7 @@ kept-is before bytes (says s) (line.Step kept) r h = absurd (no-step s kept h)
 kept-is before bytes (says s) l r h = refl
 
 -- what is kept of a line takes at most twice its room
-pub kept-short : (before : List Said) (bytes : List ℕ) (said : Said) (l : Line) → Reads before bytes said → IsHeld said l → length (text_of_line bytes l) ≤ 2 * length bytes
+pub kept-short : (before : List Content) (bytes : List ℕ) (said : Content) (l : Line) → Reads before bytes said → IsHeld said l → length (text_of_line bytes l) ≤ 2 * length bytes
 kept-short before bytes said line.Row r h = omega arith
 kept-short before bytes (step t) (line.Step kept) (of_the_script b s here (a_step c u ts e n o k)) h = subst (λ (x : List ℕ). length x ≤ 2 * length bytes) h (spelling-fits bytes t k)
 kept-short before bytes (step t) (line.Step kept) (of_the_trace b s here i) h = elim i [ ]
@@ -68,7 +68,7 @@ some-joined bytes [] ts used d v n w = absurd (n (no-values ts v))
     no-values (t ∷ us) v = elim v [ ]
 some-joined bytes (p ∷ ps) ts used d v n w = omega (arith, joined-shorter bytes p ps d)
 
-pub kept-fits : (before : List Said) (bytes : List ℕ) (said : Said) (l : Line) (used : ℕ) → Reads before bytes said → IsHeld said l → length bytes ≤ used → 0 < used → KeptFits l (kept_text said) (2 * used)
+pub kept-fits : (before : List Content) (bytes : List ℕ) (said : Content) (l : Line) (used : ℕ) → Reads before bytes said → IsHeld said l → length bytes ≤ used → 0 < used → KeptFits l (kept_text said) (2 * used)
 kept-fits before bytes (row t) line.Row used (of_the_trace b s here i) h w p = omega (arith, ap length (row_is_line bytes t i))
 kept-fits before bytes (row t) line.Row used (of_the_script b s here i) h w p = elim i [ ]
 kept-fits before bytes (step t) (line.Step kept) used (of_the_script b s here (a_step c u ts e n o k)) h w p =
@@ -86,7 +86,7 @@ kept-part nothing p h = h
 kept-part s p h = h
 
 -- a line of a body stands after a task
-pub in-body : (before : List Said) (bytes : List ℕ) (said : Said) (p : Part) → Once (reverse before) (place_after before) → Reads before bytes said → IsHeld said (line.Part p)
+pub in-body : (before : List Content) (bytes : List ℕ) (said : Content) (p : Part) → Once (reverse before) (place_after before) → Reads before bytes said → IsHeld said (line.Part p)
     → 1 ≤ length (filter is_task (statements (reverse before)))
 in-body before bytes (says s) p o (of_the_diagram b t e i) h =
     let here : place_after before ≡ Body = part-stands (place_after before) i.stands.next s p i.stands.stands (kept-part s p h) in
@@ -100,7 +100,7 @@ in-body before bytes x p o (of_the_script b t e (script_ends c i)) h = absurd h
 in-body before bytes x p o (of_the_script b t e (a_step c u ts i n m k)) h = absurd h
 
 -- the header may stand there
-abbrev pub HeaderStands : List Said → Type 0
+abbrev pub HeaderStands : List Content → Type 0
 HeaderStands before = place_after before ≡ Header
 
 -- the header stands first, and names version 1 or 2
@@ -117,7 +117,7 @@ header-named : (ts : List Token) (s : Statement) (v : ℕ) → IsStatement ts s 
 header-named ts (header w) v form k = subst (λ (n : ℕ). (1 ≤ n) × (n ≤ 2)) k (header-version ts w form)
 header-named ts s v form k = absurd k
 
-pub header-stands : (before : List Said) (bytes : List ℕ) (said : Said) (v : ℕ) → Reads before bytes said → IsHeld said (line.Header v) → HeaderStands before × (1 ≤ v) × (v ≤ 2)
+pub header-stands : (before : List Content) (bytes : List ℕ) (said : Content) (v : ℕ) → Reads before bytes said → IsHeld said (line.Header v) → HeaderStands before × (1 ≤ v) × (v ≤ 2)
 header-stands before bytes (says s) v (of_the_diagram b t e i) h =
     let named = header-named i.tokens s v i.stands.form h in
     (header-place (place_after before) i.stands.next s v i.stands.stands h, named.0, named.1)

@@ -6,7 +6,7 @@ use Rattle.dia_lines.specs.declared.place.Place.TheVariants.{Header, Policy, Unt
 use Rattle.dia_lines.specs.Statements.{Statement, nothing, header, policy, until, input, event, task, state, sense, read, a_let, a_next, out, trace, script, done}
 use Rattle.dia_lines.specs.Places.{leads}
 use Rattle.dia_lines.specs.Limits.{is_task}
-use Rattle.dia_lines.specs.Lines.{Said, says, row, step, statements, place_after, Reads, of_the_diagram, of_the_trace, of_the_script, an_empty_row, trace_ends, script_begins, a_row, no_step, script_ends, a_step}
+use Rattle.dia_lines.specs.Lines.{Content, says, row, step, statements, place_after, Reads, of_the_diagram, of_the_trace, of_the_script, an_empty_row, trace_ends, script_begins, a_row, no_step, script_ends, a_step}
 use Rattle.dia_read.specs.Documents.{versions, policies, ends, lines_from, lines_with, is_statement_of, is_until, is_done, is_trace, Run, no_line, a_line}
 use Rattle.dia_read.proofs.OneMore.{reverse-more, versions-more, policies-more, ends-more, lines-more, filter-more}
 
@@ -41,7 +41,7 @@ abbrev pub tasks_before : Place → ℕ
 tasks_before Body = 1
 tasks_before _ = 0
 
-pub record Once (said : List Said) (place : Place) : Type 0 where
+pub record Once (said : List Content) (place : Place) : Type 0 where
   pub header : length (versions (statements said)) ≡ headers_before place
   pub policy : length (policies (statements said)) ≡ policies_before place
   pub until : length (ends (statements said)) ≡ ends_before place
@@ -51,7 +51,7 @@ pub record Once (said : List Said) (place : Place) : Type 0 where
   pub task_line : tasks_before place ≤ length (filter is_task (statements said))
 
 -- one more line, of a kind that leads from the one place to the other
-one_more : (said : List Said) (x : Said) (p q : Place) → Once said p
+one_more : (said : List Content) (x : Content) (p q : Place) → Once said p
     → headers_before q ≡ headers_before p + length (versions (statements (x ∷ [])))
     → policies_before q ≡ policies_before p + length (policies (statements (x ∷ [])))
     → ends_before q ≡ ends_before p + length (ends (statements (x ∷ [])))
@@ -79,7 +79,7 @@ one_more said x p q o zero one two three four five six =
     }
 
 -- if a line may stand there, one more such line keeps it
-once-at : (said : List Said) (p : Place) (s : Statement) → Once said p → IfSome (leads p s) (λ q. Once (said ++ says s ∷ []) q)
+once-at : (said : List Content) (p : Place) (s : Statement) → Once said p → IfSome (leads p s) (λ q. Once (said ++ says s ∷ []) q)
 once-at said Header (header v) o = one_more said (says (header v)) Header Policy o refl refl refl (λ n. refl) (λ n. refl) (λ n. omega arith) (omega arith)
 once-at said Policy (policy x) o = one_more said (says (policy x)) Policy Until o refl refl refl (λ n. refl) (λ n. refl) (λ n. omega arith) (omega arith)
 once-at said Until (until x) o = one_more said (says (until x)) Until Declarations o refl refl refl (λ n. refl) (λ n. refl) (λ n. omega arith) (omega arith)
@@ -112,21 +112,21 @@ once-at said Script nothing o = one_more said (says nothing) Script Script o ref
 once-at said Ended nothing o = one_more said (says nothing) Ended Ended o refl refl refl (λ n. refl) (λ n. refl) (λ n. omega arith) (omega arith)
 once-at said p s o = tt
 
-once-led : (said : List Said) (p q : Place) (s : Statement) → Once said p → leads p s ≡ Some q → Once (said ++ says s ∷ []) q
+once-led : (said : List Content) (p q : Place) (s : Statement) → Once said p → leads p s ≡ Some q → Once (said ++ says s ∷ []) q
 once-led said p q s o e = subst (λ r. IfSome r (λ place. Once (said ++ says s ∷ []) place)) e (once-at said p s o)
 
 -- a row or a step
-once-kept : (said : List Said) (x : Said) (p : Place) → statements (x ∷ []) ≡ [] → ((n : ℕ) (kind : Statement → Bool) → lines_from n (is_statement_of kind) (x ∷ []) ≡ []) → Once said p → Once (said ++ x ∷ []) p
+once-kept : (said : List Content) (x : Content) (p : Place) → statements (x ∷ []) ≡ [] → ((n : ℕ) (kind : Statement → Bool) → lines_from n (is_statement_of kind) (x ∷ []) ≡ []) → Once said p → Once (said ++ x ∷ []) p
 once-kept said x p e l o =
     one_more said x p p o (rw e (omega arith)) (rw e (omega arith)) (rw e (omega arith)) (λ n. rw (l n is_until) (omega arith)) (λ n. rw (l n is_done) (omega arith)) (λ n. rw (l n is_trace) (omega arith)) (rw e (omega arith))
 
-pub once-more : (before : List Said) (line : List ℕ) (x : Said) → Once (reverse before) (place_after before) → Reads before line x → Once (reverse (x ∷ before)) (place_after (x ∷ before))
+pub once-more : (before : List Content) (line : List ℕ) (x : Content) → Once (reverse before) (place_after before) → Reads before line x → Once (reverse (x ∷ before)) (place_after (x ∷ before))
 once-more before line x o r = rw (reverse-more x before) (go x r)
   where
     stated : (s : Statement) (q : Place) → leads (place_after before) s ≡ Some q → Once (reverse before ++ says s ∷ []) (place_after (says s ∷ before))
     stated s q e = rw e (once-led (reverse before) (place_after before) q s o e)
 
-    go : (x : Said) → Reads before line x → Once (reverse before ++ x ∷ []) (place_after (x ∷ before))
+    go : (x : Content) → Reads before line x → Once (reverse before ++ x ∷ []) (place_after (x ∷ before))
     go x (of_the_diagram t s e says_so) = stated s says_so.stands.next says_so.stands.stands
     go x (of_the_trace t s here (an_empty_row u e)) = stated nothing Trace (rw here refl)
     go x (of_the_trace t s here (trace_ends u e)) = stated done Ended (rw here refl)
@@ -136,7 +136,7 @@ once-more before line x o r = rw (reverse-more x before) (go x r)
     go x (of_the_script t s here (script_ends u e)) = stated done Ended (rw here refl)
     go x (of_the_script t s here (a_step u v ts e n m h)) = once-kept (reverse before) (step v) (place_after before) refl (λ n kind. refl) o
 
-pub once-run : (before after : List Said) (lines : List (List ℕ)) → Run before lines after → Once (reverse before) (place_after before) → Once (reverse after) (place_after after)
+pub once-run : (before after : List Content) (lines : List (List ℕ)) → Run before lines after → Once (reverse before) (place_after before) → Once (reverse after) (place_after after)
 once-run before after lines (no_line b) o = o
 once-run before after lines (a_line b a line ls said r run) o = once-run (said ∷ b) a ls run (once-more b line said o r)
 

@@ -5,13 +5,13 @@ use Rattle.std.proofs.lemmas.Bool.Decides.{nat_tests}
 use Rattle.std.proofs.lemmas.List.{reverse-append}
 use Rattle.std.proofs.lemmas.List.Elements.{filter-append}
 use Rattle.dia_lines.specs.Statements.{Statement, header, policy, until}
-use Rattle.dia_lines.specs.Lines.{Said, says, row, step, statements}
+use Rattle.dia_lines.specs.Lines.{Content, says, row, step, statements}
 use Rattle.dia_read.specs.Documents.{versions, policies, ends, lines_from, lines_with, kept, kept_text}
 
-pub reverse-more : (x : Said) (before : List Said) → reverse (x ∷ before) ≡ reverse before ++ x ∷ []
+pub reverse-more : (x : Content) (before : List Content) → reverse (x ∷ before) ≡ reverse before ++ x ∷ []
 reverse-more x before = reverse-append (x ∷ []) before
 
-pub statements-append : (a b : List Said) → statements (a ++ b) ≡ statements a ++ statements b
+pub statements-append : (a b : List Content) → statements (a ++ b) ≡ statements a ++ statements b
 statements-append [] b = refl
 statements-append (says s ∷ a) b = ap (λ ss. s ∷ ss) (statements-append a b)
 statements-append (row t ∷ a) b = statements-append a b
@@ -32,19 +32,19 @@ ends-append [] b = refl
 ends-append (until e ∷ a) b = ap (λ es. e ∷ es) (ends-append a b)
 ends-append (s ∷ a) b = ends-append a b
 
-pub versions-more : (said : List Said) (x : Said) → versions (statements (said ++ x ∷ [])) ≡ versions (statements said) ++ versions (statements (x ∷ []))
+pub versions-more : (said : List Content) (x : Content) → versions (statements (said ++ x ∷ [])) ≡ versions (statements said) ++ versions (statements (x ∷ []))
 versions-more said x = ap versions (statements-append said (x ∷ [])) ∙ versions-append (statements said) (statements (x ∷ []))
 
-pub policies-more : (said : List Said) (x : Said) → policies (statements (said ++ x ∷ [])) ≡ policies (statements said) ++ policies (statements (x ∷ []))
+pub policies-more : (said : List Content) (x : Content) → policies (statements (said ++ x ∷ [])) ≡ policies (statements said) ++ policies (statements (x ∷ []))
 policies-more said x = ap policies (statements-append said (x ∷ [])) ∙ policies-append (statements said) (statements (x ∷ []))
 
-pub ends-more : (said : List Said) (x : Said) → ends (statements (said ++ x ∷ [])) ≡ ends (statements said) ++ ends (statements (x ∷ []))
+pub ends-more : (said : List Content) (x : Content) → ends (statements (said ++ x ∷ [])) ≡ ends (statements said) ++ ends (statements (x ∷ []))
 ends-more said x = ap ends (statements-append said (x ∷ [])) ∙ ends-append (statements said) (statements (x ∷ []))
 
-pub filter-more : (kind : Statement → Bool) (said : List Said) (x : Said) → filter kind (statements (said ++ x ∷ [])) ≡ filter kind (statements said) ++ filter kind (statements (x ∷ []))
+pub filter-more : (kind : Statement → Bool) (said : List Content) (x : Content) → filter kind (statements (said ++ x ∷ [])) ≡ filter kind (statements said) ++ filter kind (statements (x ∷ []))
 filter-more kind said x = ap (filter kind) (statements-append said (x ∷ [])) ∙ filter-append kind (statements said) (statements (x ∷ []))
 
-lines_from-more : (n : ℕ) (kind : Said → Bool) (said : List Said) (x : Said) → lines_from n kind (said ++ x ∷ []) ≡ lines_from n kind said ++ lines_from (n + length said) kind (x ∷ [])
+lines_from-more : (n : ℕ) (kind : Content → Bool) (said : List Content) (x : Content) → lines_from n kind (said ++ x ∷ []) ≡ lines_from n kind said ++ lines_from (n + length said) kind (x ∷ [])
 lines_from-more n kind [] x = ap (λ m. lines_from m kind (x ∷ [])) (omega arith)
 lines_from-more n kind (y ∷ said) x =
     go (kind y) (lines_from-more (n + 1) kind said x ∙ ap (λ m. lines_from (n + 1) kind said ++ lines_from m kind (x ∷ [])) (omega arith))
@@ -56,10 +56,10 @@ lines_from-more n kind (y ∷ said) x =
     go false rest = rest
 
 -- the number of the line after so many others
-pub lines-more : (kind : Said → Bool) (said : List Said) (x : Said) → lines_with kind (said ++ x ∷ []) ≡ lines_with kind said ++ lines_from (length said + 1) kind (x ∷ [])
+pub lines-more : (kind : Content → Bool) (said : List Content) (x : Content) → lines_with kind (said ++ x ∷ []) ≡ lines_with kind said ++ lines_from (length said + 1) kind (x ∷ [])
 lines-more kind said x = lines_from-more 1 kind said x ∙ ap (λ m. lines_with kind said ++ lines_from m kind (x ∷ [])) (omega arith)
 
-pub kept-more : (kind : Said → Bool) (said : List Said) (x : Said) → kept kind (said ++ x ∷ []) ≡ kept kind said ++ kept kind (x ∷ [])
+pub kept-more : (kind : Content → Bool) (said : List Content) (x : Content) → kept kind (said ++ x ∷ []) ≡ kept kind said ++ kept kind (x ∷ [])
 kept-more kind [] x = refl
 kept-more kind (y ∷ said) x = go (kind y) (kept-more kind said x)
   where

@@ -15,7 +15,7 @@ use Rattle.dia_lines.specs.declared.place.Place.TheVariants.{Header, Policy, Unt
 use Rattle.dia_lines.specs.Statements.{Statement, nothing, trace, script, done}
 use Rattle.dia_lines.specs.Places.{leads}
 use Rattle.dia_lines.specs.Sections.{is_trace_byte}
-use Rattle.dia_lines.specs.Lines.{Said, says, place_after, Reads, of_the_diagram, of_the_trace, of_the_script, an_empty_row, trace_ends, script_begins, a_row, no_step, script_ends, a_step}
+use Rattle.dia_lines.specs.Lines.{Content, says, place_after, Reads, of_the_diagram, of_the_trace, of_the_script, an_empty_row, trace_ends, script_begins, a_row, no_step, script_ends, a_step}
 use Rattle.dia_read.specs.declared.document.RawTask.{RawTask}
 use Rattle.dia_read.specs.declared.draft.Draft.{Draft}
 use Rattle.dia_read.specs.Documents.{Run, no_line, a_line, is_statement_of, is_trace, is_script}
@@ -112,12 +112,12 @@ row-has-no-feed (b ∷ bs) h =
     sum_by-cons (λ (k : ℕ). cond (k == 10) 1 0) b bs ∙ rw (no-feed b both.0) (omega (arith, row-has-no-feed bs both.1))
 
 -- at the place of a section the line that begins it was said
-abbrev pub Begun : Place → List Said → Type 0
+abbrev pub Begun : Place → List Content → Type 0
 Begun Trace said = list_any (is_statement_of is_trace) said ≡ true
 Begun Script said = list_any (is_statement_of is_script) said ≡ true
 Begun _ said = Unit {0}
 
-begun-at : (p : Place) (s : Statement) (before : List Said) → Begun p before → IfSome (leads p s) (λ q. Begun q (says s ∷ before))
+begun-at : (p : Place) (s : Statement) (before : List Content) → Begun p before → IfSome (leads p s) (λ q. Begun q (says s ∷ before))
 begun-at Trace nothing before b = b
 begun-at Script nothing before b = b
 begun-at Declarations trace before b = refl
@@ -131,13 +131,13 @@ begun-at Until nothing before b = tt
 begun-at Ended nothing before b = tt
 begun-at p s before b = tt
 
-pub begun-more : (before : List Said) (line : List ℕ) (x : Said) → Begun (place_after before) before → Reads before line x → Begun (place_after (x ∷ before)) (x ∷ before)
+pub begun-more : (before : List Content) (line : List ℕ) (x : Content) → Begun (place_after before) before → Reads before line x → Begun (place_after (x ∷ before)) (x ∷ before)
 begun-more before line x b r = go x r
   where
     stated : (s : Statement) (q : Place) → leads (place_after before) s ≡ Some q → Begun (place_after (says s ∷ before)) (says s ∷ before)
     stated s q e = rw e (subst (λ r. IfSome r (λ place. Begun place (says s ∷ before))) e (begun-at (place_after before) s before b))
 
-    go : (x : Said) → Reads before line x → Begun (place_after (x ∷ before)) (x ∷ before)
+    go : (x : Content) → Reads before line x → Begun (place_after (x ∷ before)) (x ∷ before)
     go x (of_the_diagram t s e says_so) = stated s says_so.stands.next says_so.stands.stands
     go x (of_the_trace t s here (an_empty_row u e)) = stated nothing Trace (rw here refl)
     go x (of_the_trace t s here (trace_ends u e)) = stated done Ended (rw here refl)
@@ -147,14 +147,14 @@ begun-more before line x b r = go x r
     go x (of_the_script t s here (script_ends u e)) = stated done Ended (rw here refl)
     go x (of_the_script t s here (a_step u v ts e n m h)) = rw here (subst (λ p. Begun p before) here b)
 
-begun-run : (before after : List Said) (lines : List (List ℕ)) → Run before lines after → Begun (place_after before) before → Begun (place_after after) after
+begun-run : (before after : List Content) (lines : List (List ℕ)) → Run before lines after → Begun (place_after before) before → Begun (place_after after) after
 begun-run before after lines (no_line c) b = b
 begun-run before after lines (a_line c a line ls said r run) b = begun-run (said ∷ c) a ls run (begun-more c line said b r)
 
-pub trace-begun : (before after : List Said) (lines : List (List ℕ)) → Run before lines after → Begun (place_after before) before → place_after after ≡ Trace → list_any (is_statement_of is_trace) (reverse after) ≡ true
+pub trace-begun : (before after : List Content) (lines : List (List ℕ)) → Run before lines after → Begun (place_after before) before → place_after after ≡ Trace → list_any (is_statement_of is_trace) (reverse after) ≡ true
 trace-begun before after lines run b here =
     sym (list_any-IsPermutation (is_statement_of is_trace) after (reverse after) (IsPermutation-reverse after)) ∙ subst (λ p. Begun p after) here (begun-run before after lines run b)
 
-pub script-begun : (before after : List Said) (lines : List (List ℕ)) → Run before lines after → Begun (place_after before) before → place_after after ≡ Script → list_any (is_statement_of is_script) (reverse after) ≡ true
+pub script-begun : (before after : List Content) (lines : List (List ℕ)) → Run before lines after → Begun (place_after before) before → place_after after ≡ Script → list_any (is_statement_of is_script) (reverse after) ≡ true
 script-begun before after lines run b here =
     sym (list_any-IsPermutation (is_statement_of is_script) after (reverse after) (IsPermutation-reverse after)) ∙ subst (λ p. Begun p after) here (begun-run before after lines run b)

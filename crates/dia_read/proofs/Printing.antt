@@ -28,7 +28,7 @@ use Rattle.dia_lines.specs.declared.item.TaskLine.{TaskLine}
 use Rattle.dia_lines.specs.Statements.{Statement, Clock, every, on, nothing, header, policy, until, input, event, task, state, sense, read, a_let, a_next, out, trace, script, done}
 use Rattle.dia_lines.specs.Places.{is_body, is_of_version}
 use Rattle.dia_lines.specs.Limits.{lies_within, option_lies_within, delay_fits, clock_fits, numbers_fit, is_input, is_event, is_task, is_read, is_out, of_this_task, passed_count}
-use Rattle.dia_lines.specs.Lines.{Said, says, row, step, statements, version_after, limit_fault, SaysInTrace, an_empty_row, trace_ends, script_begins, a_row, SaysInScript, no_step, script_ends, a_step, Reads, of_the_diagram, of_the_trace, of_the_script}
+use Rattle.dia_lines.specs.Lines.{Content, says, row, step, statements, version_after, limit_fault, SaysInTrace, an_empty_row, trace_ends, script_begins, a_row, SaysInScript, no_step, script_ends, a_step, Reads, of_the_diagram, of_the_trace, of_the_script}
 use Rattle.dia_lines.specs.Held.{IsDecl, IsClock, cpu_of, IsTaskLine, IsPart, IsKept, IsHeld}
 use Rattle.dia_exprs.specs.Printable.{IsPrintableTree}
 use Rattle.dia_exprs.proofs.PrintableTrees.{printable-nodes}
@@ -399,12 +399,12 @@ ended-more : (lines : List (List ℕ)) (bytes : List ℕ) → ended_lines (lines
 ended-more [] bytes = refl
 ended-more (line ∷ lines) bytes = ap (λ bs. line ++ 10 ∷ bs) (ended-more lines bytes) ∙ simp append_assoc
 
-pub keeps-more : (Says : List ℕ → Said → Type 0) (kept : List ℕ → Said) (text bytes : List ℕ) → KeepsItself Says kept text → Says bytes (kept bytes) → KeepsItself Says kept (text ++ bytes ++ 10 ∷ [])
+pub keeps-more : (Says : List ℕ → Content → Type 0) (kept : List ℕ → Content) (text bytes : List ℕ) → KeepsItself Says kept text → Says bytes (kept bytes) → KeepsItself Says kept (text ++ bytes ++ 10 ∷ [])
 keeps-more Says kept text bytes (lines, is, each) says_so =
     (lines ++ bytes ∷ [], rw is (sym (ended-more lines bytes)), All-push (λ line. Says line (kept line)) lines bytes each says_so)
 
 -- what a line promises of what is kept of it
-abbrev pub IsSoundLine : ℕ → List Statement → Said → Type 0
+abbrev pub IsSoundLine : ℕ → List Statement → Content → Type 0
 IsSoundLine version before (says s) = IsSound version before s
 IsSoundLine version before (row text) = SaysInTrace text (row text)
 IsSoundLine version before (step text) = SaysInScript text (step text)
@@ -460,7 +460,7 @@ sections-stay s line.Done d n k = (refl, refl)
 sections-stay s line.Row d n k = absurd (no-row s k)
 sections-stay s (line.Step kept) d n k = absurd (no-step s kept k)
 
-pub prints-more : (before : List Said) (x : Said) (l : Line) (d : Draft) (n : ℕ) → PrintsAll (statements before) d → IsSoundLine d.version (statements before) x → IsHeld x l → Continues d l
+pub prints-more : (before : List Content) (x : Content) (l : Line) (d : Draft) (n : ℕ) → PrintsAll (statements before) d → IsSoundLine d.version (statements before) x → IsHeld x l → Continues d l
     → PrintsAll (statements (x ∷ before)) (drafted d n (kept_text x) l)
 prints-more before (says s) l d n p i k h = record { items = prints-stated (statements before) s l d n p.items i k h; trace = rw (sections-stay s l d n k).0 p.trace; script = rw (sections-stay s l d n k).1 p.script }
 prints-more before (row t) line.Row d n p i k h =
@@ -469,7 +469,7 @@ prints-more before (step t) (line.Step kept) d n p i k h =
     record { items = prints-same p.items refl refl refl refl; trace = p.trace; script = keeps-more SaysInScript step d.script.text t p.script i }
 prints-more before x l d n p i k h = absurd k
 
-section-prints : (Says : List ℕ → Said → Type 0) (kept : List ℕ → Said) (s : Section) → KeepsItself Says kept s.text → IfSome (section_text s) (KeepsItself Says kept)
+section-prints : (Says : List ℕ → Content → Type 0) (kept : List ℕ → Content) (s : Section) → KeepsItself Says kept s.text → IfSome (section_text s) (KeepsItself Says kept)
 section-prints Says kept s h = go s.begun
   where
     go : (b : Bool) → IfSome (cond b (Some s.text) None) (KeepsItself Says kept)
@@ -528,7 +528,7 @@ fault-free ss s e = go (numbers_fit s) (passed_count ss s) refl refl e
     go true (Some l) n c e = absurd cc
     go false o n c e = absurd cc
 
-pub sound-line : (before : List Said) (bytes : List ℕ) (x : Said) → Reads before bytes x → IsSoundLine (version_after before) (statements before) x
+pub sound-line : (before : List Content) (bytes : List ℕ) (x : Content) → Reads before bytes x → IsSoundLine (version_after before) (statements before) x
 sound-line before bytes x (of_the_diagram b s e i) =
     let free = fault-free (statements before) s i.within in
     record { free = printable-statement i.tokens s i.stands.form (printable-tokens b i.tokens i.spelled); numbers = free.0; counts = free.1; known = i.stands.known }

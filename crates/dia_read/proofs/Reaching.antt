@@ -10,7 +10,7 @@ use Rattle.dia_lines.specs.declared.item.Line.TheVariants as line
 use Rattle.dia_lines.specs.declared.place.Place.TheVariants.{Trace, Script}
 use Rattle.dia_lines.specs.declared.position.Position.{Position}
 use Rattle.dia_lines.specs.Held.{IsHeld}
-use Rattle.dia_lines.specs.Lines.{Said, says, row, step, place_after, version_after, statements, Reads, of_the_trace, of_the_script, a_row, a_step, HasFault}
+use Rattle.dia_lines.specs.Lines.{Content, says, row, step, place_after, version_after, statements, Reads, of_the_trace, of_the_script, a_row, a_step, HasFault}
 use Rattle.dia_lines.specs.Positions.{IsAfter}
 use Rattle.dia_lines.specs.Text.{lines_of}
 use Rattle.dia_read.specs.declared.draft.Draft.{Draft}
@@ -27,7 +27,7 @@ use Rattle.dia_read.proofs.Bounds.{Bounded, KeptFits, bounded-more, bounded-star
 -- ---- how far
 
 pub record Reached (bytes rest : List ℕ) (number : ℕ) (position : Position) (draft : Draft) : Type 0 where
-  pub before : List Said
+  pub before : List Content
   pub seen : List (List ℕ)
   pub used : ℕ
   pub split : lines_of bytes ≡ seen ++ lines_of rest
@@ -66,12 +66,12 @@ module _ (bytes rest : List ℕ) (number : ℕ) (position : Position) (draft : D
     (first : lines_of rest ≡ text ∷ lines_of after) (shorter : length after < length rest) (fits : length text + length after ≤ length rest) where
   -- the line says this, and it is held
   abbrev pub Next : Line → Position → Type 0
-  Next l next = (said : Said) × Reads reached.before text said × IsHeld said l × IsAfter (said ∷ reached.before) next
+  Next l next = (said : Content) × Reads reached.before text said × IsHeld said l × IsAfter (said ∷ reached.before) next
 
   abbrev pub text_in : (l : Line) (next : Position) → Next l next → List ℕ
   text_in l next n = kept_text n.0
 
-  has-task : (before : List Said) (said : Said) (l : Line) → Once (reverse before) (place_after before) → Reads before text said → IsHeld said l → HasItsTask (reverse before) l
+  has-task : (before : List Content) (said : Content) (l : Line) → Once (reverse before) (place_after before) → Reads before text said → IsHeld said l → HasItsTask (reverse before) l
   has-task before said (line.Part p) o r h = in-body before text said p o r h
   has-task before said l o r h = tt
 
@@ -84,7 +84,7 @@ module _ (bytes rest : List ℕ) (number : ℕ) (position : Position) (draft : D
       let none : versions (statements (reverse reached.before)) ≡ [] = nil_from_length (versions (statements (reverse reached.before))) (reached.once.header ∙ ap headers_before here) in
       sym reached.holds.ends.version ∙ ap (λ vs. last_or vs 1) none
 
-  continues : (l : Line) (said : Said) → Reads reached.before text said → IsHeld said l → Continues draft l
+  continues : (l : Line) (said : Content) → Reads reached.before text said → IsHeld said l → Continues draft l
   continues (line.Part p) said r h = reached.holds.items.latest (in-body reached.before text said p reached.once r h)
   continues (line.Header v) said r h = let is = header-stands reached.before text said v r h in (no-version is.0, is.1, is.2)
   continues l said r h = tt
@@ -95,7 +95,7 @@ module _ (bytes rest : List ℕ) (number : ℕ) (position : Position) (draft : D
   begun-script : place_after reached.before ≡ Script → draft.script.begun ≡ true
   begun-script here = sym reached.holds.sections.script_begun ∙ script-begun [] reached.before reached.seen reached.run tt here
 
-  pairs : (l : Line) (said : Said) → Reads reached.before text said → IsHeld said l → PairsWith draft (kept_text said) l
+  pairs : (l : Line) (said : Content) → Reads reached.before text said → IsHeld said l → PairsWith draft (kept_text said) l
   pairs (line.Part p) said r h = continues (line.Part p) said r h
   pairs line.Row (row t) (of_the_trace b s here (a_row c i k)) h = (row-has-no-feed t i, begun-trace here)
   pairs line.Row (row t) (of_the_script b s here i) h = elim i [ ]

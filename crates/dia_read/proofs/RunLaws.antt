@@ -3,26 +3,26 @@ use Rattle.std.proofs.Common.{◌≡◌, ℕ, zero, suc, ◌<◌, List, [], ◌�
 use Rattle.std.proofs.lemmas.Bool.{cases_lt}
 use Rattle.std.proofs.lemmas.Option.{same_Some}
 use Rattle.dia_lines.specs.declared.fault.ReadCode.{ReadCode}
-use Rattle.dia_lines.specs.Lines.{Said, Reads, HasFault}
+use Rattle.dia_lines.specs.Lines.{Content, Reads, HasFault}
 use Rattle.dia_lines.proofs.LineLaws.{one-reading, no-line-fault, one-line-fault}
 use Rattle.dia_read.specs.Documents.{Run, no_line, a_line, IsFirstLine}
 
-pub run-one : (before a b : List Said) (lines : List (List ℕ)) → Run before lines a → Run before lines b → a ≡ b
+pub run-one : (before a b : List Content) (lines : List (List ℕ)) → Run before lines a → Run before lines b → a ≡ b
 run-one before a b lines (no_line c) (no_line d) = refl
 run-one before a b lines (a_line c x line ls s r run) (a_line d y line' ls' t q other) =
     let same : t ≡ s = one-reading c line t s q r in
     run-one (s ∷ c) a b ls run (subst (λ u. Run (u ∷ c) ls b) same other)
 
 -- each line reads after those before it
-run-reads : (before middle after : List Said) (lines : List (List ℕ)) (i : ℕ) (line : List ℕ) → Run before (take i lines) middle → Run before lines after → slice_get lines i ≡ Some line
-    → (said : Said) × Reads middle line said
+run-reads : (before middle after : List Content) (lines : List (List ℕ)) (i : ℕ) (line : List ℕ) → Run before (take i lines) middle → Run before lines after → slice_get lines i ≡ Some line
+    → (said : Content) × Reads middle line said
 run-reads before middle after lines i line front (no_line c) at = absurd cc
 run-reads before middle after lines zero line (no_line d) (a_line c x l ls s r run) at = (s, subst (λ m. Reads c m s) (same_Some l line at) r)
 run-reads before middle after lines (suc i) line (a_line d y l' ls' t q front) (a_line c x l ls s r run) at =
     let same : t ≡ s = one-reading c l t s q r in
     run-reads (s ∷ c) middle after ls i line (subst (λ u. Run (u ∷ c) (take i ls) middle) same front) run at
 
-pub no-fault-in-run : (after : List Said) (lines : List (List ℕ)) (i : ℕ) (code : ReadCode) → Run [] lines after → IsFirstLine lines i code → ⊥
+pub no-fault-in-run : (after : List Content) (lines : List (List ℕ)) (i : ℕ) (code : ReadCode) → Run [] lines after → IsFirstLine lines i code → ⊥
 no-fault-in-run after lines i code run first =
     let read = run-reads [] first.before after lines i first.line first.run run first.stands in
     no-line-fault first.before first.line read.0 code read.1 first.fault

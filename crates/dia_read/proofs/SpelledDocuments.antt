@@ -31,7 +31,7 @@ use Rattle.dia_lines.specs.Delays.{delay_of}
 use Rattle.dia_lines.specs.FirstLine.{cut_line}
 use Rattle.dia_lines.specs.Held.{IsClock, cpu_of, IsKept, IsHeld}
 use Rattle.dia_lines.specs.Limits.{lies_within, option_lies_within, clock_fits, delay_fits, numbers_fit}
-use Rattle.dia_lines.specs.Lines.{Said, expression_of, lacks_header, token_fault, place_after, statements, Reads, of_the_diagram, of_the_trace, of_the_script, an_empty_row, trace_ends, script_begins, a_row, no_step, script_ends, a_step}
+use Rattle.dia_lines.specs.Lines.{Content, expression_of, lacks_header, token_fault, place_after, statements, Reads, of_the_diagram, of_the_trace, of_the_script, an_empty_row, trace_ends, script_begins, a_row, no_step, script_ends, a_step}
 use Rattle.dia_lines.specs.Statements.{Statement, Clock, every, on, IsStatement, a_blank_line, in_version_1, in_version_2, a_policy, an_until, an_input, an_event, a_task, a_state, a_sense, a_read, a_let_line, a_next_line, an_out, a_trace, a_script, an_end}
 use Rattle.dia_lines.specs.Text.{lines_of}
 use Rattle.dia_lines.proofs.TextLaws.{lines_of-nil, lines_of-cut_line, cut_line-shorter, cut_line-within}
@@ -123,7 +123,7 @@ few-nodes place ts free =
     (test-none (nat_lt MAX_NODES (node_count (expression_of ts))) (LimitHit Nodes) _ header.1).0
 
 -- of each line that was read something is held
-held-line : (before : List Said) (bytes : List ℕ) (x : Said) → Reads before bytes x → (l : Line) × IsHeld x l
+held-line : (before : List Content) (bytes : List ℕ) (x : Content) → Reads before bytes x → (l : Line) × IsHeld x l
 held-line before bytes x (of_the_diagram b s e i) =
     held-form i.tokens s i.stands.form (fault-free (statements before) s i.within).0 (few-nodes (place_after before) i.tokens i.faultless)
 held-line before bytes x (of_the_trace b s e (an_empty_row c i)) = (line.Nothing, tt)
@@ -137,7 +137,7 @@ held-line before bytes x (of_the_script b s e (a_step c u ts i n m k)) = (line.S
 -- ---- the whole text
 
 -- a reader's draft after all lines
-record ReadToEnd (bytes : List ℕ) (said : List Said) : Type 0 where
+record ReadToEnd (bytes : List ℕ) (said : List Content) : Type 0 where
   number : ℕ
   position : Position
   draft : Draft
@@ -152,7 +152,7 @@ some-bytes : (rest text : List ℕ) (texts : List (List ℕ)) → lines_of rest 
 some-bytes [] text texts some = let none = lines_of-nil in absurd cc
 some-bytes (b ∷ bs) text texts some = omega arith
 
-read-to-end : (bytes rest : List ℕ) (number : ℕ) (position : Position) (draft : Draft) (reached : Reached bytes rest number position draft) (before said : List Said) (texts : List (List ℕ))
+read-to-end : (bytes rest : List ℕ) (number : ℕ) (position : Position) (draft : Draft) (reached : Reached bytes rest number position draft) (before said : List Content) (texts : List (List ℕ))
     → reached.before ≡ before → lines_of rest ≡ texts → Run before texts said → ReadToEnd bytes said
 read-to-end bytes rest number position draft reached before said texts same are (no_line b) =
     end rest (no-lines rest are) reached same
@@ -170,7 +170,7 @@ read-to-end bytes rest number position draft reached before said texts same are 
     let said_here : Reads reached.before cut.0 x = rw (same, head) reads in
     let next = reached-next bytes rest number position draft reached cut.0 cut.1 split (cut_line-shorter rest some) (cut_line-within rest some) held.0 (position_at (x ∷ reached.before))
     (x, said_here, held.1, after-there (x ∷ reached.before)) in
-    read-to-end bytes cut.1 _ _ _ next.0 (x ∷ before) said later (next.1 ∙ ap (λ (xs : List Said). x ∷ xs) same) tail run
+    read-to-end bytes cut.1 _ _ _ next.0 (x ∷ before) said later (next.1 ∙ ap (λ (xs : List Content). x ∷ xs) same) tail run
 
 -- the document is that of the draft
 record IsDraftOf (doc : Doc) (bytes : List ℕ) : Type 0 where

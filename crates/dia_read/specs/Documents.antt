@@ -14,14 +14,14 @@ use Rattle.dia_lines.specs.declared.fault.ReadCode.TheVariants.{MissingDone, Mis
 use Rattle.dia_lines.specs.Statements.{Statement, header, policy, until, trace, script, done}
 use Rattle.dia_lines.specs.Places.{is_body, is_declaration}
 use Rattle.dia_lines.specs.Limits.{is_task}
-use Rattle.dia_lines.specs.Lines.{Said, says, row, step, Reads, HasFault, place_after, statements}
+use Rattle.dia_lines.specs.Lines.{Content, says, row, step, Reads, HasFault, place_after, statements}
 use Rattle.dia_lines.specs.Held.{IsDecl, IsTaskLine, IsPart}
 use Rattle.dia_lines.specs.Text.{lines_of}
 
 -- Read after those before them, the lines are without fault; the result is what all lines say. Both lists have the latest line first.
-pub data Run : List Said → List (List ℕ) → List Said → Type 0 where
-  no_line : (before : List Said) → Run before [] before
-  a_line : (before after : List Said) (line : List ℕ) (lines : List (List ℕ)) (said : Said) → Reads before line said → Run (said ∷ before) lines after
+pub data Run : List Content → List (List ℕ) → List Content → Type 0 where
+  no_line : (before : List Content) → Run before [] before
+  a_line : (before after : List Content) (line : List ℕ) (lines : List (List ℕ)) (said : Content) → Reads before line said → Run (said ∷ before) lines after
       → Run before (line ∷ lines) after
 
 -- ---- what the lines say together
@@ -79,43 +79,43 @@ abbrev pub is_done : Statement → Bool
 is_done done = true
 is_done _ = false
 
-abbrev pub is_statement_of : (Statement → Bool) → Said → Bool
+abbrev pub is_statement_of : (Statement → Bool) → Content → Bool
 is_statement_of kind (says s) = kind s
 is_statement_of kind _ = false
 
-abbrev pub is_row : Said → Bool
+abbrev pub is_row : Content → Bool
 is_row (row text) = true
 is_row _ = false
 
-abbrev pub is_step : Said → Bool
+abbrev pub is_step : Content → Bool
 is_step (step text) = true
 is_step _ = false
 
-abbrev pub kept_text : Said → List ℕ
+abbrev pub kept_text : Content → List ℕ
 kept_text (row text) = text
 kept_text (step text) = text
 kept_text (says s) = []
 
 -- the numbers of the lines of a kind, if the first line has this number
-abbrev pub lines_from : ℕ → (Said → Bool) → List Said → List ℕ
+abbrev pub lines_from : ℕ → (Content → Bool) → List Content → List ℕ
 lines_from number kind [] = []
 lines_from number kind (line ∷ lines) = if kind line then number ∷ lines_from (number + 1) kind lines else lines_from (number + 1) kind lines
 
 -- the numbers of the lines of a kind, from 1
-abbrev pub lines_with : (Said → Bool) → List Said → List ℕ
+abbrev pub lines_with : (Content → Bool) → List Content → List ℕ
 lines_with kind lines = lines_from 1 kind lines
 
 -- the kept lines of a section, each ended by a line feed
-abbrev pub kept : (Said → Bool) → List Said → List ℕ
+abbrev pub kept : (Content → Bool) → List Content → List ℕ
 kept kind [] = []
 kept kind (line ∷ lines) = if kind line then kept_text line ++ 10 ∷ kept kind lines else kept kind lines
 
 -- a section is there if the line that begins it is
-abbrev pub section : (Statement → Bool) → (Said → Bool) → List Said → Option (List ℕ)
+abbrev pub section : (Statement → Bool) → (Content → Bool) → List Content → Option (List ℕ)
 section begins kind lines = if list_any (is_statement_of begins) lines then Some (kept kind lines) else None
 
 -- what the lines say together
-pub record IsBody (lines : List Said) (body : Body) : Type 0 where
+pub record IsBody (lines : List Content) (body : Body) : Type 0 where
   pub header_line : versions (statements lines) ≡ body.version ∷ []
   pub policy_line : policies (statements lines) ≡ body.policy ∷ []
   pub until_line : ends (statements lines) ≡ pos body.until ∷ []
@@ -125,7 +125,7 @@ pub record IsBody (lines : List Said) (body : Body) : Type 0 where
   pub scripted : body.script ≡ section is_script is_step lines
 
 -- the numbers of the lines of a document's items
-pub record AreItemLines (lines : List Said) (numbers : DocLines) : Type 0 where
+pub record AreItemLines (lines : List Content) (numbers : DocLines) : Type 0 where
   pub until_line : lines_with (is_statement_of is_until) lines ≡ numbers.until_at ∷ []
   pub done_line : lines_with (is_statement_of is_done) lines ≡ numbers.done_at ∷ []
   pub trace_line : get_or (lines_with (is_statement_of is_trace) lines) 0 0 ≡ numbers.trace_at
@@ -137,7 +137,7 @@ pub record AreItemLines (lines : List Said) (numbers : DocLines) : Type 0 where
 
 -- The text spells the document: its lines are without fault and come to an end, and this is what they say.
 pub record Spells (bytes : List ℕ) (doc : Doc) : Type 0 where
-  pub said : List Said
+  pub said : List Content
   pub run : Run [] (lines_of bytes) said
   pub ended : place_after said ≡ Ended
   pub body : IsBody (reverse said) doc.body
@@ -149,7 +149,7 @@ pub record Spells (bytes : List ℕ) (doc : Doc) : Type 0 where
 pub record IsFirstLine (lines : List (List ℕ)) (index : ℕ) (code : ReadCode) : Type 0 where
   pub line : List ℕ
   pub stands : slice_get lines index ≡ Some line
-  pub before : List Said
+  pub before : List Content
   pub run : Run [] (take index lines) before
   pub fault : HasFault before line code
 
@@ -164,7 +164,7 @@ pub data IsFirstFault (bytes : List ℕ) : ℕ → ReadCode → Type 0 where
       → IsFirstFault bytes (index + 1) code
   in_the_first_line : (code : ReadCode) → is_blank_text bytes ≡ true → IsFirstLine (lines_of bytes) 0 code → IsFirstFault bytes 1 code
   no_header : is_blank_text bytes ≡ true → ((code : ReadCode) → IsFirstLine (lines_of bytes) 0 code → ⊥) → IsFirstFault bytes 1 MissingHeader
-  no_end : (said : List Said) → is_blank_text bytes ≡ false → Run [] (lines_of bytes) said → place_after said ≢ Ended
+  no_end : (said : List Content) → is_blank_text bytes ≡ false → Run [] (lines_of bytes) said → place_after said ≢ Ended
       → IsFirstFault bytes (length (lines_of bytes) + 1) MissingDone
 
 -- ---- bodies that say the same in another way

@@ -6,7 +6,7 @@ use Rattle.dia_lines.specs.declared.item.Decl.{Decl}
 use Rattle.dia_lines.specs.declared.item.Decl.TheVariants.{Input, Event}
 use Rattle.dia_lines.specs.declared.item.Part.{Part}
 use Rattle.dia_lines.specs.declared.item.Part.TheVariants as part
-use Rattle.dia_lines.specs.Lines.{Said, row, step, SaysInTrace, SaysInScript}
+use Rattle.dia_lines.specs.Lines.{Content, row, step, SaysInTrace, SaysInScript}
 pub use Rattle.dia_print.specs.Printable.{IsPrintableExpr, IsPrintableDecl, IsPrintableClock, IsPrintablePart, IsPrintableTaskLine}
 use Rattle.dia_read.specs.Documents.{first_line}
 use Rattle.dia_read.specs.declared.document.Body.{Body}
@@ -42,7 +42,7 @@ ended_lines [] = []
 ended_lines (line ∷ lines) = line ++ 10 ∷ ended_lines lines
 
 -- the text is lines, each ended by a line feed, and each says itself as one that is kept in its section
-abbrev pub KeepsItself : (List ℕ → Said → Type 0) → (List ℕ → Said) → List ℕ → Type 0
+abbrev pub KeepsItself : (List ℕ → Content → Type 0) → (List ℕ → Content) → List ℕ → Type 0
 KeepsItself Says kept text = (lines : List (List ℕ)) × (text ≡ ended_lines lines) × All (λ line. Says line (kept line)) lines
 
 -- the task has neither a `when` nor a processor other than 0, as all tasks of version 1

@@ -9,12 +9,12 @@ use Rattle.dbp_plan.specs.NameLists.{index_of}
 use Rattle.trace_rows.specs.Cells.{cell_under, is_one, time_of}
 use Rattle.trace_rows.specs.Columns.{nothing, times_with}
 use Rattle.trace_rows.specs.Values.{event_times, is_marked, times_under}
-use Rattle.trace_rows.specs.declared.cell.Said.{Said}
+use Rattle.trace_rows.specs.declared.cell.CellContent.{CellContent}
 use Rattle.trace_rows.specs.declared.rows.TheConstants.{MAX_ROWS}
 
 -- ---- one more event
 
-mark-pushed : (time : ℕ) (cs : List ℕ) (c : ℕ) (said : List Said) (events : List (List ℕ)) (d : List ℕ) → length cs < length events → (get_or said c nothing).is_one ≡ true
+mark-pushed : (time : ℕ) (cs : List ℕ) (c : ℕ) (said : List CellContent) (events : List (List ℕ)) (d : List ℕ) → length cs < length events → (get_or said c nothing).is_one ≡ true
     → set (times_with time cs said events) (length cs) (get_or (times_with time cs said events) (length cs) d ++ time ∷ []) ≡ times_with time (cs ++ c ∷ []) said events
 mark-pushed time [] c said [] d less one = absurd (omega arith)
 mark-pushed time [] c said (times ∷ events) d less one = rw one refl
@@ -22,7 +22,7 @@ mark-pushed time (b ∷ cs) c said [] d less one = absurd (omega arith)
 mark-pushed time (b ∷ cs) c said (times ∷ events) d less one =
     ap (λ rest. (if (get_or said b nothing).is_one then times ++ time ∷ [] else times) ∷ rest) (mark-pushed time cs c said events d (omega arith) one)
 
-mark-bare : (time : ℕ) (cs : List ℕ) (c : ℕ) (said : List Said) (events : List (List ℕ)) → (get_or said c nothing).is_one ≡ false
+mark-bare : (time : ℕ) (cs : List ℕ) (c : ℕ) (said : List CellContent) (events : List (List ℕ)) → (get_or said c nothing).is_one ≡ false
     → times_with time cs said events ≡ times_with time (cs ++ c ∷ []) said events
 mark-bare time [] c said [] none = refl
 mark-bare time [] c said (times ∷ events) none = rw none refl
@@ -30,17 +30,17 @@ mark-bare time (b ∷ cs) c said [] none = refl
 mark-bare time (b ∷ cs) c said (times ∷ events) none =
     ap (λ rest. (if (get_or said b nothing).is_one then times ++ time ∷ [] else times) ∷ rest) (mark-bare time cs c said events none)
 
-still-there : (time : ℕ) (cs : List ℕ) (said : List Said) (events : List (List ℕ)) (d : List ℕ) → get_or (times_with time cs said events) (length cs) d ≡ get_or events (length cs) d
+still-there : (time : ℕ) (cs : List ℕ) (said : List CellContent) (events : List (List ℕ)) (d : List ℕ) → get_or (times_with time cs said events) (length cs) d ≡ get_or events (length cs) d
 still-there time [] said events d = refl
 still-there time (c ∷ cs) said [] d = refl
 still-there time (c ∷ cs) said (times ∷ events) d = still-there time cs said events d
 
-pub count-with : (time : ℕ) (cs : List ℕ) (said : List Said) (events : List (List ℕ)) → length (times_with time cs said events) ≡ length events
+pub count-with : (time : ℕ) (cs : List ℕ) (said : List CellContent) (events : List (List ℕ)) → length (times_with time cs said events) ≡ length events
 count-with time [] said events = refl
 count-with time (c ∷ cs) said [] = refl
 count-with time (c ∷ cs) said (times ∷ events) = ap (λ n. suc n) (count-with time cs said events)
 
-module _ (time : ℕ) (columns : List ℕ) (said : List Said) (events : List (List ℕ)) (k : ℕ) (below : k < length columns) where
+module _ (time : ℕ) (columns : List ℕ) (said : List CellContent) (events : List (List ℕ)) (k : ℕ) (below : k < length columns) where
   size : length (take k columns) ≡ k
   size = length-take-le k columns (omega (arith, below))
 
@@ -71,7 +71,7 @@ under-next columns rows row name =
       | inr bare ↦ rw bare (append-nil (times_under columns rows name))
     ]
 
-pub row-times : (columns : List (List ℕ)) (rows : List (List (List ℕ))) (row : List (List ℕ)) (said : List Said) (events : List (List ℕ))
+pub row-times : (columns : List (List ℕ)) (rows : List (List (List ℕ))) (row : List (List ℕ)) (said : List CellContent) (events : List (List ℕ))
     → ((name : List ℕ) → (get_or said (index_of columns name) nothing).is_one ≡ is_one (cell_under columns name row))
     → times_with (time_of row) (map (index_of columns) events) said (event_times columns rows events) ≡ event_times columns (rows ++ row ∷ []) events
 row-times columns rows row said [] each = refl

@@ -4,7 +4,7 @@ use Rattle.dia_tokens.specs.Values.{digits_value}
 use Rattle.dbp_plan.specs.declared.schedule.Sample.{Sample}
 use Rattle.trace_rows.specs.declared.cell.Kind.{Kind}
 use Rattle.trace_rows.specs.declared.cell.Kind.TheVariants.{Value, Mark}
-use Rattle.trace_rows.specs.declared.cell.Said.{Said}
+use Rattle.trace_rows.specs.declared.cell.CellContent.{CellContent}
 use Rattle.trace_rows.specs.Cells.{are_digits, is_one, value_in}
 use Rattle.trace_rows.specs.Values.{sample_of}
 
@@ -25,26 +25,26 @@ value_under Value cell = value_in cell
 value_under Mark cell = None
 
 -- what a cell says in a column of this kind
-abbrev pub said_in : Kind → List ℕ → Said
-said_in kind cell = record { value = value_under kind cell; is_one = is_one cell }
+abbrev pub content_in : Kind → List ℕ → CellContent
+content_in kind cell = record { value = value_under kind cell; is_one = is_one cell }
 
 -- what is said in no column
-abbrev pub nothing : Said
+abbrev pub nothing : CellContent
 nothing = record { value = None; is_one = false }
 
 -- for each column there is what the row's cell says
-abbrev pub HasSaid : List Kind → List (List ℕ) → List Said → Type 0
+abbrev pub HasSaid : List Kind → List (List ℕ) → List CellContent → Type 0
 HasSaid kinds row said =
-    (k : ℕ) → k < length kinds → slice_index_or said k nothing ≡ said_in (slice_index_or kinds k Value) (cell_at k row)
+    (k : ℕ) → k < length kinds → slice_index_or said k nothing ≡ content_in (slice_index_or kinds k Value) (cell_at k row)
 
 -- the samples at this time of the inputs whose columns these are, of which the first has this number
-abbrev pub said_samples : ℕ → ℕ → List ℕ → List Said → List Sample
+abbrev pub said_samples : ℕ → ℕ → List ℕ → List CellContent → List Sample
 said_samples time number [] said = []
 said_samples time number (column ∷ columns) said =
     sample_of time number (slice_index_or said column nothing).value ++ said_samples time (number + 1) columns said
 
 -- the times of the events whose columns these are, with this time after those of each event that occurs
-abbrev pub times_with : ℕ → List ℕ → List Said → List (List ℕ) → List (List ℕ)
+abbrev pub times_with : ℕ → List ℕ → List CellContent → List (List ℕ) → List (List ℕ)
 times_with time (column ∷ columns) said (times ∷ events) =
     (if (slice_index_or said column nothing).is_one then times ++ time ∷ [] else times) ∷ times_with time columns said events
 times_with time _ said events = events

@@ -7,7 +7,7 @@ ghost use Rattle.dia_tokens.specs.Values.{digits_value};
 ghost use Rattle.trace_rows.specs.Cells.{are_digits, cell_fits, is_time, value_in};
 ghost use Rattle.trace_rows.specs.declared.cell.Kind.TheVariants.{Mark, Value};
 ghost use Rattle.trace_rows.specs.declared.cell.TheConstants.{FEW_DIGITS};
-ghost use Rattle.trace_rows.specs.Columns.{negative_in, positive_in, said_in};
+ghost use Rattle.trace_rows.specs.Columns.{negative_in, positive_in, content_in};
 
 /// What a column holds.
 #[derive(Clone, Copy, Debug, PartialEq, Eq)]
@@ -130,7 +130,7 @@ pub(crate) fn time_in(cell: &[u8]) -> Option<u64>
 
 /// What a cell says.
 #[derive(Clone, Copy)]
-pub(crate) struct Said {
+pub(crate) struct CellContent {
     /// The value, in an input's column.
     pub(crate) value: Option<i64>,
     /// Whether the cell is `1`, by which an event occurs.
@@ -151,10 +151,10 @@ fn input_value(cell: &[u8]) -> Option<Option<i64>>
 }
 
 /// What the cell says in a column of this kind, if it is of the column's form. A mark says no value.
-pub(crate) fn said_in(kind: Kind, cell: &[u8]) -> Option<Said>
+pub(crate) fn content_in(kind: Kind, cell: &[u8]) -> Option<CellContent>
     ensures { MatchOption result
         (cell_fits kind cell.now ≡ false)
-        (λ said. (cell_fits kind cell.now ≡ true) × (said ≡ said_in kind cell.now)) }
+        (λ said. (cell_fits kind cell.now ≡ true) × (said ≡ content_in kind cell.now)) }
 {
     let is_one = cell == b"1".as_slice();
     let value = match kind {
@@ -162,5 +162,5 @@ pub(crate) fn said_in(kind: Kind, cell: &[u8]) -> Option<Said>
         Kind::Mark if cell.is_empty() || cell == b"0".as_slice() || is_one => None,
         Kind::Mark => return None,
     };
-    Some(Said { value, is_one })
+    Some(CellContent { value, is_one })
 }

@@ -14,7 +14,7 @@ ghost use Rattle.trace_rows.specs.Values.{event_times, samples_of};
 ghost use Rattle.trace_rows.specs.declared.fail.TraceCode.{TraceCode as AnyCode};
 ghost use Rattle.trace_rows.specs.declared.fail.TraceFail.TheVariants.{Refused};
 
-use crate::cell::{Kind, Said, said_in, time_in};
+use crate::cell::{CellContent, Kind, content_in, time_in};
 use crate::fail::{TraceCode, TraceFail, TraceFault};
 use crate::header::kinds;
 use crate::section::Records;
@@ -38,7 +38,7 @@ pub struct RowValues {
 }
 
 /// The time of a row with a cell for each column, if its cells are of their forms. What they say is then in `said`.
-fn row_time(kinds: &[Kind], row: &ByteRecord, said: &mut [Said]) -> Option<u64>
+fn row_time(kinds: &[Kind], row: &ByteRecord, said: &mut [CellContent]) -> Option<u64>
     requires whole { length (fields_of row.now) ≡ length kinds.now + 1 }
     requires places { length said.old ≡ length kinds.now }
     ensures time { MatchOption result
@@ -47,7 +47,7 @@ fn row_time(kinds: &[Kind], row: &ByteRecord, said: &mut [Said]) -> Option<u64>
     ensures said { OnSome result (HasSaid kinds.now (fields_of row.now) said.new) }
 {
     for column in 0..kinds.len() {
-        said[column] = said_in(kinds[column], row.get(column + 1)?)?;
+        said[column] = content_in(kinds[column], row.get(column + 1)?)?;
     }
     time_in(row.get(0)?)
 }
@@ -60,7 +60,7 @@ fn checked_row(
     number: usize,
     before: Option<u64>,
     row: &ByteRecord,
-    said: &mut [Said],
+    said: &mut [CellContent],
 ) -> Result<u64, TraceCode>
     requires few { length kinds.now + 1 < 2 ^ 64 }
     requires places { length said.old ≡ length kinds.now }
@@ -92,10 +92,10 @@ fn checked_row(
 }
 
 /// Room for what the cells of a row with so many columns say.
-fn nothing_said(alloc: Global, columns: usize) -> Result<Vec<Said>, NoMemory>
+fn no_contents(alloc: Global, columns: usize) -> Result<Vec<CellContent>, NoMemory>
     ensures { IfOk result (λ said. length said.items ≡ columns) }
 {
-    let nothing = Said {
+    let nothing = CellContent {
         value: None,
         is_one: false,
     };
@@ -161,7 +161,7 @@ pub fn row_values(
         (records_left rows.old) lines.now) ≡ Some (line, code) }
 {
     let columns = columns_of(alloc, inputs, events, header)?;
-    let mut said = nothing_said(alloc, columns.kinds.len())?;
+    let mut said = no_contents(alloc, columns.kinds.len())?;
     let mut marked = no_times(alloc, events.len())?;
     let mut samples = List::new(alloc);
     let mut row = ByteRecord::new(alloc);

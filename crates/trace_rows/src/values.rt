@@ -5,7 +5,7 @@ ghost use Rattle.csv.specs.Records.{fields_of};
 ghost use Rattle.trace_rows.specs.Columns.{nothing, said_samples, times_with};
 ghost use Rattle.dbp_plan.specs.NameLists.{index_of};
 
-use crate::cell::Said;
+use crate::cell::CellContent;
 use crate::header::index_of;
 use csv::ByteRecord;
 use dbp_plan::{Input, List, Name, NoMemory, Sample};
@@ -55,13 +55,13 @@ pub fn no_times(alloc: Global, events: usize) -> Result<Vec<List<u64>>, NoMemory
 }
 
 /// What is said in the column; nothing if there is no such column.
-fn said_at(said: &[Said], column: usize) -> Said
+fn content_at(said: &[CellContent], column: usize) -> CellContent
     ensures { result ≡ slice_index_or said.now column nothing }
 {
     if column < said.len() {
         said[column]
     } else {
-        Said {
+        CellContent {
             value: None,
             is_one: false,
         }
@@ -73,7 +73,7 @@ pub(crate) fn push_samples(
     found: &mut List<Sample>,
     time: u64,
     columns: &[usize],
-    said: &[Said],
+    said: &[CellContent],
 ) -> Result<(), NoMemory>
     requires few { length found.old + length columns.now < 2 ^ 32 }
     ensures samples { OnOk result
@@ -81,7 +81,7 @@ pub(crate) fn push_samples(
     ensures few { OnOk result (length found.new ≤ length found.old + length columns.now) }
 {
     for (input, column) in columns.iter().enumerate() {
-        if let Some(value) = said_at(said, *column).value {
+        if let Some(value) = content_at(said, *column).value {
             found.push(Sample {
                 time,
                 input: input as u32,
@@ -98,14 +98,14 @@ pub(crate) fn push_times(
     events: &mut [List<u64>],
     time: u64,
     columns: &[usize],
-    said: &[Said],
+    said: &[CellContent],
 ) -> Result<(), NoMemory>
     requires columns { length columns.now ≡ length events.old }
     requires few { All (λ times. length times + 1 < 2 ^ 32) events.old }
     ensures { OnOk result (events.new ≡ times_with time columns.now said.now events.old) }
 {
     for (event, column) in columns.iter().enumerate() {
-        if said_at(said, *column).is_one {
+        if content_at(said, *column).is_one {
             events[event].push(time)?;
         }
     }

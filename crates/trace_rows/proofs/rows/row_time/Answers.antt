@@ -2,7 +2,7 @@ use Rattle.std.proofs.Common.{◌≡◌, ◌+◌, Some, None, get_or, sym, arith
 use Rattle.csv.specs.Records.{field_at, fields_of}
 use Rattle.csv.proofs.RecordFacts.{field-there}
 use Rattle.trace_rows.specs.declared.cell.Kind.TheVariants.{Value}
-use Rattle.trace_rows.specs.Columns.{HasSaid, cell_at, said_in}
+use Rattle.trace_rows.specs.Columns.{HasSaid, cell_at, content_in}
 use Rattle.trace_rows.proofs.ColumnCells.{cell-of-column, one-more-said, on-some}
 use Rattle.trace_rows.proofs.RowFits.{all-fit, fits-later, fits-not}
 use Rattle.trace_rows.proofs.rows.row_time.Goals as goal
@@ -23,7 +23,7 @@ loop-column-preserved c =
     let row = fields_of c.args.row.now in
     let cell : field_at row (c.loop-column.column + 1) ≡ Some c.in_ok-get.field-0.now = sym (rw c.in_ok-get.was at c.get.ensures.value) in
     let at : c.in_ok-get.field-0.now ≡ cell_at c.loop-column.column row = cell-of-column row c.loop-column.column c.in_ok-get.field-0.now cell in
-    let one : c.in_ok-said.field-0 ≡ said_in (get_or c.args.kinds.now c.loop-column.column Value) (cell_at c.loop-column.column row) = rw at at c.in_ok-said.ensures.1 in
+    let one : c.in_ok-said.field-0 ≡ content_in (get_or c.args.kinds.now c.loop-column.column Value) (cell_at c.loop-column.column row) = rw at at c.in_ok-said.ensures.1 in
     record {
       fits = fits-later c.args.kinds.now row c.loop-column.column Value c.in_ok-get.field-0.now c.loop-column.invariant.fits (omega arith) cell c.in_ok-said.ensures.0;
       before = one-more-said c.args.kinds.now row c.loop-column.said c.loop-column.column c.in_ok-said.field-0 (omega (arith, c.requires.places)) c.loop-column.invariant.before one;

@@ -11,7 +11,7 @@ use Rattle.trace_rows.specs.Columns.{HasSaid, nothing, said_samples, times_with}
 use Rattle.trace_rows.specs.Headers.{kind_of_column}
 use Rattle.trace_rows.specs.Records.{records_left}
 use Rattle.trace_rows.specs.Rows.{fault_after, last_time, row_fault, row_faults}
-use Rattle.trace_rows.specs.declared.cell.Said.{Said}
+use Rattle.trace_rows.specs.declared.cell.CellContent.{CellContent}
 use Rattle.trace_rows.specs.declared.rows.TheConstants.{MAX_ROWS}
 use Rattle.trace_rows.specs.Values.{event_times, row_samples, samples_of}
 use Rattle.trace_rows.proofs.ColumnCells.{mark-of-event, row-samples}
@@ -99,7 +99,7 @@ loop-row-preserved c =
       sampled =
           pushed ∙ ap (λ old. old ++ row_samples names 0 inputs row) c.loop-row.invariant.sampled
           ∙ flat_map_more (row_samples names 0 inputs) [] (take k rows) row ∙ ap (flat_map (row_samples names 0 inputs)) (sym (take-next rows k row below is));
-      places = ap (λ (ss : List Said). length ss) (refilled c.loop-row.said.len c.loop-row.said.items said len same) ∙ same ∙ c.loop-row.invariant.places;
+      places = ap (λ (ss : List CellContent). length ss) (refilled c.loop-row.said.len c.loop-row.said.items said len same) ∙ same ∙ c.loop-row.invariant.places;
       room = few-after c.args.until kinds (k + 1) c.loop-row.before row told;
       few = omega (arith, c.in_ok-push_samples-in-Ok.ensures.few, c.loop-row.invariant.few, column_count, c.requires.inputs);
     }

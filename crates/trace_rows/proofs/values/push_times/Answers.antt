@@ -1,9 +1,9 @@
 use Rattle.std.proofs.Common.{◌≡◌, ◌<◌, ℕ, List, [], ◌∷◌, ◌++◌, length, get_or, set, sym, ap, ◌∙◌, arith}
 use Rattle.trace_rows.specs.Columns.{nothing}
-use Rattle.trace_rows.specs.declared.cell.Said.{Said}
+use Rattle.trace_rows.specs.declared.cell.CellContent.{CellContent}
 use Rattle.trace_rows.proofs.EventTimes.{bare-event, event-still, marked-event}
 use Rattle.trace_rows.proofs.values.push_times.Goals as goal
-use Rattle.trace_rows.proofs.values.push_times.Goals.{then-said_at+in_ok-push, else-said_at}
+use Rattle.trace_rows.proofs.values.push_times.Goals.{then-content_at+in_ok-push, else-content_at}
 
 pub push-requires : goal.push-requires
 push-requires c =
@@ -23,12 +23,12 @@ loop-event-preserved c =
     let events = c.args.events.now in
     let k = c.loop-event.event in
     let below : k < length columns = omega arith in
-    let one : c.said_at.result.is_one ≡ (get_or said (get_or columns k 0) nothing).is_one = ap (λ (s : Said). s.is_one) c.said_at.ensures in
-    elim c.if-said_at.branch [
-      | then-said_at+in_ok-push w ↦
+    let one : c.content_at.result.is_one ≡ (get_or said (get_or columns k 0) nothing).is_one = ap (λ (s : CellContent). s.is_one) c.content_at.ensures in
+    elim c.if-content_at.branch [
+      | then-content_at+in_ok-push w ↦
           let d = w.index-events-event.result in
           w.events-is ∙ ap (λ (ts : List ℕ). set c.loop-event.events k ts) w.in_ok-push.ensures.ok
           ∙ (λ j. set (c.loop-event.invariant j) k (get_or (c.loop-event.invariant j) k d ++ time ∷ []))
-          ∙ marked-event time columns said events k below d c.requires.columns (sym one ∙ w.if-said_at.true)
-      | else-said_at w ↦ w.events-is ∙ c.loop-event.invariant ∙ bare-event time columns said events k below (sym one ∙ w.if-said_at.false)
+          ∙ marked-event time columns said events k below d c.requires.columns (sym one ∙ w.if-content_at.true)
+      | else-content_at w ↦ w.events-is ∙ c.loop-event.invariant ∙ bare-event time columns said events k below (sym one ∙ w.if-content_at.false)
     ]
