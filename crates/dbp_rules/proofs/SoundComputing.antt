@@ -10,7 +10,7 @@ use Rattle.dbp_plan.specs.Samples.{input_value}
 use Rattle.dbp_plan.specs.Lookups.{declared_task, no_declared_task, no_read}
 use Rattle.sync_meaning.specs.Meaning.{outs_in}
 use Rattle.sync_meaning.specs.SomeMeaningEnvs.{IsEnvFrom, env_from-is, states_after}
-use Rattle.sync_meaning.specs.SomeMeaningRows.{Solves, env_at, given_at, states_at, states_at-more, word_at}
+use Rattle.sync_meaning.specs.SomeMeaningRows.{Solves, env_at, given_at, states_at, states_at-more, value_at}
 use Rattle.dbp_plan.specs.ListItems.{same_item}
 use Rattle.dbp_rules.specs.Moves as move
 use Rattle.dbp_rules.specs.Lookups.{read_at, time, wired_task}
@@ -53,7 +53,7 @@ module _ (p : Plan) (w : Wiring) (rows : ℕ → ℕ → List ℤ) (own : IsOwn 
   states = states_at p.diagram p.samples p.batches rows i d m
 
   abbrev words : List ℤ
-  words = map (word_at p.diagram p.samples p.batches rows now) d.reads
+  words = map (value_at p.diagram p.samples p.batches rows now) d.reads
 
   abbrev given : List ℤ
   given = given_at p.diagram p.samples p.batches rows d now states
@@ -79,8 +79,8 @@ module _ (p : Plan) (w : Wiring) (rows : ℕ → ℕ → List ℤ) (own : IsOwn 
       ap (λ (x : ℕ). get_or work.now (length d.states + length d.senses + x) (pos 0)) (sym n.2)
       ∙ taken
       ∙ ap (λ (x : ℕ). meant_value p rows i (m + 1) (get_or d.reads x no_read)) n.2
-      ∙ ap (λ (x : ℕ). word_at p.diagram p.samples p.batches rows (get_or (times_of p.batches i) x 0) (get_or d.reads j no_read)) time
-      ∙ sym (get_or-map (word_at p.diagram p.samples p.batches rows now) d.reads j no_read (pos 0) inside)
+      ∙ ap (λ (x : ℕ). value_at p.diagram p.samples p.batches rows (get_or (times_of p.batches i) x 0) (get_or d.reads j no_read)) time
+      ∙ sym (get_or-map (value_at p.diagram p.samples p.batches rows now) d.reads j no_read (pos 0) inside)
 
   -- what the instance begins with
   given_is : (senses : List ℤ) → senses ≡ sense_values → take (let_base d) (move.with_senses d senses work).now ≡ given

@@ -11,7 +11,7 @@ use Rattle.dbp_plan.proofs.TableRows.{has_rows}
 use Rattle.sync_meaning.proofs.OneMeaning.{one_meaning, read_is}
 use Rattle.sync_meaning.specs.Meaning.{IsMeaning, IsRead}
 use Rattle.sync_meaning.specs.SomeMeaning.{meaning_of, meaning_of-is}
-use Rattle.sync_meaning.specs.SomeMeaningRows.{word_at}
+use Rattle.sync_meaning.specs.SomeMeaningRows.{value_at}
 use Rattle.sync_meaning.specs.SomeMeaningTables.{row_in}
 use Rattle.dbp_rules.specs.Lookups.{read_at, task, task_entry, wired_task}
 use Rattle.dbp_rules.specs.Promises.{TakesTheMeaning}
@@ -52,7 +52,7 @@ take_meant p w table s i r own meaning sound named free =
     let one : (task s i).part.ended + 1 - 1 ≡ (task s i).part.ended = omega arith in
     let time : time_of p.batches i ((task s i).part.ended + 1) ≡ get_or (times_of p.batches i) (task s i).part.ended 0 = ap (λ (m : ℕ). get_or (times_of p.batches i) m 0) one in
     let there : slice_get p.diagram.tasks i ≡ Some (declared_task p i) = slice_get-get_or p.diagram.tasks i no_declared_task named in
-    let is : IsRead p.diagram.links (λ v. count_until (times_of p.batches v) (get_or (times_of p.batches i) (task s i).part.ended 0)) table read (word_at p.diagram p.samples p.batches (table_row table) (get_or (times_of p.batches i) (task s i).part.ended 0) (get_or (declared_task p i).reads r no_read)) =
+    let is : IsRead p.diagram.links (λ v. count_until (times_of p.batches v) (get_or (times_of p.batches i) (task s i).part.ended 0)) table read (value_at p.diagram p.samples p.batches (table_row table) (get_or (times_of p.batches i) (task s i).part.ended 0) (get_or (declared_task p i).reads r no_read)) =
     read_is p.diagram p.samples p.batches table meaning i (task s i).part.ended r (declared_task p i) (get_or (declared_task p i).reads r no_read) there room has in
     record {
       word = meant_value p (table_row table) i ((task s i).part.ended + 1) (get_or (declared_task p i).reads r no_read);
@@ -60,7 +60,7 @@ take_meant p w table s i r own meaning sound named free =
       meant = record {
         read = get_or (declared_task p i).reads r no_read;
         has_read = has;
-        is = subst (λ (t : ℕ). IsRead p.diagram.links (λ v. count_until (times_of p.batches v) t) table (get_or (declared_task p i).reads r no_read) (word_at p.diagram p.samples p.batches (table_row table) t (get_or (declared_task p i).reads r no_read))) (sym time) is;
+        is = subst (λ (t : ℕ). IsRead p.diagram.links (λ v. count_until (times_of p.batches v) t) table (get_or (declared_task p i).reads r no_read) (value_at p.diagram p.samples p.batches (table_row table) t (get_or (declared_task p i).reads r no_read))) (sym time) is;
       };
     }
 

@@ -5,7 +5,7 @@ use Rattle.dbp_plan.specs.declared.plan.Plan.{Plan}
 use Rattle.dbp_plan.specs.Occurrences.{time_of}
 use Rattle.dbp_plan.specs.Lookups.{declared_task, no_read}
 use Rattle.release_list.specs.Schedule.{claims, seen_by}
-use Rattle.sync_meaning.specs.SomeMeaningRows.{states_at, word_at}
+use Rattle.sync_meaning.specs.SomeMeaningRows.{states_at, value_at}
 use Rattle.dbp_rules.specs.Moves.{heard_order, claim_order}
 use Rattle.dbp_rules.specs.Lookups.{is_counted, link, read_at, slot_at, wired_task}
 use Rattle.dbp_rules.specs.Shapes.{link_in}
@@ -80,7 +80,7 @@ place_of_read p w i n = length (declared_task p i).states + length (declared_tas
 
 -- the word that the meaning gives the read in the instance
 abbrev pub meant_value : Plan → (ℕ → ℕ → List ℤ) → ℕ → ℕ → Read → ℤ
-meant_value p rows i n r = word_at p.diagram p.samples p.batches rows (time_of p.batches i n) r
+meant_value p rows i n r = value_at p.diagram p.samples p.batches rows (time_of p.batches i n) r
 
 -- ---- the parts
 

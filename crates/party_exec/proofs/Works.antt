@@ -63,7 +63,7 @@ meant_is p i m r word is =
     ap (λ (x : Read). meant_value p (meaning_row p) i m x) same
     ∙ here
     ∙ ap (λ (l : List ℤ). get_or l is.read.port (pos 0)) row
-    ∙ get_or_from_slice_get is.is.row is.read.port word (pos 0) is.is.has_word
+    ∙ get_or_from_slice_get is.is.row is.read.port word (pos 0) is.is.has_value
 
 module _ (p : Plan) (i : ℕ) (below : i < length (run_wiring p).tasks) (t : TaskPart) (work : WorkWords) (rows : TaskRows) (has : HasComputed p i t work rows) where
   abbrev w : TaskWiring
