@@ -8,3 +8,6 @@ pub mod LateTasks
 pub mod PieceEvents
 pub mod PieceActions
 pub mod Recordings
+pub mod SomeRecorded
+pub mod TickStages
+pub mod SomeRecord
