@@ -39,7 +39,7 @@ use Rattle.virtual_time.proofs.Releases.{brought, released}
 use Rattle.virtual_time.proofs.Running.{sum_zero}
 use Rattle.virtual_time.proofs.SomeRecorded.{releases_from}
 use Rattle.virtual_time.proofs.Steps.{busy_count_none, busy_count_one, ended_left, waits_from}
-use Rattle.virtual_time.proofs.TickStages.{Serves, Stands, come_to, ended_next, has_made, is_open, is_of, made_next, place_at, restaged, served_below}
+use Rattle.virtual_time.proofs.TickStages.{Serves, Stands, and_false, come_to, ended_next, has_made, is_open, is_of, made_next, place_at, restaged, served_below}
 use Rattle.virtual_time.proofs.Whole.{named_there}
 
 -- ---- the start
@@ -154,10 +154,6 @@ some_served serve t c (suc n) z is less = elim (cases_eq c n) [
       rw here (omega arith)
   | inr before ↦ omega (arith, some_served serve t c n z is (omega (arith, less, before)))
 ]
-
-and_false : (a : Bool) → (a && false) ≡ false
-and_false true = refl
-and_false false = refl
 
 -- such a record, of events that stand before each tick's releases
 pub record HasRecord (p : Plan) (count : Count) (on : ℕ → ℕ) (serve : ℕ → ℕ → Option Instance) (cpus : ℕ) (front : ℕ → List Event) : Type 0 where

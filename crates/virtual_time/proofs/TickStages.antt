@@ -95,6 +95,10 @@ abbrev pub is_of : ℕ → Option Instance → Bool
 is_of i None = false
 is_of i (Some x) = x.task == i
 
+pub and_false : (a : Bool) → (a && false) ≡ false
+and_false true = refl
+and_false false = refl
+
 and_not : (a b c : Bool) → b ≡ c → (a && b) ≡ (a && c)
 and_not a b c same = ap (λ (d : Bool). a && d) same
 
@@ -209,7 +213,7 @@ module _ (p : Plan) (count : Count) (on : ℕ → ℕ) (serve : ℕ → ℕ → 
           let rest : ℕ = get_or s.rest x.task 0 in
           let served : ℕ = (declared_task p x.task).cost - get_or s.rest x.task 0 in
           let places : ℕ → Place = λ j. place_at p j ((has_made on serve t) c j) (get_or s.rest j 0) in
-          let not_yet : (has_made on serve t) c x.task ≡ false = rw (l.on_c, le-ltb c c (omega arith)) (and_none (is_of x.task (serve c t))) in
+          let not_yet : (has_made on serve t) c x.task ≡ false = rw (l.on_c, le-ltb c c (omega arith)) (and_false (is_of x.task (serve c t))) in
           let own : place_at p x.task ((has_made on serve t) c x.task) (get_or s.rest x.task 0) ≡ place_of p x.task (get_or s.rest x.task 0) = ap (λ (m : Bool). place_at p x.task m (get_or s.rest x.task 0)) not_yet in
           let may : (r : Recorder) (vs : List Event) (q : ℕ → Place) → IsRecorded p count b vs q s.ends r → MayStep (wiring_of p count) (state_in r) x.task = λ r vs q g. serves.may t b (λ k. t) s.rest s.ends s.at until (state_in r) g.ended g.aimed c x is refl in
           let gate : (task (state_in s.recorder) x.task).words.gate ≡ (task (state_in s.recorder) x.task).part.ended + 1 =
@@ -249,10 +253,6 @@ module _ (p : Plan) (count : Count) (on : ℕ → ℕ) (serve : ℕ → ℕ → 
                 ]);
             few = s.few;
           }
-        where
-          and_none : (a : Bool) → (a && false) ≡ false
-          and_none true = refl
-          and_none false = refl
 
       pub made_next : Stands p count on serve b (λ k. t) (events ++ service_events_of p (serve c) (serve c t) t) ((has_made on serve t) (c + 1)) 0 most
       made_next = by (serve c t) refl
