@@ -417,7 +417,6 @@ module _ (p : Plan) (count : Count) (on : ℕ → ℕ) (serve : ℕ → ℕ → 
 
     pub some_record : HasRecord p count on serve cpus front
     some_record =
-        let limit : ℕ = 1000000001 in
         let there : Reaches 1000000001 = reaches 1000000001 in
         let last : there.b ≡ length p.batches = elim (cases_lt there.b (length p.batches)) [
           | inl more ↦

@@ -208,11 +208,7 @@ module _ (p : Plan) (count : Count) (on : ℕ → ℕ) (serve : ℕ → ℕ → 
 
       made_some : (x : Instance) → serve c t ≡ Some x → Stands p count on serve b (λ k. t) (events ++ service_events_of p (serve c) (serve c t) t) ((has_made on serve t) (c + 1)) 0 most
       made_some x is =
-          let i : ℕ = x.task in
           let l : IsLast (λ k. t) s.rest x = is_last (λ k. t) s.rest s.ends s.at refl x is in
-          let rest : ℕ = get_or s.rest x.task 0 in
-          let served : ℕ = (declared_task p x.task).cost - get_or s.rest x.task 0 in
-          let places : ℕ → Place = λ j. place_at p j ((has_made on serve t) c j) (get_or s.rest j 0) in
           let not_yet : (has_made on serve t) c x.task ≡ false = rw (l.on_c, le-ltb c c (omega arith)) (and_false (is_of x.task (serve c t))) in
           let own : place_at p x.task ((has_made on serve t) c x.task) (get_or s.rest x.task 0) ≡ place_of p x.task (get_or s.rest x.task 0) = ap (λ (m : Bool). place_at p x.task m (get_or s.rest x.task 0)) not_yet in
           let may : (r : Recorder) (vs : List Event) (q : ℕ → Place) → IsRecorded p count b vs q s.ends r → MayStep (wiring_of p count) (state_in r) x.task = λ r vs q g. serves.may t b (λ k. t) s.rest s.ends s.at until (state_in r) g.ended g.aimed c x is refl in
@@ -350,7 +346,6 @@ module _ (p : Plan) (count : Count) (on : ℕ → ℕ) (serve : ℕ → ℕ → 
 
         ended_later : 1 < get_or s.rest x.task 0 → Stands p count on serve b ((come_to t) (c + 1)) (events ++ end_events_of p (serve c) (serve c t) (suc t)) ((is_open on serve t) (c + 1)) ((served_below serve t) (c + 1)) most
         ended_later more =
-            let v : ℕ = get_or s.rest x.task 0 - 1 in
             let rest' : List ℕ = set s.rest x.task (get_or s.rest x.task 0 - 1) in
             let own_rest : get_or (set s.rest x.task (get_or s.rest x.task 0 - 1)) x.task 0 ≡ get_or s.rest x.task 0 - 1 = get_or-set_same s.rest x.task (get_or s.rest x.task 0 - 1) 0 inside in
             let nothing : end_events_of p (serve c) (serve c t) (suc t) ≡ [] = ap (λ (o : Option Instance). end_events_of p (serve c) o (suc t)) is ∙ no_end p (serve c) x (suc t) (omega (arith, left_now, more)) in
@@ -378,7 +373,6 @@ module _ (p : Plan) (count : Count) (on : ℕ → ℕ) (serve : ℕ → ℕ → 
 
         ended_here : 1 ≡ get_or s.rest x.task 0 → Stands p count on serve b ((come_to t) (c + 1)) (events ++ end_events_of p (serve c) (serve c t) (suc t)) ((is_open on serve t) (c + 1)) ((served_below serve t) (c + 1)) most
         ended_here one =
-            let e : ℕ = (come_to t) c (on x.task) + 1 in
             let ends' : List (List ℕ) = set s.ends x.task (get_or s.ends x.task [] ++ ((come_to t) c (on x.task) + 1) ∷ []) in
             let own_rest : get_or (set s.rest x.task 0) x.task 0 ≡ 0 = get_or-set_same s.rest x.task 0 0 inside in
             let own_ends : length (get_or (set s.ends x.task (get_or s.ends x.task [] ++ ((come_to t) c (on x.task) + 1) ∷ [])) x.task []) ≡ length (get_or s.ends x.task []) + 1 =
