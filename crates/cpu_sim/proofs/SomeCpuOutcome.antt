@@ -92,7 +92,7 @@ front p t = events_before p (services p) t ++ ends_below p (services p) cpu_coun
 
 module _ (p : Plan) where
   first_front : front p 0 ≡ []
-  unfolding front, events_before
+  unfolding front events_before
   first_front = refl
 
   -- with the release and the services of the tick

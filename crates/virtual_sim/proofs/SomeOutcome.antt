@@ -36,7 +36,7 @@ nobody : (x : Instance) → None ≢ Some x
 nobody x same = cc (same)
 
 waiting : (p : Plan) (c : ℕ) → ServesWaiting p (serve p c)
-waiting p zero = serves_waiting p (service p) (service_is p)
+waiting p zero t x is = serves_waiting p (service p) (service_is p) t x is
 waiting p (suc c) t x is = absurd (nobody x is)
 
 only_one : (p : Plan) (c t : ℕ) (x : Instance) → serve p c t ≡ Some x → 0 ≡ c
@@ -86,7 +86,7 @@ front p t = events_before p (service p) t ++ end_events_at p (service p) t
 
 module _ (p : Plan) where
   first_front : front p 0 ≡ []
-  unfolding front, events_before
+  unfolding front events_before
   first_front = refl
 
   -- with the release and the service of the tick

@@ -74,22 +74,21 @@ pub record Comes (p : Plan) (b t : ℕ) : Type 0 where
 start_stands : (p : Plan) (count : Count) (on : ℕ → ℕ) (serve : ℕ → ℕ → Option Instance) → Stands p count on serve 0 (λ c. 0) [] (λ i. false) 0 0
 start_stands p count on serve =
     let (r, first) = some_start p count in
-    let w : Wiring = wiring_of p count in
     let rest : List ℕ = replicate (length p.diagram.tasks) 0 in
     let ends : List (List ℕ) = replicate (length p.diagram.tasks) [] in
     let make : ℕ → TaskState = λ i. start_task (wired_task (wiring_of p count) i) (declared_task p i) in
     let range : List ℕ = range_with_len 0 (length (wiring_of p count).tasks) in
-    let none : (i : ℕ) → i < length p.diagram.tasks → get_or (replicate (length p.diagram.tasks) 0) i 0 ≡ 0 = λ i il. get_or-replicate (length p.diagram.tasks) i 0 0 il in
-    let nil : (i : ℕ) → i < length p.diagram.tasks → length (get_or (replicate (length p.diagram.tasks) []) i []) ≡ 0 = λ i il. ap (length {A = ℕ}) (get_or-replicate (length p.diagram.tasks) i [] [] il) in
-    let long : length (replicate (length p.diagram.tasks) 0) ≡ length p.diagram.tasks = length-replicate (length p.diagram.tasks) 0 in
-    let zero' = sum_zero (replicate (length p.diagram.tasks) 0) (λ i il. none i (omega (arith, il, long))) in
+    let none : (i : ℕ) → i < length p.diagram.tasks → get_or rest i 0 ≡ 0 = λ i il. get_or-replicate (length p.diagram.tasks) i 0 0 il in
+    let nil : (i : ℕ) → i < length p.diagram.tasks → length (get_or ends i []) ≡ 0 = λ i il. ap (length {A = ℕ}) (get_or-replicate (length p.diagram.tasks) i [] [] il) in
+    let long : length rest ≡ length p.diagram.tasks = length-replicate (length p.diagram.tasks) 0 in
+    let zero' : sum rest ≡ 0 = sum_zero rest (λ i il. none i (omega (arith, il, long))) in
     record {
       rest = rest;
       ends = ends;
       at = record {
         rests = long;
         lists = length-replicate (length p.diagram.tasks) [];
-        counts = λ i il. let n = nil i il in let z = busy_count_none (get_or (replicate (length p.diagram.tasks) 0) i 0) (none i il) in omega (arith, n, z);
+        counts = λ i il. let n = nil i il in let z = busy_count_none (get_or rest i 0) (none i il) in omega (arith, n, z);
         ended = λ i k il kl. let n = nil i il in absurd (omega (arith, n, kl));
         past = λ i k il kl. let n = nil i il in absurd (omega (arith, n, kl));
         under = λ i il some. let z = none i il in absurd (omega (arith, z, some));
