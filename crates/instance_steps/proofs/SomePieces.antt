@@ -1,8 +1,7 @@
 -- For each piece of an instance there is a recorder that has made it: its begin, its reads of a tick, its end.
-use Rattle.std.proofs.Common.{◌≡◌, ℕ, ◌+◌, ◌<◌, List, [], ◌∷◌, ◌++◌, length, get_or, set, slice_get, Some, refl, sym, ap, ◌∙◌, subst, arith, inl, inr}
+use Rattle.std.proofs.Common.{◌≡◌, ℕ, ◌+◌, ◌<◌, ◌++◌, length, get_or, set, refl, ◌∙◌, arith, inl, inr}
 use Rattle.std.specs.Prelude.{replicate}
 use Rattle.std.proofs.lemmas.Bool.{cases_eq}
-use Rattle.dbp_plan.specs.declared.plan.Plan.{Plan}
 use Rattle.dbp_plan.specs.declared.table.Table.{Table}
 use Rattle.dbp_plan.specs.declared.table.TaskRows.{TaskRows}
 use Rattle.dbp_plan.specs.ListItems.{at_place}
@@ -13,7 +12,6 @@ use Rattle.dbp_rules.specs.Promises.{IsClaimFilled}
 use Rattle.dbp_rules.specs.declared.parts.Place.TheVariants as place
 use Rattle.dbp_rules.specs.declared.step.Count.TheVariants.{All}
 use Rattle.dbp_rules.specs.declared.step.Step.TheVariants.{Start, Hear, Look, Take, Shut, Put, Done, End}
-use Rattle.dbp_core.specs.declared.machine.Core.{Core}
 use Rattle.instance_steps.specs.EndedRows.{HasEndedRows}
 use Rattle.instance_steps.specs.Events.{begin_events, end_events, look_events, put_events, read_events, step_of}
 use Rattle.instance_steps.specs.Recorders.{plan_in, state_in, table_in, wiring_in}
@@ -38,8 +36,8 @@ module _ (a : Recorder) (i : ℕ) (named : i < length (plan_in a).diagram.tasks)
       (λ b n. AddsPiece a b (replicate n (step_of (Hear i))) i (task (state_in a) i).part.ended (hear_place (wired_task (wiring_in a) i) n)) a (1 + links_of a i)
       (begins.hears_none a i named may at)
       (λ b n below so_far.
-          let (c, step, kept) = some_step b (Hear i) (begins.hear_may a i named may b n below so_far) in
-          (c, begins.hear_more a i named may b n below so_far c step, kept))
+      let (c, step, kept) = some_step b (Hear i) (begins.hear_may a i named may b n below so_far) in
+      (c, begins.hear_more a i named may b n below so_far c step, kept))
       (1 + links_of a i) (omega arith) in
       (b, begins.hears_all a i named may b (1 + links_of a i) refl heard, same)
 
@@ -62,8 +60,8 @@ module _ (a : Recorder) (i : ℕ) (named : i < length (plan_in a).diagram.tasks)
       (λ b n. AddsPiece a b (put_events i n) i (task (state_in a) i).part.ended (put_place (outs_of a i) n)) a (outs_of a i)
       (ends.puts_none a i named may at)
       (λ b n below so_far.
-          let (c, step, kept) = some_step b (Put i n) (ends.put_may a i named may b n below so_far) in
-          (c, ends.put_more a i named may b n below so_far c step, kept))
+      let (c, step, kept) = some_step b (Put i n) (ends.put_may a i named may b n below so_far) in
+      (c, ends.put_more a i named may b n below so_far c step, kept))
       (outs_of a i) (omega arith) in
       (b, ends.puts_all a i named may b put, same)
 
@@ -108,10 +106,11 @@ module _ (a : Recorder) (i : ℕ) (named : i < length (plan_in a).diagram.tasks)
       let (b, piece, same) = some_end_steps at in
       let (old, there) = at_place (table_in b).tasks i (rows_there a b i _ piece named has same) in
       let more : TaskRows = record { ports = old.ports; words = old.words ++ (task (state_in b) i).work.row } in
-      let later : Table = record { tasks = set (table_in b).tasks i more } in
-      (record { core = b.core; steps = b.steps; table = later },
-       record {
-         steps = record { plan = piece.steps.plan; wiring = piece.steps.wiring; added = piece.steps.added; steps = piece.steps.steps; plays = piece.steps.plays };
-         changes = piece.changes;
-       },
-       row_gained a b i _ piece named has same (task (state_in b) i).work.row refl old there more later refl refl refl)
+      let later : Table = record { tasks = set (table_in b).tasks i more } in (
+        record { core = b.core; steps = b.steps; table = later },
+        record {
+          steps = record { plan = piece.steps.plan; wiring = piece.steps.wiring; added = piece.steps.added; steps = piece.steps.steps; plays = piece.steps.plays };
+          changes = piece.changes;
+        },
+        row_gained a b i _ piece named has same (task (state_in b) i).work.row refl old there more later refl refl refl,
+      )

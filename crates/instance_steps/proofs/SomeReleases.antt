@@ -1,11 +1,11 @@
 -- For each batch that comes next there is a recorder that has released it.
-use Rattle.std.proofs.Common.{◌≡◌, ◌≢◌, ℕ, ◌+◌, ◌<◌, false, List, ◌∷◌, length, get_or, map, slice_get, Some, refl, sym, ap, ◌∙◌, subst, arith, inl, inr}
+use Rattle.std.proofs.Common.{◌≡◌, ◌≢◌, ℕ, ◌+◌, ◌<◌, false, length, get_or, map, slice_get, Some, refl, sym, ◌∙◌, subst, arith, inl, inr}
 use Rattle.std.specs.List.{flat_map}
 use Rattle.std.proofs.lemmas.Bool.{cases_eq}
 use Rattle.dbp_plan.specs.declared.plan.Plan.{Plan}
 use Rattle.dbp_plan.specs.Occurrences.{names, time_of}
 use Rattle.release_list.specs.declared.release.Release.TheVariants as release
-use Rattle.release_list.specs.Releases.{batch_start, claims_of, links_into}
+use Rattle.release_list.specs.Releases.{batch_start, claims_of}
 use Rattle.dbp_rules.specs.Lookups.{task, task_entry, wired_task}
 use Rattle.dbp_rules.specs.Promises.{IsLeastAim}
 use Rattle.dbp_rules.specs.declared.step.Step.TheVariants.{Seen, Aim, Claim, OpenGate}
@@ -69,8 +69,8 @@ some_claimed a i named next_ =
     (λ b n. HasClaimed a i b n × ((state_in b).releaser.tasks ≡ (state_in a).releaser.tasks)) a (length (into_of a i))
     (claims.claimed_none a i named next_, refl)
     (λ b n below so_far.
-        let (c, step, kept) = some_step b (Claim (get_or (into_of a i) n 0)) (claims.link_may a i named next_ b n below so_far.0) in
-        (c, (claims.claimed_more a i named next_ b n below so_far.0 c step, claims.claimed_entries a i named next_ b n below so_far.0 c step ∙ so_far.1), kept))
+    let (c, step, kept) = some_step b (Claim (get_or (into_of a i) n 0)) (claims.link_may a i named next_ b n below so_far.0) in
+    (c, (claims.claimed_more a i named next_ b n below so_far.0 c step, claims.claimed_entries a i named next_ b n below so_far.0 c step ∙ so_far.1), kept))
     (length (into_of a i)) (omega arith) in
     (b, claims.claimed_all a i named next_ b (length (into_of a i)) refl made.0, made.1, same)
 
@@ -85,9 +85,9 @@ module _ (a : Recorder) (number : ℕ) (there : number < length (plan_in a).batc
       (λ b n. HasAimed a number b n × KeepsEntries a number b n) a (length (tasks_of a number))
       (aims.aimed_none a number there released ended, λ j apart. refl)
       (λ b n below so_far.
-          let (c, one, others, kept) = some_aimed b (get_or (tasks_of a number) n 0) (time_at a number)
-          (aims.next_aim a number there released ended b n below so_far.0 so_far.1) (aims.next_ended a number there released ended b n below so_far.0 so_far.1) (aims.next_first a number there released ended b n below so_far.0 so_far.1) in
-          (c, (aims.aimed_more a number there released ended b n below so_far.0 so_far.1 c one, aims.entries_more a number there released ended b n below so_far.0 so_far.1 c one others), kept))
+      let (c, one, others, kept) = some_aimed b (get_or (tasks_of a number) n 0) (time_at a number)
+      (aims.next_aim a number there released ended b n below so_far.0 so_far.1) (aims.next_ended a number there released ended b n below so_far.0 so_far.1) (aims.next_first a number there released ended b n below so_far.0 so_far.1) in
+      (c, (aims.aimed_more a number there released ended b n below so_far.0 so_far.1 c one, aims.entries_more a number there released ended b n below so_far.0 so_far.1 c one others), kept))
       (length (tasks_of a number)) (omega arith) in
       (b, aims.aimed_all a number there released ended b (length (tasks_of a number)) refl made.0, aims.entries_all a number there released ended b (length (tasks_of a number)) refl made.1, same)
 
@@ -99,8 +99,8 @@ module _ (a : Recorder) (number : ℕ) (there : number < length (plan_in a).batc
       (λ b n. HasClaimedTasks a number b n × ((state_in b).releaser.tasks ≡ (state_in a).releaser.tasks)) a (length (tasks_of a number))
       (claims.tasks_none a number there next_, refl)
       (λ b n below so_far.
-          let (c, one, entries, kept) = some_claimed b (get_or (tasks_of a number) n 0) (claims.next_named a number there next_ b n below so_far.0) (claims.next_claims a number there next_ b n below so_far.0) in
-          (c, (claims.tasks_more a number there next_ b n below so_far.0 c one, entries ∙ so_far.1), kept))
+      let (c, one, entries, kept) = some_claimed b (get_or (tasks_of a number) n 0) (claims.next_named a number there next_ b n below so_far.0) (claims.next_claims a number there next_ b n below so_far.0) in
+      (c, (claims.tasks_more a number there next_ b n below so_far.0 c one, entries ∙ so_far.1), kept))
       (length (tasks_of a number)) (omega arith) in
       (b, claims.tasks_all a number there next_ b (length (tasks_of a number)) refl made.0, made.1, same)
 
@@ -112,8 +112,8 @@ module _ (a : Recorder) (number : ℕ) (there : number < length (plan_in a).batc
       (λ b n. HasOpened a number b n × ((state_in b).releaser.tasks ≡ (state_in a).releaser.tasks)) a (length (tasks_of a number))
       (opens.opened_none a number there next_, refl)
       (λ b n below so_far.
-          let (c, step, kept) = some_step b (OpenGate (get_or (tasks_of a number) n 0)) (opens.gate_may a number there next_ b n below so_far.0) in
-          (c, (opens.opened_more a number there next_ b n below so_far.0 c step, opens.opened_entries a number there next_ b n below so_far.0 c step ∙ so_far.1), kept))
+      let (c, step, kept) = some_step b (OpenGate (get_or (tasks_of a number) n 0)) (opens.gate_may a number there next_ b n below so_far.0) in
+      (c, (opens.opened_more a number there next_ b n below so_far.0 c step, opens.opened_entries a number there next_ b n below so_far.0 c step ∙ so_far.1), kept))
       (length (tasks_of a number)) (omega arith) in
       (b, opens.opened_all a number there next_ b (length (tasks_of a number)) refl made.0, made.1, same)
 

@@ -11,7 +11,7 @@ use Rattle.dbp_plan.specs.declared.plan.Plan.{Plan}
 use Rattle.dbp_plan.specs.declared.table.Table.{Table}
 use Rattle.sync_meaning.specs.FirstRows.{first_rows}
 use Rattle.dbp_rules.specs.Lookups.{wired_task}
-use Rattle.dbp_rules.specs.Rules.{IsNamed, IsStep, hears, next, refusal}
+use Rattle.dbp_rules.specs.Rules.{IsNamed, IsStep, hears, next}
 use Rattle.dbp_rules.specs.Shapes.{IsShape}
 use Rattle.dbp_rules.specs.Start.{start_of}
 use Rattle.dbp_rules.specs.Wired.{wiring_of}
@@ -65,13 +65,15 @@ next_mask p w s new m e shape ranks marked named is = recounted (recounted_task 
     recounted None same = (m, λ j below. kept j below (λ also. none_some j (sym same ∙ also)))
     recounted (Some i) same =
         let there : i < length w.tasks = omega (arith, recounted_there p e i named same, shape.wiring.tasks) in
-        let (n, here, others) = mask_with m (wired_task w i).rank (ranks.few i there) (is_unfinished new i) in
-        (n, λ j below. elim (cases_eq j i) [
-          | inl own ↦ subst (λ (k : ℕ). has_rank n (wired_task w k).rank ≡ is_unfinished new k) (sym own) here
-          | inr other ↦
-              others (wired_task w j).rank (ranks.few j below) (ranks.apart j i below there other)
-              ∙ kept j below (λ also. other (some_same j i (sym also ∙ same)))
-        ])
+        let (n, here, others) = mask_with m (wired_task w i).rank (ranks.few i there) (is_unfinished new i) in (
+          n,
+          λ j below. elim (cases_eq j i) [
+            | inl own ↦ subst (λ (k : ℕ). has_rank n (wired_task w k).rank ≡ is_unfinished new k) (sym own) here
+            | inr other ↦
+                others (wired_task w j).rank (ranks.few j below) (ranks.apart j i below there other)
+                ∙ kept j below (λ also. other (some_same j i (sym also ∙ same)))
+          ],
+        )
       where
         some_same : (j k : ℕ) → Some j ≡ Some k → j ≡ k
         some_same j k is = cc (is)
@@ -80,9 +82,6 @@ next_mask p w s new m e shape ranks marked named is = recounted (recounted_task 
 
 pub some_step : (a : Recorder) (e : Step) → Moves (plan_in a) (wiring_in a) (state_in a) e → (b : Recorder) × AddsStep a b e × (table_in b ≡ table_in a)
 some_step a e moves =
-    let p : Plan = plan_in a in
-    let w : Wiring = wiring_in a in
-    let s : State = state_in a in
     let is : IsStep (plan_in a) (wiring_in a) (state_in a) e (Ok (hears (wiring_in a) (state_in a) e)) (next (plan_in a) (wiring_in a) (state_in a) e) = rw moves.allowed (refl, refl) in
     let ranks : HasRanks (wiring_in a) = subst (λ (x : Wiring). HasRanks x) (sym a.core.wired) (has_ranks (plan_in a) (wiring_in a).count) in
     let (mask, marked) = next_mask (plan_in a) (wiring_in a) (state_in a) (next (plan_in a) (wiring_in a) (state_in a) e) a.core.unfinished e a.core.shape ranks a.core.ranks moves.named is in
@@ -107,14 +106,14 @@ no_ranks : (r : ℕ) → has_rank (record { bits = 0 }) r ≡ false
 no_ranks r = ne_eqb _ 1 (λ is. absurd (omega (arith, is, bit_at-zero r)))
 
 -- it keeps no steps
-pub record IsFirst (p : Plan) (count : Count) (a : Recorder) : Type 0 where
+pub record StandsAtStart (p : Plan) (count : Count) (a : Recorder) : Type 0 where
   pub plan : plan_in a ≡ p
   pub wiring : wiring_in a ≡ wiring_of p count
   pub state : state_in a ≡ start_of p (wiring_of p count)
   pub steps : record_in a ≡ None
   pub rows : HasEndedRows p (state_in a) (table_in a)
 
-pub some_start : (p : Plan) (count : Count) → (a : Recorder) × IsFirst p count a
+pub some_start : (p : Plan) (count : Count) → (a : Recorder) × StandsAtStart p count a
 some_start p count =
     let table : Table = record { tasks = map first_rows p.diagram.tasks } in
     let core : Core = record {

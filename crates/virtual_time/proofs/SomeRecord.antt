@@ -1,8 +1,8 @@
 -- A plan without an overrun has a record: tick by tick, until nothing is left of any instance.
-use Rattle.std.specs.Prelude.{IfSome, ◌&&◌, nat_lt, not}
-use Rattle.std.proofs.Common.{◌≡◌, ◌≢◌, ℕ, zero, suc, ◌+◌, ◌-◌, ◌<◌, ◌≤◌, Bool, true, false, cond, List, [], ◌∷◌, ◌++◌, length, map, get_or, replicate, sum, take, Option, Some, None, refl, sym, ap, ◌∙◌, subst, inl, inr, ⊎_elim, arith, append_assoc}
+use Rattle.std.specs.Prelude.{IfSome}
+use Rattle.std.proofs.Common.{◌≡◌, ℕ, zero, suc, ◌+◌, ◌-◌, ◌<◌, ◌≤◌, true, false, cond, List, [], ◌++◌, length, map, get_or, replicate, sum, take, Option, Some, refl, sym, ap, ◌∙◌, subst, inl, inr, arith, append_assoc}
 use Rattle.std.specs.List.{range_with_len}
-use Rattle.std.proofs.lemmas.Bool.{cases_Bool, cases_eq, cases_lt, false≢true, le-ltb, lt-ltb}
+use Rattle.std.proofs.lemmas.Bool.{cases_eq, cases_lt, le-ltb, lt-ltb}
 use Rattle.std.proofs.lemmas.List.{append-nil, get_or-replicate, get_or_default, get_or_past, get_or-take, length-replicate, length-take, take_all}
 use Rattle.std.proofs.lemmas.List.FromFn.{get_or-map-range_with_len, length-map-range_with_len}
 use Rattle.dbp_plan.specs.declared.plan.Plan.{Plan}
@@ -10,60 +10,36 @@ use Rattle.dbp_plan.specs.declared.schedule.Batch.{Batch}
 use Rattle.dbp_plan.specs.Lookups.{declared_task}
 use Rattle.dbp_plan.specs.Occurrences.{names, times_of}
 use Rattle.dbp_plan.proofs.PlanRules as rules
-use Rattle.release_list.specs.Releases.{batch_start}
-use Rattle.dbp_rules.specs.Lookups.{no_task, no_task_entry, task, task_entry, wired_task}
-use Rattle.dbp_rules.specs.Start.{start_entry, start_of, start_task}
+use Rattle.dbp_rules.specs.Lookups.{task, task_entry, wired_task}
+use Rattle.dbp_rules.specs.Start.{start_of, start_task}
 use Rattle.dbp_rules.specs.Wired.{wiring_of}
-use Rattle.dbp_rules.specs.declared.parts.Place.TheVariants.{Idle}
 use Rattle.dbp_rules.specs.declared.state.State.{State}
 use Rattle.dbp_rules.specs.declared.state.TaskState.{TaskState}
 use Rattle.dbp_rules.specs.declared.step.Count.{Count}
 use Rattle.dbp_rules.specs.declared.step.Step.{Step}
-use Rattle.dbp_rules.specs.declared.wiring.TaskWiring.{TaskWiring}
-use Rattle.dbp_rules.specs.declared.wiring.Wiring.{Wiring}
 use Rattle.instance_steps.specs.Events.{Event, batch_events}
 use Rattle.instance_steps.specs.Plays.{Plays}
-use Rattle.instance_steps.specs.Recorders.{record_in, state_in}
+use Rattle.instance_steps.specs.Recorders.{state_in}
 use Rattle.instance_steps.specs.Releases.{batch_at, no_batch}
-use Rattle.instance_steps.specs.declared.recorder.Recorder.{Recorder}
-use Rattle.instance_steps.proofs.SomeSteps.{IsFirst, some_start}
+use Rattle.instance_steps.proofs.SomeSteps.{some_start}
+use Rattle.instance_steps.proofs.Turned.{and_false}
 use Rattle.rank_order.specs.Ends.{Late, NoOverrun}
 use Rattle.rank_order.specs.Instances.{Instance, IsInstance}
 use Rattle.rank_order.specs.Service.{left_of}
 use Rattle.virtual_time.specs.Pieces.{end_events_of, release_events_at, service_events_of}
 use Rattle.virtual_time.specs.Recordings.{IsRecorded, place_of}
-use Rattle.virtual_time.specs.State.{IsSimulatedTo, NoBatchBefore, Renewed, busy_count, instance, left_by, release_count}
+use Rattle.virtual_time.specs.State.{NoBatchBefore, Renewed, instance, left_by, release_count}
+use Rattle.virtual_time.proofs.FirstStates.{first_ended, first_entry, first_gate, first_place}
 use Rattle.virtual_time.proofs.PieceEvents.{no_releases, release_more, releases_so_far}
 use Rattle.virtual_time.proofs.Recordings.{same_places}
 use Rattle.virtual_time.proofs.Releases.{brought, released}
 use Rattle.virtual_time.proofs.Running.{sum_zero}
 use Rattle.virtual_time.proofs.SomeRecorded.{releases_from}
 use Rattle.virtual_time.proofs.Steps.{busy_count_none, busy_count_one, ended_left, waits_from}
-use Rattle.virtual_time.proofs.TickStages.{Serves, Stands, and_false, come_to, ended_next, has_made, is_open, is_of, made_next, place_at, restaged, served_below}
+use Rattle.virtual_time.proofs.TickStages.{Serves, Stands, come_to, ended_next, has_made, is_open, is_of, made_next, place_at, restaged, served_below}
 use Rattle.virtual_time.proofs.Whole.{named_there}
 
 -- ---- the start
-
-first_entry : (ts : List TaskWiring) (i : ℕ) → (get_or (map start_entry ts) i no_task_entry).aimed ≡ 0
-first_entry [] i = refl
-first_entry (t ∷ ts) zero = refl
-first_entry (t ∷ ts) (suc i) = first_entry ts i
-
-module _ (make : ℕ → TaskState) (gate : (k : ℕ) → (make k).words.gate ≡ 0) (ended : (k : ℕ) → (make k).part.ended ≡ 0) (idle : (k : ℕ) → (make k).part.place ≡ Idle) where
-  first_gate : (ks : List ℕ) (i : ℕ) → (get_or (map make ks) i no_task).words.gate ≡ 0
-  first_gate [] i = refl
-  first_gate (k ∷ ks) zero = gate k
-  first_gate (k ∷ ks) (suc i) = first_gate ks i
-
-  first_ended : (ks : List ℕ) (i : ℕ) → (get_or (map make ks) i no_task).part.ended ≡ 0
-  first_ended [] i = refl
-  first_ended (k ∷ ks) zero = ended k
-  first_ended (k ∷ ks) (suc i) = first_ended ks i
-
-  first_place : (ks : List ℕ) (i : ℕ) → (get_or (map make ks) i no_task).part.place ≡ Idle
-  first_place [] i = refl
-  first_place (k ∷ ks) zero = idle k
-  first_place (k ∷ ks) (suc i) = first_place ks i
 
 -- the batches before so many are those before the time
 pub record Comes (p : Plan) (b t : ℕ) : Type 0 where
@@ -209,10 +185,10 @@ module _ (p : Plan) (count : Count) (on : ℕ → ℕ) (serve : ℕ → ℕ → 
           let (rest', renewed) = some_renewed p b s.rest more s.at.rests in
           let (r, g) = releases_from p count b front s.rest rest' s.ends s.recorder s.recorded more free
           (λ i named.
-              let il = named_there p b more i named in
-              let counted = s.at.counts i il in
-              let none = busy_count_none (get_or s.rest i 0) (free i named) in
-              (il, omega (arith, counted, none))) renewed in
+          let il = named_there p b more i named in
+          let counted = s.at.counts i il in
+          let none = busy_count_none (get_or s.rest i 0) (free i named) in
+          (il, omega (arith, counted, none))) renewed in
           let own : release_events_at p p.batches t ≡ batch_events p (batch_at p b) =
           releases_so_far p (b + 1) t (λ k d ge kl same. let after = rules.rising p b k no_batch d (omega (arith, ge)) kl in omega (arith, after, due, same))
           ∙ release_more p b t no_batch more due
@@ -281,7 +257,6 @@ module _ (p : Plan) (count : Count) (on : ℕ → ℕ) (serve : ℕ → ℕ → 
         restaged p count on serve b (λ k. t) (λ k. t) events (events ++ []) (λ i. false) (has_made on serve t 0) 0 0 most (λ i. refl) (λ k. omega arith) (append-nil events)
         (λ i. rw (le-ltb (on i) 0 (omega arith)) (and_false (is_of i (serve (on i) t)))) (omega arith) s
     made_to s (suc c) =
-        let before : List Event = events ++ services_to p serve c t in
         let one : suc c ≡ c + 1 = omega arith in
         restaged p count on serve b (λ k. t) (λ k. t) ((events ++ services_to p serve c t) ++ service_events_of p (serve c) (serve c t) t) (events ++ services_to p serve (suc c) t)
         (has_made on serve t (c + 1)) (has_made on serve t (suc c)) 0 0 most (λ i. refl) (λ k. omega arith)

@@ -1,6 +1,6 @@
 -- What is recorded can go on by each piece that comes next: the begin, the reads and the end of an instance, and a batch.
-use Rattle.std.proofs.Common.{◌≡◌, ◌≢◌, ℕ, ◌+◌, ◌<◌, List, [], ◌++◌, length, get_or, Option, Some, None, refl, sym, ap, ◌∙◌, subst, inl, inr, arith, true}
-use Rattle.std.specs.Prelude.{◌==◌, if◌then◌else◌, IfSome}
+use Rattle.std.proofs.Common.{◌≡◌, ◌≢◌, ℕ, ◌+◌, ◌<◌, List, [], ◌++◌, length, get_or, refl, sym, ap, ◌∙◌, subst, inl, inr, arith, true}
+use Rattle.std.specs.Prelude.{◌==◌, if◌then◌else◌}
 use Rattle.std.proofs.lemmas.Bool.{cases_eq, eq-eqb, ne_eqb}
 use Rattle.std.proofs.lemmas.List.{append-nil}
 use Rattle.dbp_plan.specs.declared.plan.Plan.{Plan}
@@ -51,18 +51,22 @@ module _ (p : Plan) (count : Count) (b : ℕ) (events : List Event) (places : �
           let (r, piece, same) = some_begin a i (named_in i small) (may_in i may) (g.place i small ∙ idle none) gate in
           let own : AddsPiece a r (begin_events p i) i (task (state_in a) i).part.ended (place_after p i 0) =
           subst (λ (q : Plan). AddsPiece a r (begin_events q i) i (task (state_in a) i).part.ended (place_after q i 0)) g.plan piece in
-          let made : begin_events_at p i served ≡ begin_events p i = rw (eq-eqb served 0 none) refl in
-          (r, subst (λ (l : List Event). IsRecorded p count b (events ++ l) (with_place places i (place_after p i served)) ends r) (sym made)
-          (goes_on p count a r b events places ends g (begin_events p i) i (place_after p i 0) (with_place places i (place_after p i served)) small own
-          (here places i (place_after p i served) ∙ ap (place_after p i) none) (elsewhere places i (place_after p i served)) same))
+          let made : begin_events_at p i served ≡ begin_events p i = rw (eq-eqb served 0 none) refl in (
+            r,
+            subst (λ (l : List Event). IsRecorded p count b (events ++ l) (with_place places i (place_after p i served)) ends r) (sym made)
+                (goes_on p count a r b events places ends g (begin_events p i) i (place_after p i 0) (with_place places i (place_after p i served)) small own
+                (here places i (place_after p i served) ∙ ap (place_after p i) none) (elsewhere places i (place_after p i served)) same),
+          )
       | inr some ↦
-          let made : begin_events_at p i served ≡ [] = rw (ne_eqb served 0 some) refl in
-          (a, same_places p count b events (events ++ begin_events_at p i served) places (with_place places i (place_after p i served)) ends a g
-          (ap (λ (l : List Event). events ++ l) made ∙ append-nil events)
-          (λ j jl. elim (cases_eq j i) [
-            | inl own ↦ subst (λ (k : ℕ). with_place places i (place_after p i served) k ≡ places k) (sym own) (here places i (place_after p i served) ∙ sym (under (omega (arith, some))))
-            | inr other ↦ elsewhere places i (place_after p i served) j other
-          ]))
+          let made : begin_events_at p i served ≡ [] = rw (ne_eqb served 0 some) refl in (
+            a,
+            same_places p count b events (events ++ begin_events_at p i served) places (with_place places i (place_after p i served)) ends a g
+                (ap (λ (l : List Event). events ++ l) made ∙ append-nil events)
+                (λ j jl. elim (cases_eq j i) [
+                  | inl own ↦ subst (λ (k : ℕ). with_place places i (place_after p i served) k ≡ places k) (sym own) (here places i (place_after p i served) ∙ sym (under (omega (arith, some))))
+                  | inr other ↦ elsewhere places i (place_after p i served) j other
+                ]),
+          )
     ]
 
     -- it makes its reads
@@ -74,9 +78,11 @@ module _ (p : Plan) (count : Count) (b : ℕ) (events : List Event) (places : �
         subst (λ (q : Plan). HasRowsToRead q (wiring_in a) (state_in a) i served) (sym g.plan) (subst (λ (w : Wiring). HasRowsToRead p w (state_in a) i served) (sym g.wiring) rows) in
         let (r, piece, same) = some_reads a i (named_in i small) (may_in i may) served stands there in
         let own : AddsPiece a r (read_events p i served) i (task (state_in a) i).part.ended (place_after p i (served + 1)) =
-        subst (λ (q : Plan). AddsPiece a r (read_events q i served) i (task (state_in a) i).part.ended (place_after q i (served + 1))) g.plan piece in
-        (r, goes_on p count a r b events places ends g (read_events p i served) i (place_after p i (served + 1)) (with_place places i (place_after p i (served + 1))) small own
-        (here places i (place_after p i (served + 1))) (elsewhere places i (place_after p i (served + 1))) same)
+        subst (λ (q : Plan). AddsPiece a r (read_events q i served) i (task (state_in a) i).part.ended (place_after q i (served + 1))) g.plan piece in (
+          r,
+          goes_on p count a r b events places ends g (read_events p i served) i (place_after p i (served + 1)) (with_place places i (place_after p i (served + 1))) small own
+              (here places i (place_after p i (served + 1))) (elsewhere places i (place_after p i (served + 1))) same,
+        )
 
     -- it ends
     pub ends_from : (ends' : List (List ℕ)) → places i ≡ Shut → length (get_or ends' i []) ≡ length (get_or ends i []) + 1 → ((j : ℕ) → j ≢ i → length (get_or ends' j []) ≡ length (get_or ends j []))
@@ -85,9 +91,11 @@ module _ (p : Plan) (count : Count) (b : ℕ) (events : List Event) (places : �
         let rows : HasEndedRows (plan_in a) (state_in a) (table_in a) = subst (λ (q : Plan). HasEndedRows q (state_in a) (table_in a)) (sym g.plan) g.rows in
         let (r, piece, after) = some_end a i (named_in i small) (may_in i may) (g.place i small ∙ at) rows in
         let own : AddsPiece a r (end_events p i) i ((task (state_in a) i).part.ended + 1) Idle = subst (λ (q : Plan). AddsPiece a r (end_events q i) i ((task (state_in a) i).part.ended + 1) Idle) g.plan piece in
-        let rows' : HasEndedRows p (state_in r) (table_in r) = subst (λ (q : Plan). HasEndedRows q (state_in r) (table_in r)) (piece.steps.plan ∙ g.plan) after in
-        (r, adds_piece p count a r b events places ends g (end_events p i) i ((task (state_in a) i).part.ended + 1) Idle (with_place places i Idle) ends' own
-        (here places i Idle) (elsewhere places i Idle) (ap (λ (n : ℕ). n + 1) (g.ended i small) ∙ sym own_end) others rows')
+        let rows' : HasEndedRows p (state_in r) (table_in r) = subst (λ (q : Plan). HasEndedRows q (state_in r) (table_in r)) (piece.steps.plan ∙ g.plan) after in (
+          r,
+          adds_piece p count a r b events places ends g (end_events p i) i ((task (state_in a) i).part.ended + 1) Idle (with_place places i Idle) ends' own
+              (here places i Idle) (elsewhere places i Idle) (ap (λ (n : ℕ). n + 1) (g.ended i small) ∙ sym own_end) others rows',
+        )
 
 -- the next batch is released
 pub releases_from : (p : Plan) (count : Count) (b : ℕ) (events : List Event) (rest rest' : List ℕ) (ends : List (List ℕ)) (a : Recorder) → IsRecorded p count b events (λ i. place_of p i (get_or rest i 0)) ends a
