@@ -8,11 +8,13 @@ use Rattle.dbp_plan.specs.declared.plan.Plan.{Plan}
 use Rattle.dbp_plan.specs.declared.schedule.Batch.{Batch}
 use Rattle.dbp_plan.specs.Lookups.{declared_task}
 use Rattle.dbp_plan.proofs.PlanRules.{closed_task}
+use Rattle.instance_steps.proofs.Turned.{and_false}
 use Rattle.rank_order.specs.Instances.{Instance}
 use Rattle.rank_order.specs.Queue.{Holds}
 use Rattle.rank_order.specs.Service.{GoesBefore, IsFirst}
 use Rattle.rank_order.proofs.Jump.{IsQuiet}
 use Rattle.virtual_time.proofs.Steps.{quiet, waits_from, waits_is}
+use Rattle.virtual_time.proofs.TickStages.{below_next}
 use Rattle.cpu_sim.specs.Choices.{is_blocked_in, last_of}
 use Rattle.cpu_sim.specs.Processors.{MayBeServed, left_on, served_on}
 use Rattle.cpu_sim.specs.Record.{cpu_count}
@@ -29,20 +31,10 @@ small_cpu p i small = omega (arith, (closed_task p i small).cpu)
 
 -- ---- one processor more
 
-both_false : (b : Bool) → (b && false) ≡ false
-both_false true = refl
-both_false false = refl
-
 module _ (p : Plan) (chosen : List (Option ℕ)) where
   task_there : (o : Option ℕ) (i : ℕ) → is_task i o ≡ true → o ≡ Some i
   task_there None i is = absurd (cc)
   task_there (Some j) i is = ap (λ (k : ℕ). Some k) (eqb-true j i is)
-
-  below_next : (c k : ℕ) → k ≢ c → nat_lt k (c + 1) ≡ nat_lt k c
-  below_next c k apart = elim (cases_lt k c) [
-    | inl less ↦ lt-ltb k (c + 1) (omega (arith, less)) ∙ sym (lt-ltb k c less)
-    | inr over ↦ le-ltb k (c + 1) (omega (arith, over, apart)) ∙ sym (le-ltb k c over)
-  ]
 
   -- one that isn't chosen for the processor stays as it is
   apart_from : (c i : ℕ) → (get_or chosen c None ≡ Some i → ⊥) → (is_chosen p chosen i ≡ false) ⊎ ((declared_task p i).cpu ≢ c)
@@ -54,17 +46,17 @@ module _ (p : Plan) (chosen : List (Option ℕ)) where
   pub done_other : (c i : ℕ) → (get_or chosen c None ≡ Some i → ⊥) → is_done p chosen (c + 1) i ≡ is_done p chosen c i
   done_other c i other = elim (apart_from c i other) [
     | inl not_it ↦ rw not_it refl
-    | inr apart ↦ ap (λ (b : Bool). is_chosen p chosen i && b) (below_next c (declared_task p i).cpu apart)
+    | inr apart ↦ ap (λ (b : Bool). is_chosen p chosen i && b) (below_next (declared_task p i).cpu c apart)
   ]
 
   pub open_other : (c i : ℕ) → (get_or chosen c None ≡ Some i → ⊥) → is_open p chosen (c + 1) i ≡ is_open p chosen c i
   open_other c i other = elim (apart_from c i other) [
     | inl not_it ↦ rw not_it refl
-    | inr apart ↦ ap (λ (b : Bool). is_chosen p chosen i && not b) (below_next c (declared_task p i).cpu apart)
+    | inr apart ↦ ap (λ (b : Bool). is_chosen p chosen i && not b) (below_next (declared_task p i).cpu c apart)
   ]
 
   pub none_done : (i : ℕ) → is_done p chosen 0 i ≡ false
-  none_done i = ap (λ (b : Bool). is_chosen p chosen i && b) (le-ltb (declared_task p i).cpu 0 (omega arith)) ∙ both_false (is_chosen p chosen i)
+  none_done i = ap (λ (b : Bool). is_chosen p chosen i && b) (le-ltb (declared_task p i).cpu 0 (omega arith)) ∙ and_false (is_chosen p chosen i)
 
   pub all_done : (i : ℕ) → i < length p.diagram.tasks → is_done p chosen cpu_count i ≡ is_open p chosen 0 i
   all_done i small =
@@ -72,7 +64,7 @@ module _ (p : Plan) (chosen : List (Option ℕ)) where
       ∙ sym (ap (λ (b : Bool). is_chosen p chosen i && not b) (le-ltb (declared_task p i).cpu 0 (omega arith)))
 
   pub none_open : (i : ℕ) → i < length p.diagram.tasks → is_open p chosen cpu_count i ≡ false
-  none_open i small = ap (λ (b : Bool). is_chosen p chosen i && not b) (lt-ltb (declared_task p i).cpu cpu_count (small_cpu p i small)) ∙ both_false (is_chosen p chosen i)
+  none_open i small = ap (λ (b : Bool). is_chosen p chosen i && not b) (lt-ltb (declared_task p i).cpu cpu_count (small_cpu p i small)) ∙ and_false (is_chosen p chosen i)
 
   module _ (c i : ℕ) (next : IsNext chosen c i) (own : (declared_task p i).cpu ≡ c) where
     is-chosen : is_chosen p chosen i ≡ true

@@ -41,31 +41,11 @@ use Rattle.virtual_time.specs.State.{IsSimulatedTo, release_count}
 use Rattle.cpu_sim.specs.declared.simulation.Simulation.{Simulation}
 use Rattle.cpu_sim.proofs.RecordTicks.{all_made, no_events_yet, no_services}
 use Rattle.cpu_sim.proofs.SomeServiceOn.{services-are}
+use Rattle.virtual_time.proofs.FirstStates.{first_ended, first_entry, first_gate, first_place}
 use Rattle.virtual_time.proofs.Releases.{none_late}
 use Rattle.virtual_time.proofs.Steps.{busy_count_none, ended_left, is_end}
 
 -- ---- the start
-
-first_entry : (ts : List TaskWiring) (i : ℕ) → (get_or (map start_entry ts) i no_task_entry).aimed ≡ 0
-first_entry [] i = refl
-first_entry (t ∷ ts) zero = refl
-first_entry (t ∷ ts) (suc i) = first_entry ts i
-
-module _ (make : ℕ → TaskState) (gate : (k : ℕ) → (make k).words.gate ≡ 0) (ended : (k : ℕ) → (make k).part.ended ≡ 0) (idle : (k : ℕ) → (make k).part.place ≡ Idle) where
-  first_gate : (ks : List ℕ) (i : ℕ) → (get_or (map make ks) i no_task).words.gate ≡ 0
-  first_gate [] i = refl
-  first_gate (k ∷ ks) zero = gate k
-  first_gate (k ∷ ks) (suc i) = first_gate ks i
-
-  first_ended : (ks : List ℕ) (i : ℕ) → (get_or (map make ks) i no_task).part.ended ≡ 0
-  first_ended [] i = refl
-  first_ended (k ∷ ks) zero = ended k
-  first_ended (k ∷ ks) (suc i) = first_ended ks i
-
-  first_place : (ks : List ℕ) (i : ℕ) → (get_or (map make ks) i no_task).part.place ≡ Idle
-  first_place [] i = refl
-  first_place (k ∷ ks) zero = idle k
-  first_place (k ∷ ks) (suc i) = first_place ks i
 
 none_kept : (keeping : Keeping) → IfSome (first_record keeping) (λ l. l ≡ [])
 none_kept Steps = refl

@@ -13,3 +13,4 @@ pub mod RecordTicks
 pub mod ServedStages
 pub mod SomeServiceOn
 pub mod Stages
+pub mod SomeCpuOutcome

@@ -30,12 +30,12 @@ use Rattle.virtual_time.proofs.Budgets.{begin_few, reads_few, steps_few}
 use Rattle.virtual_time.proofs.Recordings.{goes_on, place_all, place_some, same_places}
 use Rattle.virtual_time.proofs.Running.{few_ends}
 use Rattle.virtual_time.proofs.Steps.{busy_count_one}
-use Rattle.cpu_sim.specs.Choices.{StandTogether, all_cpus_at, last_of}
+use Rattle.cpu_sim.specs.Choices.{all_cpus_at, last_of}
 use Rattle.cpu_sim.specs.Record.{cpu_count, events_so_far}
 use Rattle.cpu_sim.specs.Services.{services}
 use Rattle.cpu_sim.specs.Simulations.{HasBegun, HasStepped, IsEvent, IsNext, chosen_steps, is_done, most_steps, own_steps, place_in, served_before}
 use Rattle.cpu_sim.specs.declared.simulation.Simulation.{Simulation}
-use Rattle.cpu_sim.proofs.BlockingReads.{rows_there}
+use Rattle.cpu_sim.proofs.BlockingReads.{Together, rows_there}
 use Rattle.cpu_sim.proofs.ChosenTasks.{IsChosen, chosen_at, done_after, done_other, none_at, none_done, not_done}
 use Rattle.cpu_sim.proofs.RecordTicks.{no_service_more, one_service_more}
 
@@ -231,5 +231,5 @@ module _ (p : Plan) (first : Simulation) (chosen : List (Option ℕ)) (c : ℕ) 
 
     pub has_rows : (s' : Simulation) → HasBegun p first chosen c i s' → HasRowsToRead p (wiring_of p All) (state_in s'.recorder) i (served_before p first.run i)
     has_rows s' g =
-        let together : StandTogether p s'.recorder.core first.run = record { plan = g.recorded.plan; released = g.recorded.released; at = h.event.simulation.run; until = h.event.until } in
-        rows_there p s'.recorder.core first.run together All i at.small at.some g.recorded.ended at.free
+        let together : Together p s'.recorder.core first.run.released first.run.time first.run.rest.items first.run.ends = record { plan = g.recorded.plan; released = g.recorded.released; at = h.event.simulation.run.at; until = h.event.until } in
+        rows_there p s'.recorder.core first.run.released first.run.time first.run.rest.items first.run.ends together All i at.small at.some g.recorded.ended at.free

@@ -1,6 +1,6 @@
 // What holds of the service of every plan on its processors, and of its record and its overrun there.
 
-ghost use Rattle.std.specs.Prelude.{◌≡◌, ◌≢◌, ◌↔◌, ◌+◌, ◌<◌, ◌∷◌, ◌++◌, ℕ, List as Items, [], All, Option, Some, false, length, slice_index, slice_index_or};
+ghost use Rattle.std.specs.Prelude.{◌≡◌, ◌≢◌, ◌↔◌, ◌⊎◌, ◌+◌, ◌<◌, ◌∷◌, ◌++◌, ℕ, List as Items, [], All, Option, Some, false, length, slice_index, slice_index_or};
 ghost use Rattle.dbp_plan.specs.declared.plan.Plan.{Plan};
 ghost use Rattle.dbp_rules.specs.Lawful.{Leads};
 ghost use Rattle.dbp_rules.specs.Rules.{hears};
@@ -57,8 +57,10 @@ pub fn some_processor_serves()
         → (c : ℕ) × (z : Instance) × (services p c t ≡ Some z) }
 {}
 
-/// A plan has one recorded list at most on its processors, and one overrun at most, and never both.
+/// A plan has a recorded list on its processors or an overrun: one of either at most, and never both.
 pub fn a_plan_has_one_outcome_on_its_processors()
+    ensures some { (p : Plan) → ((script : Items Step) × IsCpuRecord p script)
+        ⊎ ((t : ℕ) × (x : Instance) × IsOverrun p (left_on p (services p)) t x) }
     ensures list { (p : Plan) (script other : Items Step) → IsCpuRecord p script
         → IsCpuRecord p other → script ≡ other }
     ensures time { (p : Plan) (t u : ℕ) (x y : Instance)

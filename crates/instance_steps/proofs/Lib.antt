@@ -15,3 +15,6 @@ pub mod ClaimedLinks
 pub mod OpenedGates
 pub mod Released
 pub mod ReleasedPlaces
+pub mod SomeSteps
+pub mod SomePieces
+pub mod SomeReleases

@@ -7,3 +7,4 @@ pub mod Serving
 pub mod EndEvents
 pub mod AfterBatches
 pub mod Finals
+pub mod SomeOutcome

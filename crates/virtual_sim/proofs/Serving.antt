@@ -44,7 +44,7 @@ use Rattle.dbp_plan.proofs.PlanRules as rules
 use Rattle.virtual_time.proofs.PieceEvents.{NoReadAt}
 use Rattle.virtual_sim.proofs.SoFar.{one_batch_more}
 use Rattle.virtual_sim.proofs.RecordJumps.{jump_idle, jump_to_end, jump_to_event}
-use Rattle.virtual_time.proofs.Recordings.{adds_batch, adds_piece, goes_on, has_ended, place_all, place_some, same_places, with_here, with_other}
+use Rattle.virtual_time.proofs.Recordings.{adds_batch, adds_piece, all_read, goes_on, has_ended, place_all, place_some, same_places, with_here, with_other}
 use Rattle.virtual_time.proofs.Running.{few_ends}
 use Rattle.virtual_time.proofs.Whole.{named_there}
 use Rattle.virtual_sim.proofs.FirstServed.{first_small, first_some, is_choice}
@@ -63,12 +63,6 @@ events_few p s h =
     let before = occurrences_before p.batches s.run.released in
     let bound = steps_few p s.run.rest.items s.run.ends (length p.diagram.tasks) (omega arith) (λ j lt. few_ends p (one_processor p s.run.time) s.run h.run j lt) in
     omega (arith, h.few, few, tasks, before, bound)
-
--- ---- places
-
--- where an instance stands after all its reads
-all_read : (n : ℕ) → read_place n n ≡ Shut
-all_read n = rw (le-ltb n n (omega arith)) refl
 
 -- ---- what the code reads
 

@@ -16,8 +16,10 @@ ghost use Rattle.rank_order.specs.Service.{left_of};
 ghost use Rattle.rank_order.specs.ServiceOf.{service};
 ghost use Rattle.virtual_sim.specs.Record.{HasEndAt, IsRecord, StandsAfterBatch, end_events_at};
 
-/// A plan has one recorded list at most, and one overrun at most, and never both.
+/// A plan has a recorded list or an overrun: one of either at most, and never both.
 pub fn a_plan_has_one_outcome()
+    ensures some { (p : Plan) → ((script : Items Step) × IsRecord p script)
+        ⊎ ((t : ℕ) × (x : Instance) × IsOverrun p (left_of p (service p)) t x) }
     ensures list { (p : Plan) (script other : Items Step) → IsRecord p script → IsRecord p other
         → script ≡ other }
     ensures time { (p : Plan) (t u : ℕ) (x y : Instance)

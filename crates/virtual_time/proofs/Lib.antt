@@ -8,3 +8,7 @@ pub mod LateTasks
 pub mod PieceEvents
 pub mod PieceActions
 pub mod Recordings
+pub mod FirstStates
+pub mod SomeRecorded
+pub mod TickStages
+pub mod SomeRecord

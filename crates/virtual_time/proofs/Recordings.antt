@@ -2,16 +2,17 @@
 use Rattle.std.specs.Prelude.{Bool, ◌||◌, ◌==◌, if◌then◌else◌, IfSome, Option, Some, None, unwrap_or}
 use Rattle.std.specs.Option.{option_map}
 use Rattle.std.proofs.Common.{◌≡◌, ◌≢◌, ℕ, ◌+◌, ◌-◌, ◌<◌, ◌≤◌, true, false, List, [], ◌++◌, length, get_or, refl, sym, ap, ◌∙◌, subst, ⊎_elim, arith}
-use Rattle.std.proofs.lemmas.Bool.{cases_eq, cases_Bool, eq-eqb, ne_eqb}
+use Rattle.std.proofs.lemmas.Bool.{cases_eq, cases_Bool, eq-eqb, le-ltb, ne_eqb}
 use Rattle.dbp_plan.specs.declared.plan.Plan.{Plan}
 use Rattle.dbp_plan.specs.declared.table.Table.{Table}
 use Rattle.dbp_plan.specs.Lookups.{declared_task}
 use Rattle.dbp_plan.specs.Occurrences.{names}
 use Rattle.dbp_rules.specs.Lookups.{entry_in, task}
+use Rattle.dbp_rules.specs.Moves.{read_place}
 use Rattle.dbp_rules.specs.Start.{start_of}
 use Rattle.dbp_rules.specs.Wired.{wiring_of}
 use Rattle.dbp_rules.specs.declared.parts.Place.{Place}
-use Rattle.dbp_rules.specs.declared.parts.Place.TheVariants.{Idle}
+use Rattle.dbp_rules.specs.declared.parts.Place.TheVariants.{Idle, Shut}
 use Rattle.dbp_rules.specs.declared.parts.ReleaserPart.{ReleaserPart}
 use Rattle.dbp_rules.specs.declared.state.State.{State}
 use Rattle.dbp_rules.specs.declared.state.TaskState.{TaskState}
@@ -105,6 +106,10 @@ place_all p i = idle_if ((declared_task p i).cost == 0) ((declared_task p i).cos
 -- and under way if some is
 pub place_some : (p : Plan) (i rest : ℕ) → 0 < rest → rest < (declared_task p i).cost → place_of p i rest ≡ place_after p i ((declared_task p i).cost - rest)
 place_some p i rest some less = rw (ne_eqb rest 0 (λ e. omega (arith, e, some)), ne_eqb rest (declared_task p i).cost (λ e. omega (arith, e, less))) refl
+
+-- after all its reads
+pub all_read : (n : ℕ) → read_place n n ≡ Shut
+all_read n = rw (le-ltb n n (omega arith)) refl
 
 -- the release of the batch with the number b, of whose tasks nothing was left
 pub adds_batch : (p : Plan) (count : Count) (r r' : Recorder) (b : ℕ) (events : List Event) (rest rest' : List ℕ) (ends : List (List ℕ)) → IsRecorded p count b events (λ i. place_of p i (get_or rest i 0)) ends r

@@ -25,7 +25,7 @@ waits_for_writer-requires-clause-link c =
     let here : slice_get (declared_task p i).reads n ≡ Some r = read_here p i n body c.items-read-items.result.now r own c.items-read-items.ensures.value c.loop-read-test.true c.read-item.is in
     let served : body.cost - c.index.result.now ≡ (declared_task p i).cost - get_or run.rest.items i 0 = omega (arith, ap (λ (t : Task). t.cost) own, rest) in
     let test = read_blocks p (served_on p (services p) run.time) (last_of p run.released i) in
-    link_there p run h i c.requires.task c.requires.some r n here
+    link_there p run.released run.time run.rest.items run.ends h.at i c.requires.task c.requires.some r n here
 
 pub waits_for_writer-requires-clause-some : goal.waits_for_writer-requires-clause-some
 waits_for_writer-requires-clause-some c =
@@ -41,7 +41,7 @@ waits_for_writer-requires-clause-some c =
     let here : slice_get (declared_task p i).reads n ≡ Some r = read_here p i n body c.items-read-items.result.now r own c.items-read-items.ensures.value c.loop-read-test.true c.read-item.is in
     let served : body.cost - c.index.result.now ≡ (declared_task p i).cost - get_or run.rest.items i 0 = omega (arith, ap (λ (t : Task). t.cost) own, rest) in
     let test = read_blocks p (served_on p (services p) run.time) (last_of p run.released i) in
-    subst (λ (j : ℕ). 0 < get_or run.rest.items j 0) (sym (reader_is p run h i c.requires.task c.requires.some r n here)) c.requires.some
+    subst (λ (j : ℕ). 0 < get_or run.rest.items j 0) (sym (reader_is p run.released run.time run.rest.items run.ends h.at i c.requires.task c.requires.some r n here)) c.requires.some
 
 pub returns-then-waits_for_writer : goal.returns-then-waits_for_writer
 returns-then-waits_for_writer c =
@@ -57,7 +57,7 @@ returns-then-waits_for_writer c =
     let here : slice_get (declared_task p i).reads n ≡ Some r = read_here p i n body c.items-read-items.result.now r own c.items-read-items.ensures.value c.loop-read-test.true c.read-item.is in
     let served : body.cost - c.index.result.now ≡ (declared_task p i).cost - get_or run.rest.items i 0 = omega (arith, ap (λ (t : Task). t.cost) own, rest) in
     let test = read_blocks p (served_on p (services p) run.time) (last_of p run.released i) in
-    let blocks : test r ≡ true = due_blocks p run h i c.requires.task c.requires.some r n here (c.if-read-served.true ∙ served) c.waits_for_writer.result c.waits_for_writer.ensures ∙ c.if-waits_for_writer.true in
+    let blocks : test r ≡ true = due_blocks p run.released run.time run.rest.items run.ends h.at i c.requires.task c.requires.some r n here (c.if-read-served.true ∙ served) c.waits_for_writer.result c.waits_for_writer.ensures ∙ c.if-waits_for_writer.true in
     let reads : c.items-read-items.result.now ≡ (declared_task p i).reads = c.items-read-items.ensures.value ∙ ap (λ (t : Task). t.reads) own in
     sym (subst (λ (l : List Read). list_any test l ≡ true) reads (any_there test c.items-read-items.result.now n r c.loop-read-test.true (ap test (sym c.read-item.is) ∙ blocks)))
 
@@ -76,8 +76,8 @@ loop-read-preserved c =
     let served : body.cost - c.index.result.now ≡ (declared_task p i).cost - get_or run.rest.items i 0 = omega (arith, ap (λ (t : Task). t.cost) own, rest) in
     let test = read_blocks p (served_on p (services p) run.time) (last_of p run.released i) in
     let free : test r ≡ false = elim c.else-read-served.branch [
-      | else-read-served-via-then-read-served+else-waits_for_writer w ↦ due_blocks p run h i c.requires.task c.requires.some r n here (w.if-read-served.true ∙ served) w.waits_for_writer.result w.waits_for_writer.ensures ∙ w.if-waits_for_writer.false
-      | else-read-served-via-else-read-served w ↦ not_due p run h i c.requires.task c.requires.some r n here (λ e. w.if-read-served.false (e ∙ sym served))
+      | else-read-served-via-then-read-served+else-waits_for_writer w ↦ due_blocks p run.released run.time run.rest.items run.ends h.at i c.requires.task c.requires.some r n here (w.if-read-served.true ∙ served) w.waits_for_writer.result w.waits_for_writer.ensures ∙ w.if-waits_for_writer.false
+      | else-read-served-via-else-read-served w ↦ not_due p run.released run.time run.rest.items run.ends h.at i c.requires.task c.requires.some r n here (λ e. w.if-read-served.false (e ∙ sym served))
     ] in
     none_more test c.items-read-items.result.now n r c.loop-read-test.true c.loop-read.invariant (ap test (sym c.read-item.is) ∙ free)
 

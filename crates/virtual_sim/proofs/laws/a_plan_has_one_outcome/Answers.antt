@@ -2,7 +2,11 @@ use Rattle.rank_order.specs.Service.{left_of}
 use Rattle.rank_order.specs.ServiceOf.{service}
 use Rattle.rank_order.proofs.Overruns.{one_overrun, one_time}
 use Rattle.virtual_sim.proofs.OneRecord.{one_record}
+use Rattle.virtual_sim.proofs.SomeOutcome.{some_outcome}
 use Rattle.virtual_sim.proofs.laws.a_plan_has_one_outcome.Goals as goal
+
+pub returns-clause-some : goal.returns-clause-some
+returns-clause-some c = some_outcome
 
 pub returns-clause-list : goal.returns-clause-list
 returns-clause-list c = one_record
