@@ -1,6 +1,6 @@
 -- The start of a simulation, and what it has at its end.
 use Rattle.std.specs.Prelude.{IfSome}
-use Rattle.std.proofs.Common.{◌≡◌, ℕ, zero, suc, ◌+◌, ◌<◌, List, [], ◌∷◌, length, map, get_or, replicate, Option, Some, None, refl, sym, ap, ◌∙◌, subst, arith, rules}
+use Rattle.std.proofs.Common.{◌≡◌, ℕ, suc, ◌+◌, ◌<◌, List, [], length, get_or, replicate, Option, Some, None, refl, sym, ap, ◌∙◌, subst, arith, rules}
 use Rattle.std.specs.List.{range_with_len}
 use Rattle.std.proofs.lemmas.List.{get_or-replicate, take_all}
 use Rattle.dbp_plan.specs.declared.plan.Plan.{Plan}
@@ -12,15 +12,13 @@ use Rattle.rank_order.specs.Instances.{Instance, IsInstance}
 use Rattle.rank_order.specs.Service.{GoesBefore, IsFirst, ServesWaiting, left_of}
 use Rattle.sync_meaning.specs.SomeMeaning.{meaning_of}
 use Rattle.release_list.specs.Releases.{batch_start}
-use Rattle.dbp_rules.specs.Lookups.{no_task, no_task_entry, task, task_entry, wired_task}
-use Rattle.dbp_rules.specs.Start.{start_entry, start_of, start_task}
+use Rattle.dbp_rules.specs.Lookups.{task, task_entry, wired_task}
+use Rattle.dbp_rules.specs.Start.{start_of, start_task}
 use Rattle.dbp_rules.specs.Wired.{wiring_of}
-use Rattle.dbp_rules.specs.declared.parts.Place.TheVariants.{Idle}
 use Rattle.dbp_rules.specs.declared.state.State.{State}
 use Rattle.dbp_rules.specs.declared.state.TaskState.{TaskState}
 use Rattle.dbp_rules.specs.declared.step.Count.TheVariants.{All}
 use Rattle.dbp_rules.specs.declared.step.Step.{Step}
-use Rattle.dbp_rules.specs.declared.wiring.TaskWiring.{TaskWiring}
 use Rattle.dbp_rules.specs.declared.wiring.Wiring.{Wiring}
 use Rattle.instance_steps.specs.EndedRows.{HasEndedRows}
 use Rattle.instance_steps.specs.Events.{Event}

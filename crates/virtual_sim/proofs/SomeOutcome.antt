@@ -1,5 +1,5 @@
 -- A plan has a recorded list, or an overrun.
-use Rattle.std.proofs.Common.{◌≡◌, ◌≢◌, ℕ, zero, suc, ◌+◌, ◌-◌, ◌<◌, ◌⊎◌, List, [], ◌++◌, length, get_or, Option, Some, None, refl, sym, ap, ◌∙◌, subst, inl, inr, arith, append_assoc}
+use Rattle.std.proofs.Common.{◌≡◌, ◌≢◌, ℕ, zero, suc, ◌+◌, ◌<◌, ◌⊎◌, List, [], ◌++◌, length, get_or, Option, Some, None, refl, sym, ap, ◌∙◌, subst, inl, inr, arith, append_assoc}
 use Rattle.dbp_plan.specs.declared.plan.Plan.{Plan}
 use Rattle.rank_order.specs.Ends.{IsOverrun, NoOverrun}
 use Rattle.rank_order.specs.Instances.{Instance}
@@ -19,7 +19,7 @@ use Rattle.instance_steps.specs.Events.{Event}
 use Rattle.instance_steps.specs.Plays.{Plays}
 use Rattle.instance_steps.specs.TaskPieces.{MayStep}
 use Rattle.virtual_time.specs.Pieces.{release_events_at, service_events_of}
-use Rattle.virtual_time.specs.State.{IsSimulatedTo, NoBatchBefore, instance, left_by, release_count}
+use Rattle.virtual_time.specs.State.{IsSimulatedTo, NoBatchBefore, instance, release_count}
 use Rattle.virtual_time.proofs.SomeRecord.{HasRecord, ends_to, services_to, some_record}
 use Rattle.virtual_time.proofs.Steps.{waits_is}
 use Rattle.virtual_time.proofs.TickStages.{Serves}
