@@ -249,9 +249,8 @@ def compare_names(program):
 
 def compare_docs(program):
     """Compares the C of the docs with what is written of the example that they speak of: it compiles, or it is there."""
-    page, readme = ((TOP / name).read_text() for name in ("docs/DEPLOYING.md", "README.md"))
+    page = (TOP / "docs" / "DEPLOYING.md").read_text()
     blocks = {it: [block.lines for block in blocks_and_prose(page)[0] if block.word == it] for it in ("c", "text")}
-    lines = [block.lines for block in blocks_and_prose(readme)[0] if block.word == "c"]
     with compiled.folder() as place:
         must_end(call(program, ["-o", place, GOOD]), 0)
         written = (Path(place) / "preempted.c").read_text()
@@ -260,10 +259,9 @@ def compare_docs(program):
         written = (Path(place) / "preempted.c").read_text()
         must("\n".join(blocks["text"][1]) in written, "the table of the docs isn't in preempted.c")
         must(len(blocks["c"]) == 2, f"the docs have {len(blocks['c'])} blocks of C")
-        readme = ["void readme(uint64_t tick);", "void readme(uint64_t tick)", "{", *lines[0], "}"]
         for block in blocks["c"]:
             source = Path(place) / "system.c"
-            source.write_text("\n".join([*block, *readme]))
+            source.write_text("\n".join(block))
             if compiled.has_compiler():
                 flags = [it for it in compiled.FLAGS if it != "-Wconversion"]
                 command = ["cc", *flags, "-Wno-missing-prototypes", "-I", RTOS, "-c", source, "-o", f"{place}/o"]
