@@ -17,7 +17,8 @@ HERE = Path(__file__).resolve().parent / "emit_c"
 sys.path.insert(0, str(TOP / ".ci"))
 
 import compiled  # noqa: E402
-from compiled import SECONDS, SOURCES, Toolchain, must  # noqa: E402
+from comparing import fault_of, must  # noqa: E402
+from compiled import SECONDS, SOURCES, Toolchain  # noqa: E402
 from doc_pages import blocks_and_prose  # noqa: E402
 from protocol_text import diagram_fault, text_fault  # noqa: E402
 from stand_ins import write_program  # noqa: E402
@@ -89,7 +90,7 @@ def if_compiled(name, call, *given):
     if not compiled.has_compiler():
         print(f".ci/tried/emit_c.py: {name} is skipped, since there is no C compiler `cc`", file=sys.stderr)
         return None
-    return compiled.fault_of(call, *given)
+    return fault_of(call, *given)
 
 
 class Shared:
@@ -283,6 +284,6 @@ def trials(program):
         yield name, partial(if_compiled, name, compare_beside, compare, program, shared)
     yield "the text of the protocol", fault_of_text
     for words, status, text in ENDED:
-        yield f"emit_c {' '.join(words)}", partial(compiled.fault_of, compare_ended, program, words, status, text)
+        yield f"emit_c {' '.join(words)}", partial(fault_of, compare_ended, program, words, status, text)
     for compare in (compare_docs, compare_texts, compare_overwriting, compare_failed_writes, compare_interrupt, compare_names):
-        yield compare.__name__.replace("_", " "), partial(compiled.fault_of, compare, program)
+        yield compare.__name__.replace("_", " "), partial(fault_of, compare, program)

@@ -8,7 +8,6 @@ machine, and says so.
 import os
 import re
 import shutil
-import signal
 import subprocess
 import sys
 import tempfile
@@ -21,7 +20,8 @@ sys.path.insert(0, str(TOP / ".ci"))
 
 import installed  # noqa: E402
 from awaited import SECONDS  # noqa: E402
-from installed import NOBODY, Installed, discard, executed, fault_of, must, package, package_file  # noqa: E402
+from comparing import fault_of, must  # noqa: E402
+from installed import NOBODY, Installed, discard, executed, package, package_file  # noqa: E402
 from stand_ins import write_program  # noqa: E402
 
 RELEASE = re.search(r"(?m)^## (\S+), (\S+)$", (TOP / "CHANGELOG.md").read_text())

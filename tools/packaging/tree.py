@@ -10,7 +10,7 @@ import subprocess
 import tempfile
 from pathlib import Path
 
-from ending import Ended, Status, reason_of
+from ending import Status, reason_of
 from packaging import completions
 from packaging.calls import TOOLS, call_of, words_of_program
 from packaging.facts import TOP
