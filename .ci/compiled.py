@@ -16,6 +16,7 @@ sys.path[:0] = [str(TOOLS), str(TOP / ".ci")]
 
 from awaited import SECONDS  # noqa: E402
 from canonical import read_document  # noqa: E402
+from comparing import Wrong, must  # noqa: E402
 from emitting import command  # noqa: E402
 from pictures.asking import cut_text  # noqa: E402
 from program import run_program  # noqa: E402
@@ -41,25 +42,6 @@ FORMS = (
 )
 
 
-class Fault(Exception):
-    """What differs from what is wanted."""
-
-
-def must(is_so, text):
-    """Ends a comparison with a fault unless something is so."""
-    if not is_so:
-        raise Fault(text)
-
-
-def fault_of(call, *given):
-    """Returns what a comparison finds, or nothing."""
-    try:
-        call(*given)
-    except Fault as fault:
-        return str(fault)
-    return None
-
-
 def has_compiler(name="cc"):
     """Whether there is a C compiler of this name."""
     return shutil.which(name) is not None
@@ -79,7 +61,7 @@ def executed(words, seconds, status=0, **how):
     try:
         ran = subprocess.run(words, stdin=subprocess.DEVNULL, capture_output=True, timeout=seconds, check=False, **how)
     except subprocess.TimeoutExpired:
-        raise Fault(f"{what} hadn't ended after {seconds} seconds") from None
+        raise Wrong(f"{what} hadn't ended after {seconds} seconds") from None
     said = ran.stderr.decode(errors="replace")[:600]
     must(ran.returncode == status, f"{what}: the status is {ran.returncode}, and {status} is wanted; it said {said}")
     return ran.stdout

@@ -17,6 +17,7 @@ TOP = Path(__file__).resolve().parent.parent
 sys.path.insert(0, str(TOP / ".ci"))
 
 from awaited import SECONDS  # noqa: E402
+from comparing import must  # noqa: E402
 from served import Served  # noqa: E402
 from stand_ins import write_program  # noqa: E402
 
@@ -39,25 +40,6 @@ CALLS = {
     "trace": (["--tick", "500ms", "--scale", "temperature=10", "greenhouse.csv", "greenhouse.dbp"], 0),
     "waves": (["--format", "csv", "--wide", GOOD], 0),
 }
-
-
-class Wrong(Exception):
-    """Something isn't as it must be: what."""
-
-
-def must(is_right, what):
-    """Raises a fault if something isn't right."""
-    if not is_right:
-        raise Wrong(what)
-
-
-def fault_of(call, *given):
-    """Returns what a comparison finds, or nothing."""
-    try:
-        call(*given)
-    except (Wrong, subprocess.TimeoutExpired) as found:
-        return str(found)
-    return None
 
 
 def executed(words, status=0, **how):

@@ -4,8 +4,9 @@ import re
 from pathlib import Path
 
 from awaited import SECONDS
+from comparing import must
 from compiled import BESIDE, COMPILE_SECONDS, FLAGS, NAME, SHORT_WORDS, TOOLS
-from compiled import answered, emitted, executed, folder, must, same_lines
+from compiled import answered, emitted, executed, folder, same_lines
 from pictures.service import rank_order
 
 CROSS, EMULATOR = "arm-none-eabi-gcc", "qemu-system-arm"

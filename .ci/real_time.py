@@ -21,7 +21,8 @@ from dataclasses import dataclass
 from pathlib import Path
 
 from awaited import SECONDS, wait_for
-from compiled import BESIDE, COMPILE_SECONDS, FLAGS, NAME, TOOLS, TOP, answered, emitted, executed, must, same_lines
+from comparing import must
+from compiled import BESIDE, COMPILE_SECONDS, FLAGS, NAME, TOOLS, TOP, answered, emitted, executed, same_lines
 from pictures.service import rank_order
 
 NOBODY = 65534

@@ -21,7 +21,8 @@ sys.dont_write_bytecode = True
 
 import on_target  # noqa: E402
 import real_time  # noqa: E402
-from compiled import Fault, run_program  # noqa: E402
+from comparing import Wrong  # noqa: E402
+from compiled import run_program  # noqa: E402
 from running import parser_of  # noqa: E402
 
 LONGEST_TRACE = 3_000  # ticks that are emulated
@@ -62,7 +63,7 @@ def row_of(options, name, document):
     """Returns the row of an example, and whether it is as wanted."""
     try:
         cells = [*told_runs(options, document), told_target(options, document)]
-    except Fault as fault:
+    except Wrong as fault:
         return f"| {name} | WRONG: {fault} |", False
     return f"| {name} | {' | '.join(cells)} |", "SKIPPED" not in cells
 

@@ -26,7 +26,8 @@ sys.dont_write_bytecode = True
 
 import compiled  # noqa: E402
 import documents  # noqa: E402
-from compiled import SHORT_FLAGS, SHORT_WORDS, Fault, Toolchain  # noqa: E402
+from comparing import Wrong, fault_of  # noqa: E402
+from compiled import SHORT_FLAGS, SHORT_WORDS, Toolchain  # noqa: E402
 from running import parser_of, run  # noqa: E402
 
 RACES = ("-g", "-fsanitize=thread")
@@ -64,12 +65,12 @@ def trials_of(count, seeds):
         yield Trial(name, tuple(range(seeds)))
 
 
-def fault_of(program, toolchain, trial):
+def fault_of_trial(program, toolchain, trial):
     """Returns the fault of a trial, or nothing, and how many steps its record has."""
     try:
         count = compiled.FIRST_LINES if toolchain.is_sanitizing else MOST_LINES
         return None, compiled.compare_document(program, toolchain, trial.document(program), trial.seeds, count)
-    except Fault as fault:
+    except Wrong as fault:
         return f"{trial.name}: {fault}", 0
 
 
@@ -82,8 +83,8 @@ def try_way(way, options):
     started, trials = time.monotonic(), [*trials_of(options.documents, options.seeds)]
     with compiled.folder() as room, ThreadPoolExecutor(options.jobs) as pool:
         toolchain = Toolchain(room, compiler, flags, options=words)
-        found = [*pool.map(lambda trial: fault_of(options.program, toolchain, trial), trials)]
-        of_tables = compiled.fault_of(compiled.compare_tables, options.program, toolchain)
+        found = [*pool.map(lambda trial: fault_of_trial(options.program, toolchain, trial), trials)]
+        of_tables = fault_of(compiled.compare_tables, options.program, toolchain)
     faults = [*(fault for fault, _ in found if fault), *([f"tables: {of_tables}"] if of_tables else [])]
     runs, steps = sum(1 + len(trial.seeds) for trial in trials), sum(count for _, count in found)
     seconds = time.monotonic() - started

@@ -25,7 +25,8 @@ sys.dont_write_bytecode = True
 import compiled  # noqa: E402
 import on_target  # noqa: E402
 import real_time  # noqa: E402
-from compiled import SHORT_FLAGS, SHORT_WORDS, Fault, Toolchain, must  # noqa: E402
+from comparing import Wrong, fault_of, must  # noqa: E402
+from compiled import SHORT_FLAGS, SHORT_WORDS, Toolchain  # noqa: E402
 from protocol_text import diagram_fault, text_fault  # noqa: E402
 from running import parser_of  # noqa: E402
 
@@ -240,8 +241,8 @@ class Trial:
         for name, (document, executable, folder) in self.traces.items():
             try:
                 check(document, executable, folder)
-            except Fault as fault:
-                raise Fault(f"{name}: {fault}") from None
+            except Wrong as fault:
+                raise Wrong(f"{name}: {fault}") from None
 
     def check_lines(self, document, executable, folder):
         """Compares the lines of some runs without a seed."""
@@ -340,7 +341,7 @@ def found_by(program, fault):
         trial = Trial(program, room, fault)
         kinds = {CORES: trial.checks, SHORT: trial.short_checks, REAL_TIME: trial.real_time_checks}
         for name, check in kinds[fault.checked]():
-            said = compiled.fault_of(check)
+            said = fault_of(check)
             if said:
                 found[name] = " ".join(said.replace(str(room), "").split())
                 if name == "compiler" or fault.checked != CORES:

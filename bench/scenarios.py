@@ -30,7 +30,8 @@ sys.path[:0] = [str(TOP / "tools"), str(TOP / ".ci")]
 sys.dont_write_bytecode = True
 
 from checking.releases import Taken, is_of_releaser, standing_claims  # noqa: E402
-from compiled import Fault, answered, must, same_lines  # noqa: E402
+from comparing import Wrong, must  # noqa: E402
+from compiled import answered, same_lines  # noqa: E402
 from ending import Ended  # noqa: E402
 from program import read_as_answer  # noqa: E402
 from running import parser_of  # noqa: E402
@@ -136,7 +137,7 @@ def tried(program, planted, trial):
     try:
         with read_as_answer(program):
             return try_scenario(program, planted, trial)
-    except (Fault, Ended) as fault:
+    except (Wrong, Ended) as fault:
         return Tried(0, 0, str(fault))
 
 

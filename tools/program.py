@@ -17,6 +17,7 @@ BUILDER = TOP / "tools" / "build.py"  # of a repository alone
 BUILT = TOP / "crates" / "dbp" / "out" / "dbp"
 STATUSES = range(8)  # what the program may end with
 TABLE_LINE = re.compile(r"[0-9]+,\w+,[0-9]+(,-?[0-9]+)+")
+LOGIC = re.compile(rb"rattle logic=([0-9a-f]{16,64})")
 
 
 class CannotRun(Ended):
@@ -125,6 +126,12 @@ def end_of(program, status, stderr):
     if said:
         return CannotRun(said[-1])
     return CannotRun(f"{program}: signal {-status} ended it" if status < 0 else f"{program}: its status is {status}")
+
+
+def logic_in(content):
+    """Returns the logic of the kit that a program's file names, or nothing."""
+    found = LOGIC.search(content)
+    return found[1].decode() if found else None
 
 
 @contextmanager

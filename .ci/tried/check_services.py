@@ -21,6 +21,7 @@ from awaited import SECONDS  # noqa: E402
 from checking.command import judged  # noqa: E402
 from checking.regions import Checked  # noqa: E402
 from checking.services import quality_text, sarif_text  # noqa: E402
+from comparing import fault_of, must  # noqa: E402
 
 MESSAGE = re.compile(r"([^:]+):(\d+):(\d+): (error|warning|note): (?:(\d+) )?(\w+)(?: \w+)?: (.*)")
 NOTE = re.compile(r"[^:]+:(\d+):(\d+): note: (.*)")
@@ -77,10 +78,6 @@ NAMES = {
 }
 
 
-class Wrong(Exception):
-    """Something isn't as it must be: what."""
-
-
 @dataclass(frozen=True)
 class Wanted:
     """A message of a text beside a document: its place, what it says, how many bytes are marked, and its notes."""
@@ -93,21 +90,6 @@ class Wanted:
     text: str
     width: int
     notes: list
-
-
-def must(is_right, what):
-    """Raises a fault if something isn't right."""
-    if not is_right:
-        raise Wrong(what)
-
-
-def fault_of(call, *given):
-    """Returns what a comparison finds, or nothing."""
-    try:
-        call(*given)
-    except Wrong as found:
-        return str(found)
-    return None
 
 
 def parts_of(kind, found):

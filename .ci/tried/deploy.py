@@ -21,7 +21,8 @@ import compiled  # noqa: E402
 import on_target  # noqa: E402
 import real_time  # noqa: E402
 from awaited import SECONDS  # noqa: E402
-from compiled import NAME, SHORT_FLAGS, SHORT_WORDS, Toolchain, answered, emitted, executed, must, same_lines  # noqa: E402
+from comparing import fault_of, must  # noqa: E402
+from compiled import NAME, SHORT_FLAGS, SHORT_WORDS, Toolchain, answered, emitted, executed, same_lines  # noqa: E402
 from emitting.costs import cost_of_instance, cost_of_release, table_bytes  # noqa: E402
 from ending import Status  # noqa: E402
 from program import run_program  # noqa: E402
@@ -67,7 +68,7 @@ def if_there(name, programs, call, *given):
     if missing:
         print(f".ci/tried/deploy.py: {name} is skipped, since there is no {' and no '.join(missing)}", file=sys.stderr)
         return None
-    return compiled.fault_of(call, *given)
+    return fault_of(call, *given)
 
 
 def compare_rights(program):

@@ -3,7 +3,8 @@ the comments at the heads of the crates.
 
 A name is looked up in the code of the crates, in the names of their files, in the tools and cases, in the page's own
 examples (which doc_examples.py tries), among what the program calls (which trusted.py compares), and among the commands
-of the program and of `rt`. Words that stand for something else have their reason in EXPLAINED. The words after `rt` are skipped if `rt` isn't on the machine.
+of the program and of `rt`. Words that stand for something else have their reason in EXPLAINED. The words after `rt` are
+skipped if `rt` isn't on the machine.
 """
 
 import re

@@ -17,7 +17,8 @@ HERE = Path(__file__).resolve().parent / "emit_c"
 sys.path.insert(0, str(TOP / ".ci"))
 
 import compiled  # noqa: E402
-from compiled import SECONDS, SOURCES, Toolchain, must  # noqa: E402
+from comparing import fault_of, must  # noqa: E402
+from compiled import SECONDS, SOURCES, Toolchain  # noqa: E402
 from doc_pages import blocks_and_prose  # noqa: E402
 from protocol_text import diagram_fault, text_fault  # noqa: E402
 from stand_ins import write_program  # noqa: E402
@@ -89,7 +90,7 @@ def if_compiled(name, call, *given):
     if not compiled.has_compiler():
         print(f".ci/tried/emit_c.py: {name} is skipped, since there is no C compiler `cc`", file=sys.stderr)
         return None
-    return compiled.fault_of(call, *given)
+    return fault_of(call, *given)
 
 
 class Shared:
@@ -249,9 +250,8 @@ def compare_names(program):
 
 def compare_docs(program):
     """Compares the C of the docs with what is written of the example that they speak of: it compiles, or it is there."""
-    page, readme = ((TOP / name).read_text() for name in ("docs/DEPLOYING.md", "README.md"))
+    page = (TOP / "docs" / "DEPLOYING.md").read_text()
     blocks = {it: [block.lines for block in blocks_and_prose(page)[0] if block.word == it] for it in ("c", "text")}
-    lines = [block.lines for block in blocks_and_prose(readme)[0] if block.word == "c"]
     with compiled.folder() as place:
         must_end(call(program, ["-o", place, GOOD]), 0)
         written = (Path(place) / "preempted.c").read_text()
@@ -260,10 +260,9 @@ def compare_docs(program):
         written = (Path(place) / "preempted.c").read_text()
         must("\n".join(blocks["text"][1]) in written, "the table of the docs isn't in preempted.c")
         must(len(blocks["c"]) == 2, f"the docs have {len(blocks['c'])} blocks of C")
-        readme = ["void readme(uint64_t tick);", "void readme(uint64_t tick)", "{", *lines[0], "}"]
         for block in blocks["c"]:
             source = Path(place) / "system.c"
-            source.write_text("\n".join([*block, *readme]))
+            source.write_text("\n".join(block))
             if compiled.has_compiler():
                 flags = [it for it in compiled.FLAGS if it != "-Wconversion"]
                 command = ["cc", *flags, "-Wno-missing-prototypes", "-I", RTOS, "-c", source, "-o", f"{place}/o"]
@@ -285,6 +284,6 @@ def trials(program):
         yield name, partial(if_compiled, name, compare_beside, compare, program, shared)
     yield "the text of the protocol", fault_of_text
     for words, status, text in ENDED:
-        yield f"emit_c {' '.join(words)}", partial(compiled.fault_of, compare_ended, program, words, status, text)
+        yield f"emit_c {' '.join(words)}", partial(fault_of, compare_ended, program, words, status, text)
     for compare in (compare_docs, compare_texts, compare_overwriting, compare_failed_writes, compare_interrupt, compare_names):
-        yield compare.__name__.replace("_", " "), partial(compiled.fault_of, compare, program)
+        yield compare.__name__.replace("_", " "), partial(fault_of, compare, program)

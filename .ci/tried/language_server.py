@@ -21,6 +21,7 @@ sys.path[:0] = [str(TOP / "tools"), str(TOP / ".ci")]
 from canonical import read_document  # noqa: E402
 from checking.tokens import code_of  # noqa: E402
 from checking.verdicts import Judged  # noqa: E402
+from comparing import Wrong, must  # noqa: E402
 from editor_texts import Renaming, edited, position_at, range_in_bytes  # noqa: E402
 from language_client import SECONDS, SERVER, Client, Hangs, framed, parsed  # noqa: E402
 from program import run_program  # noqa: E402
@@ -57,16 +58,6 @@ def module_beside(name):
 
 EDITORS = module_beside("editors")
 Class = EDITORS.Class
-
-
-class Wrong(Exception):
-    """Something isn't as it must be: what."""
-
-
-def must(is_right, what):
-    """Raises a fault if something isn't right."""
-    if not is_right:
-        raise Wrong(what)
 
 
 def fault_of(trial, *given):

@@ -1,5 +1,5 @@
-"""The manual page docs/dbp.1: its commands are those that the program lists, its statuses those of README.md, its version
-and date the latest of CHANGELOG.md, and its examples run. What lays it out says nothing; a program for that is skipped if
+"""The manual page docs/dbp.1: its commands are those that the program lists, its statuses those of docs/LANGUAGE.md, its
+version and date the latest of CHANGELOG.md, and its examples run. What lays it out says nothing; a program for that is skipped if
 it isn't on the machine."""
 
 import os
@@ -40,11 +40,11 @@ def fault_of_commands(program):
 
 
 def fault_of_statuses():
-    """Returns how the statuses of the page differ from those of README.md."""
-    rows = re.findall(r"(?m)^\| ([0-9, ]+) \|", (TOP / "README.md").read_text())
-    wanted = [number for row in rows for number in row.split(", ")]
+    """Returns how the statuses of the page differ from those of docs/LANGUAGE.md."""
+    table = (TOP / "docs" / "LANGUAGE.md").read_text().partition("| Exit status |")[2].partition("\n\n")[0]
+    wanted = [number for row in re.findall(r"(?m)^\| ([0-9, ]+) \|", table) for number in row.split(", ")]
     found = re.findall(r"(?m)^\.It (\d+)$", PAGE.read_text())
-    return None if found == wanted else f"the page has {found}, README.md has {wanted}"
+    return None if found == wanted else f"the page has {found}, docs/LANGUAGE.md has {wanted}"
 
 
 def fault_of_version():

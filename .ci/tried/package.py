@@ -8,7 +8,6 @@ machine, and says so.
 import os
 import re
 import shutil
-import signal
 import subprocess
 import sys
 import tempfile
@@ -21,7 +20,8 @@ sys.path.insert(0, str(TOP / ".ci"))
 
 import installed  # noqa: E402
 from awaited import SECONDS  # noqa: E402
-from installed import NOBODY, Installed, discard, executed, fault_of, must, package, package_file  # noqa: E402
+from comparing import fault_of, must  # noqa: E402
+from installed import NOBODY, Installed, discard, executed, package, package_file  # noqa: E402
 from stand_ins import write_program  # noqa: E402
 
 RELEASE = re.search(r"(?m)^## (\S+), (\S+)$", (TOP / "CHANGELOG.md").read_text())
@@ -337,6 +337,20 @@ def compare_record(program):
     must(f"{wanted}  crates/dbp_plan" in record.splitlines(), f"the checksum of crates/dbp_plan is {wanted}")
 
 
+def compare_logic(program):
+    """Compares what comes of a program that names another logic than README.md: no package. One built unproved names none."""
+    if b"rattle logic=" not in Path(program).read_bytes():
+        return
+    place = room()
+    try:
+        other = "LC_ALL=C sed 's/rattle logic=[0-9a-f]*/rattle logic=0123456789abcdef/' \"$0\" > \"$1\"; chmod 755 \"$1\""
+        executed(["sh", "-c", other, program, place / "other"])
+        said = package(place / "other", "-o", place / "made", status=70)[1]
+        must("it names the logic 0123456789abcdef" in said and not (place / "made").exists(), f"it says {said!r}")
+    finally:
+        discard(place)
+
+
 def compare_launcher(program):
     """Compares which program is packed without `--program`: the one that the launcher of the repository proves, if it can."""
     place = room()
@@ -476,6 +490,7 @@ def trials(program):
         ("dbp-verify: records", ["tar"], compare_records, program),
         ("the gate in the record", ["tar"], compare_gate, program),
         ("the record", ["tar", "git"], compare_record, program),
+        ("another logic", [], compare_logic, program),
         ("the launcher's program", [], compare_launcher, program),
         ("ends", [], compare_ends, program),
     ):

@@ -33,8 +33,8 @@ from awaited import SECONDS, wait_for, wait_until  # noqa: E402
 from canonical import read_document  # noqa: E402
 from checking.reading import read_document as read_places  # noqa: E402
 from checking.trees import Tree  # noqa: E402
+from comparing import Wrong, must  # noqa: E402
 from drawn_documents import drawn_document  # noqa: E402
-from installed import Wrong, must  # noqa: E402
 from program import run_program  # noqa: E402
 from served import own_signals  # noqa: E402
 from stand_ins import between  # noqa: E402

@@ -135,12 +135,15 @@ def unsafe_fault():
 
 
 def versions_fault():
-    """Returns a version of the page that isn't that of README.md or of the kit, or nothing."""
+    """Returns a version of the page that isn't that of README.md or of the kit, or nothing. Kits of several names have one
+    logic, so the name is compared with none."""
     logic, clang = re.findall(r"sum=(\w+)", PAGE), re.findall(r"clang (\d[\d.]*\d)", PAGE)
     if logic != re.findall(r"(?m)^Proved with `.* logic (\w+)`\.$", README):
         return f"README.md has another logic than {logic}"
     if kit() is None:
-        return say_skipped("the compiler's version", "the kit isn't there")
+        return say_skipped("the versions of the kit", "the kit isn't there")
+    if re.findall(r"logic (\w+)", printed("rt", "version")) != logic:
+        return f"the kit has another logic than {logic}"
     said = printed(kit() / "toolchain" / "bin" / "clang", "--version")
     return None if re.findall(r"clang version (\S+)", said) == clang else f"the kit has another clang than {clang}"
 

@@ -14,8 +14,9 @@ from packaging.tree import built_program, tree_of, with_record
 from packaging.vsix import extension_file
 
 ABOUT = """Makes dbp_VERSION_amd64.deb, dbp-VERSION.tar.gz, which runs from any folder, and the extension dbp-VERSION.vsix
-of VS Code; or installs what is in the first two below a folder: the proved program, the tools, their manual pages and completions, editors, docs and examples, and the record of
-what was proved, which dbp-verify compares. The version is the latest of CHANGELOG.md. The same sources make the same bytes.
+of VS Code; or installs what is in the first two below a folder: the proved program, the tools, their manual pages and
+completions, editors, docs and examples, and the record of what was proved, which dbp-verify compares. The version is the
+latest of CHANGELOG.md. The same sources make the same bytes.
 
 exit status: 0 it is done; 1 the gate that `--gate` names didn't pass; 2 wrong words; 4, 5 a file can't be read or
 written; 70 the program isn't there, or can't be proved, or `strip` isn't there; 130 interrupted."""

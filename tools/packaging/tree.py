@@ -10,14 +10,14 @@ import subprocess
 import tempfile
 from pathlib import Path
 
-from ending import Ended, Status, reason_of
+from ending import Status, reason_of
 from packaging import completions
 from packaging.calls import TOOLS, call_of, words_of_program
 from packaging.facts import TOP
 from packaging.files import File, Link, compressed
 from packaging.manual import page_of
 from packaging.web import Pages
-from program import BUILT, LAUNCHER, CannotRun, run_program
+from program import BUILT, LAUNCHER, CannotRun, logic_in, run_program
 from verifying.record import BUILT as AS_BUILT
 from verifying.record import FILE, INSTALLED, LINK, Record, checksum, checksums_of_sources, text_of
 
@@ -123,12 +123,20 @@ def doc_files():
     yield f"{DOC}/copyright", File(COPYRIGHT.encode())
 
 
+def compare_logic(program, content, kit):
+    """Ends the tool if a program names another logic than the kit of the record: it wasn't proved by that one."""
+    logic = logic_in(content)
+    if logic is not None and not logic.startswith(kit.split()[-1]):
+        raise CannotRun(f"{program}: it names the logic {logic}, and README.md the {kit}")
+
+
 def tree_of(program, facts):
     """Returns all files of an installation but the record, and the checksum of the program as it was built."""
     try:
         content = Path(program).read_bytes()
     except OSError as error:
         raise CannotRun(f"{program}: {reason_of(error)}") from error
+    compare_logic(program, content, facts.kit)
     listed, calls = commands_of(program), [call_of(it) for it in TOOLS]
     found = {f"{HOME}/dbp": File(stripped(content), True), "bin/dbp": Link(f"../{HOME}/dbp")}
     found.update(tool_files())

@@ -1,16 +1,14 @@
 """What of a report is proved and what isn't: the figures with whose they are, the program, and what is trusted."""
 
-import re
 from hashlib import sha256
 from html import escape
 from pathlib import Path
 from shutil import which
 
-from program import BUILT, LAUNCHER
+from program import BUILT, LAUNCHER, logic_in
 from reports.markup import code, table, tag
 
 PROVED, COMPARED, UNPROVED = "yes", "no, but compared", "no"
-LOGIC = re.compile(rb"rattle logic=([0-9a-f]{16,64})")
 
 FIGURES = (
     ("whether the document is accepted; else line and code of the first error", "dbp plan, dbp replay", PROVED, ""),
@@ -52,8 +50,7 @@ def about_program(program):
         found = program_file(program).read_bytes()
     except OSError:
         return "unknown, since its file can't be read", "unknown"
-    logic = LOGIC.search(found)
-    return sha256(found).hexdigest(), logic[1].decode() if logic else "unknown: the file names none"
+    return sha256(found).hexdigest(), logic_in(found) or "unknown: the file names none"
 
 
 def proved_html(asked, program):

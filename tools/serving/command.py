@@ -9,7 +9,7 @@ from serving.lengths import length_of
 
 ABOUT = """Speaks the Language Server Protocol with an editor, over standard input and standard output: what tools/check
 says of the documents that are open, with fixes; what a name is, where it stands, and its renaming; completion, layout,
-symbols, colours, and what the steps of a script hear. The editor starts it; docs/TOOLS.md has the lines to write.
+symbols, colours, and what the steps of a script hear. The editor starts it: editors/language_server has the lines to write.
 
 exit status: 0 the editor ended it; 1 its input ended before, or was no message; 2 wrong words; 5 the answers can't be
 written; 130 interrupted."""
