@@ -205,7 +205,26 @@ pub(crate) fn shut(plan: &Plan, wiring: &Wiring, state: &mut State, i: u32)
       work = move.after_compute (declared_task plan.now i) (rule.sense_values plan.now wiring.now state.old i) (task state.old i).work;
     }) }
 {
-    let time = own_time(wiring, state, i);
+    let time = sensing_time(plan, wiring, state, i);
+    shut_at(plan, wiring, state, i, time);
+}
+
+// The same, with what the senses are at the time.
+fn shut_at(plan: &Plan, wiring: &Wiring, state: &mut State, i: u32, time: u64)
+    requires task { i < length state.old.tasks }
+    requires declared { i < length plan.now.diagram.tasks }
+    requires closed { IsClosedTask (length plan.now.diagram.inputs) (length plan.now.diagram.events) (length plan.now.diagram.links) (declared_task plan.now i) }
+    requires samples { HasSamples plan.now wiring.now.samples }
+    requires heard { 0 < length (task state.old i).part.heard.items }
+    requires slot { move.own_slot (task state.old i).part < length (task state.old i).words.slots }
+    requires now { length (task state.old i).work.now ≡ place_count (declared_task plan.now i) }
+    requires later { length (task state.old i).work.later ≡ length (declared_task plan.now i).states }
+    ensures { state.new ≡ with_task state.old i (record {
+      words = move.with_stamp (task state.old i).words (move.own_slot (task state.old i).part) 0;
+      part = move.at_place (task state.old i).part (place.Put 0);
+      work = move.after_compute (declared_task plan.now i) (map (λ x. input_value plan.now.diagram.inputs plan.now.samples x.input time) (declared_task plan.now i).senses) (task state.old i).work;
+    }) }
+{
     let declared = declared_at(plan, i);
     let task = &mut state.tasks.items_mut()[i as usize];
     let own = task.part.own_slot();
@@ -213,6 +232,20 @@ pub(crate) fn shut(plan: &Plan, wiring: &Wiring, state: &mut State, i: u32)
     slot.stamp = 0;
     work_on(plan, wiring, declared, &mut task.work, time);
     task.part.shut();
+}
+
+// The time at which the task's running instance senses. It is looked up only if the task has senses: the times of all
+// instances take so much room that the next one is seldom in a cache.
+fn sensing_time(plan: &Plan, wiring: &Wiring, state: &State, i: u32) -> u64
+    requires declared { i < length plan.now.diagram.tasks }
+    requires wired { i < length wiring.now.tasks }
+    requires task { i < length state.now.tasks }
+    ensures { map (λ x. input_value plan.now.diagram.inputs plan.now.samples x.input result) (declared_task plan.now i).senses ≡ rule.sense_values plan.now wiring.now state.now i }
+{
+    if declared_at(plan, i).senses.is_empty() {
+        return 0;
+    }
+    own_time(wiring, state, i)
 }
 
 // One instance at the time.
