@@ -133,6 +133,13 @@ impl Core {
         &self.plan
     }
 
+    /// The plan, as others have it too. A copy of this pointer lets a caller look at the plan while steps are made.
+    pub fn shared_plan(&self) -> &Rc<Plan>
+        ensures { result.now.value ≡ plan_in self.now }
+    {
+        &self.plan
+    }
+
     /// What the steps look up in the plan.
     pub fn wiring(&self) -> &Wiring
         ensures wiring { result.now ≡ wiring_in self.now }

@@ -214,7 +214,26 @@ pub(crate) fn shut(plan: &Plan, wiring: &Wiring, state: &mut State, number: u32)
       work = move.after_compute (declared_task plan.now number) (rule.sense_values plan.now wiring.now state.old number) (task state.old number).work;
     }) }
 {
-    let time = own_time(wiring, state, number);
+    let time = sensing_time(plan, wiring, state, number);
+    shut_at(plan, wiring, state, number, time);
+}
+
+// The same, with what the senses are at the time.
+fn shut_at(plan: &Plan, wiring: &Wiring, state: &mut State, number: u32, time: u64)
+    requires task { number < length state.old.tasks }
+    requires declared { number < length plan.now.diagram.tasks }
+    requires closed { IsClosedTask (length plan.now.diagram.inputs) (length plan.now.diagram.events) (length plan.now.diagram.links) (declared_task plan.now number) }
+    requires samples { HasSamples plan.now wiring.now.samples }
+    requires heard { 0 < length (task state.old number).part.heard.items }
+    requires slot { move.own_slot (task state.old number).part < length (task state.old number).words.slots }
+    requires now { length (task state.old number).work.now ≡ place_count (declared_task plan.now number) }
+    requires later { length (task state.old number).work.later ≡ length (declared_task plan.now number).states }
+    ensures { state.new ≡ with_task state.old number (record {
+      words = move.with_stamp (task state.old number).words (move.own_slot (task state.old number).part) 0;
+      part = move.at_place (task state.old number).part (place.Put 0);
+      work = move.after_compute (declared_task plan.now number) (map (λ x. input_value plan.now.diagram.inputs plan.now.samples x.input time) (declared_task plan.now number).senses) (task state.old number).work;
+    }) }
+{
     let declared = declared_at(plan, number);
     let task = &mut state.tasks.items_mut()[number as usize];
     let own = task.part.own_slot();
@@ -222,6 +241,20 @@ pub(crate) fn shut(plan: &Plan, wiring: &Wiring, state: &mut State, number: u32)
     slot.stamp = 0;
     work_on(plan, wiring, declared, &mut task.work, time);
     task.part.shut();
+}
+
+// The time at which the task's running instance senses. It is looked up only if the task has senses: the times of all
+// instances take so much room that the next one is seldom in a cache.
+fn sensing_time(plan: &Plan, wiring: &Wiring, state: &State, number: u32) -> u64
+    requires declared { number < length plan.now.diagram.tasks }
+    requires wired { number < length wiring.now.tasks }
+    requires task { number < length state.now.tasks }
+    ensures { map (λ x. input_value plan.now.diagram.inputs plan.now.samples x.input result) (declared_task plan.now number).senses ≡ rule.sense_values plan.now wiring.now state.now number }
+{
+    if declared_at(plan, number).senses.is_empty() {
+        return 0;
+    }
+    own_time(wiring, state, number)
 }
 
 // One instance at the time.

@@ -35,14 +35,17 @@ impl Recorder {
             (state_in self.new) number (batch_in self.old number)) }
         ensures table { OnOk result (table_in self.new ≡ table_in self.old) }
     {
-        self.aim_tasks(number)?;
-        self.claim_links(number)?;
-        self.open_gates(number)
+        let plan = self.core.shared_plan().clone()?;
+        let batch = &plan.batches.items()[number as usize];
+        self.aim_tasks(number, batch)?;
+        self.claim_links(number, batch)?;
+        self.open_gates(number, batch)
     }
 
     // The aims of the batch.
-    fn aim_tasks(&mut self, number: u32) -> Result<(), NoMemory>
+    fn aim_tasks(&mut self, number: u32, batch: &Batch) -> Result<(), NoMemory>
         requires batch { number < length (plan_in self.old).batches }
+        requires same { batch.now ≡ batch_in self.old number }
         requires released { HasReleased (plan_in self.old) (state_in self.old) number }
         requires ended { HasEnded (state_in self.old) (batch_in self.old number) }
         requires room { length (steps_in self.old)
@@ -55,9 +58,10 @@ impl Recorder {
             → entry_in self.new j ≡ entry_in self.old j) }
         ensures table { OnOk result (table_in self.new ≡ table_in self.old) }
     {
-        for n in 0..self.batch(number).tasks.len() {
-            let task = self.batch(number).tasks.items()[n as usize];
-            self.aim_task(task, self.batch(number).time)?;
+        let tasks = batch.tasks.items();
+        for n in 0..batch.tasks.len() {
+            let task = tasks[n as usize];
+            self.aim_task(task, batch.time)?;
         }
         Ok(())
     }
@@ -104,8 +108,9 @@ impl Recorder {
     }
 
     // The claims of the batch.
-    fn claim_links(&mut self, number: u32) -> Result<(), NoMemory>
+    fn claim_links(&mut self, number: u32, batch: &Batch) -> Result<(), NoMemory>
         requires batch { number < length (plan_in self.old).batches }
+        requires same { batch.now ≡ batch_in self.old number }
         requires next { action_in self.old
             ≡ batch_start (links_in self.old) (plan_in self.old).batches number
             + length (batch_in self.old number).tasks }
@@ -118,8 +123,9 @@ impl Recorder {
         ensures entries { OnOk result (entries_in self.new ≡ entries_in self.old) }
         ensures table { OnOk result (table_in self.new ≡ table_in self.old) }
     {
-        for n in 0..self.batch(number).tasks.len() {
-            let task = self.batch(number).tasks.items()[n as usize];
+        let tasks = batch.tasks.items();
+        for n in 0..batch.tasks.len() {
+            let task = tasks[n as usize];
             self.claim_links_into(task)?;
         }
         Ok(())
@@ -146,8 +152,9 @@ impl Recorder {
     }
 
     // The gates of the batch.
-    fn open_gates(&mut self, number: u32) -> Result<(), NoMemory>
+    fn open_gates(&mut self, number: u32, batch: &Batch) -> Result<(), NoMemory>
         requires batch { number < length (plan_in self.old).batches }
+        requires same { batch.now ≡ batch_in self.old number }
         requires next { action_in self.old
             ≡ batch_start (links_in self.old) (plan_in self.old).batches number
             + length (batch_in self.old number).tasks
@@ -160,18 +167,11 @@ impl Recorder {
         ensures entries { OnOk result (entries_in self.new ≡ entries_in self.old) }
         ensures table { OnOk result (table_in self.new ≡ table_in self.old) }
     {
-        for n in 0..self.batch(number).tasks.len() {
-            let task = self.batch(number).tasks.items()[n as usize];
+        let tasks = batch.tasks.items();
+        for n in 0..batch.tasks.len() {
+            let task = tasks[n as usize];
             self.make(Step::OpenGate { task })?;
         }
         Ok(())
-    }
-
-    // The batch with this number.
-    fn batch(&self, number: u32) -> &Batch
-        requires { number < length (plan_in self.now).batches }
-        ensures { result.now ≡ batch_in self.now number }
-    {
-        &self.core.plan().batches.items()[number as usize]
     }
 }
