@@ -5,7 +5,7 @@ ghost use Rattle.party_exec.specs.Jobs.{IsCounted, IsCountedTurn, IsJob, idle_af
 ghost use Rattle.party_exec.specs.Parties.{Belongs};
 
 use crate::bell::Bell;
-use crate::concern::{awaited, concerned, releaser_number};
+use crate::concern::{awaited, concerned, instances_done, releaser_number};
 use crate::pace::Pace;
 use crate::party::Party;
 use crate::round::Round;
@@ -34,6 +34,7 @@ pub(crate) fn job<R: Wait, P: Pace>(
     ensures { IsJob words.now party.old party.new }
 {
     let bell = round.bell(number_in(words, party));
+    bell.say_done(instances_done(party));
     make_turns(rt, pace, words, round, bell, party);
     bell.say_awake();
     if !party.has_finished(words) {
@@ -52,7 +53,7 @@ fn make_turns<R: Wait, P: Pace>(
     requires { Belongs words.now party.old }
     ensures { IsJob words.now party.old party.new }
 {
-    let mut waiting = round.begin();
+    let mut waiting = round.begin(rt);
     let mut idle = 0;
     for _ in 0..MOST_TURNS {
         if party.has_finished(words) {
@@ -78,7 +79,7 @@ fn told_turn<P: Pace>(pace: &P, words: &SlotWords, round: &Round, party: &mut Pa
 {
     let concern = concerned(words, party);
     let turn = paced_turn(pace, words, party);
-    round.ring(words, number_in(words, party), concern);
+    round.ring(words, number_in(words, party), party, concern);
     turn
 }
 

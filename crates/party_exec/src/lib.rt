@@ -21,6 +21,7 @@ mod draws;
 mod job;
 mod look_up;
 mod meeting;
+mod meetings;
 mod pace;
 mod party;
 mod releaser_party;

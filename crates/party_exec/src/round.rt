@@ -8,6 +8,7 @@ use crate::meeting::Meeting;
 use crate::waiting::Waiting;
 use dbp_plan::MAX_TASKS;
 use std::array;
+use std::sync::Wait;
 use std::sync::atomic::{AtomicBool, Ordering};
 
 // The parties of a run, at most.
@@ -21,19 +22,23 @@ const LOADS: usize = 16384;
 // The meeting of its jobs, a bell for each party, by the party's number, and whether a job has ended before its party.
 #[derive(Drop)]
 pub(crate) struct Round {
-    meeting: Meeting,
-    bells: [Bell; MOST_PARTIES],
+    meeting: Option<Meeting>,
+    pub(crate) bells: [Bell; MOST_PARTIES],
     is_ending: AtomicBool,
     // how often a job that waits loads the count of its bell before it sleeps
     pub(crate) loads: usize,
 }
 
 impl Round {
-    pub(crate) fn new(jobs: usize) -> Round
+    pub(crate) fn new(jobs: usize, is_met: bool) -> Round
         requires { 0 < jobs }
     {
         Round {
-            meeting: Meeting::new(jobs),
+            meeting: if is_met {
+                Some(Meeting::new(jobs))
+            } else {
+                None
+            },
             bells: array::from_fn(|_: usize| Bell::new()),
             is_ending: AtomicBool::new(false),
             loads: LOADS / jobs / jobs,
@@ -42,11 +47,18 @@ impl Round {
 
     // Waits for the other jobs to begin with them. A job doesn't wait in a round for which fewer threads than jobs were made:
     // these run one after another, and one that sleeps would keep those after it from ever running.
-    pub(crate) fn begin(&self) -> Waiting {
-        if self.meeting.attend() {
-            Waiting::No
-        } else {
-            Waiting::Never
+    pub(crate) fn begin<R: Wait>(&self, rt: &R) -> Waiting {
+        match &self.meeting {
+            Some(meeting) if meeting.attend(rt) => Waiting::No,
+            _ => Waiting::Never,
+        }
+    }
+
+    // Whether its jobs were to meet and haven't.
+    pub(crate) fn was_given_up(&self) -> bool {
+        match &self.meeting {
+            Some(meeting) => !meeting.have_come(),
+            None => false,
         }
     }
 

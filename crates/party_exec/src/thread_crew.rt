@@ -12,6 +12,7 @@ use crate::all_parties::have_finished;
 use crate::crew::Crew;
 use crate::crew_entry::CrewEntry;
 use crate::job::job;
+use crate::meetings::Meetings;
 use crate::pace::{FreePace, Pace};
 use crate::party::Party;
 use crate::round::Round;
@@ -123,30 +124,33 @@ fn run_rounds<R: Threads + Wait + Sync, P: Pace>(
     ensures same { AreSameParties parties.old parties.new }
     ensures finished { HaveFinished words.now parties.new }
 {
+    let mut meetings = Meetings::new();
     for _ in rt.forever() {
         if have_finished(words, parties) {
             return;
         }
-        round(rt, pace, words, parties);
+        let is_given_up = round(rt, pace, words, parties, meetings.is_held());
+        meetings = meetings.after(is_given_up);
     }
     unreachable!()
 }
 
-// A round: the job of each party, in as many threads as there are parties.
+// A round: the job of each party, in as many threads as there are parties. Returns whether its jobs were to meet and haven't.
 fn round<R: Threads + Wait + Sync, P: Pace>(
     rt: &R,
     pace: &P,
     words: &SlotWords,
     parties: &mut [Party],
-)
+    is_met: bool,
+) -> bool
     requires { All (Belongs words.now) parties.old }
     ensures { IsRound words.now parties.old parties.new }
 {
     if parties.is_empty() {
-        return;
+        return false;
     }
     let threads = parties.len();
-    let round = Round::new(threads);
+    let round = Round::new(threads, is_met);
     thread::for_each_mut(
         rt,
         parties,
@@ -156,4 +160,5 @@ fn round<R: Threads + Wait + Sync, P: Pace>(
             ensures { IsJob words.entry.now party.entry.now party.exit.now }
         { job(rt, pace, words, &round, party) },
     );
+    round.was_given_up()
 }
