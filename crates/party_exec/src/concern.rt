@@ -97,7 +97,6 @@ fn opened_next(words: &SlotWords, place: u32) -> Concern
 impl Round {
     // Rings for those who wait for the step that the party with this number has made.
     pub(crate) fn ring(&self, words: &SlotWords, number: u32, party: &Party, concern: Concern)
-        requires here { Belongs words.now party.now }
         requires number { number ≤ MAX_TASKS }
         requires concern { IsConcernIn words.now concern }
     {

@@ -1,55 +1,55 @@
-// How the jobs of a round begin together.
+// How the threads of a run begin together.
 
 use std::sync::Wait;
 use std::sync::atomic::{AtomicU64, Ordering};
 use std::time::Duration;
 
-// So often a job sleeps while no other comes, and for so many milliseconds at most. Then all begin without those that haven't
-// come: there may be fewer threads than jobs.
-const MOST_SLEEPS: u32 = 2;
+// So often a thread sleeps while no other comes, for at most so many milliseconds each time. Then all begin without those that
+// haven't come: there may be fewer threads than parties.
+const MOST_SLEEPS: u32 = 4;
 
 const MILLISECONDS: u64 = 50;
 
-// Added once the meeting is given up. It is more than there are jobs.
+// The count of a meeting that is given up. It is more than there are parties.
 const GIVEN_UP: u64 = 1 << 31;
 
-// The jobs that are to begin, and how many have come so far.
+// How many are to begin, and how many have come so far.
 #[derive(Drop)]
 pub(crate) struct Meeting {
-    jobs: u64,
+    parties: u64,
     come: AtomicU64,
 }
 
 impl Meeting {
-    pub(crate) fn new(jobs: usize) -> Meeting {
+    pub(crate) fn new(parties: usize) -> Meeting {
         Meeting {
-            jobs: jobs as u64,
+            parties: parties as u64,
             come: AtomicU64::new(0),
         }
     }
 
-    // Waits until all jobs have come, or until none has come for so long as is said above, and returns whether all have: it
-    // returns the same to each job. If so each has a thread of its own, since none has ended before. A job that began alone
-    // would soon have nothing but idle turns, and end its round before the others' threads are there. The last one wakes
-    // the others.
+    // Waits until all have come, or until none has come for so long as is said above, and returns whether all have: it returns
+    // the same to each. If so each party has a thread of its own, since none has ended before. A job that began alone would
+    // soon have nothing but idle turns, and end before the others' threads are there. The last one wakes the others.
     pub(crate) fn attend<R: Wait>(&self, rt: &R) -> bool {
-        if self.come.fetch_add(1, Ordering::SeqCst) + 1 == self.jobs {
+        let before = self.come.fetch_add(1, Ordering::SeqCst);
+        if before.saturating_add(1) == self.parties {
             self.come.wake_all();
             return true;
         }
         let mut come = 0;
-        for _ in 0..self.jobs {
+        for _ in 0..self.parties {
             come = self.await_more_than(rt, come);
-            if come >= self.jobs {
+            if come >= self.parties {
                 break;
             }
         }
         come < GIVEN_UP
     }
 
-    // Whether all jobs have come.
+    // Whether all have come.
     pub(crate) fn have_come(&self) -> bool {
-        self.come.load(Ordering::SeqCst) == self.jobs
+        self.come.load(Ordering::SeqCst) == self.parties
     }
 
     // Returns how many have come, once it is more than so many.
@@ -71,9 +71,9 @@ impl Meeting {
     // Gives up if still so many have come, and returns how many have. The count tells both apart in one atomic step: all
     // can't come after it was given up, nor be given up after all have come.
     fn give_up(&self, before: u64) -> u64 {
-        let change =
-            self.come
-                .compare_exchange(before, GIVEN_UP, Ordering::SeqCst, Ordering::SeqCst);
+        let change = self
+            .come
+            .compare_exchange(before, GIVEN_UP, Ordering::SeqCst, Ordering::SeqCst);
         match change {
             Ok(_) => {
                 self.come.wake_all();

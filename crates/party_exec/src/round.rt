@@ -1,4 +1,4 @@
-// What the jobs of a round share beside the words.
+// What the threads of a run share beside the words, for the rounds that they make.
 
 ghost use Rattle.std.specs.Prelude.{◌<◌, ◌≤◌};
 ghost use Rattle.dbp_plan.specs.declared.limits.TheConstants.{MAX_TASKS};
@@ -19,7 +19,8 @@ const _: () = prove!(MOST_PARTIES == 33);
 // So many loads are shared among the pairs of jobs: the more jobs there are, the sooner another one needs the processor.
 const LOADS: usize = 16384;
 
-// The meeting of its jobs, a bell for each party, by the party's number, and whether a job has ended before its party.
+// Their meeting, if they hold one, a bell for each party, by the party's number, and whether a thread has made its last job
+// before its party has finished.
 #[derive(Drop)]
 pub(crate) struct Round {
     meeting: Option<Meeting>,
@@ -45,8 +46,8 @@ impl Round {
         }
     }
 
-    // Waits for the other jobs to begin with them. A job doesn't wait in a round for which fewer threads than jobs were made:
-    // these run one after another, and one that sleeps would keep those after it from ever running.
+    // Waits for the others to begin with them. A job doesn't wait where there may be fewer threads than parties: these run one
+    // after another, and one that sleeps would keep those after it from ever running.
     pub(crate) fn begin<R: Wait>(&self, rt: &R) -> Waiting {
         match &self.meeting {
             Some(meeting) if meeting.attend(rt) => Waiting::No,
@@ -54,7 +55,7 @@ impl Round {
         }
     }
 
-    // Whether its jobs were to meet and haven't.
+    // Whether they were to meet and haven't.
     pub(crate) fn was_given_up(&self) -> bool {
         match &self.meeting {
             Some(meeting) => !meeting.have_come(),
@@ -69,12 +70,13 @@ impl Round {
         &self.bells[party as usize]
     }
 
-    // Whether a job has ended before its party has finished.
+    // Whether a thread has made its last job before its party has finished.
     pub(crate) fn is_ending(&self) -> bool {
         self.is_ending.load(Ordering::SeqCst)
     }
 
-    // A job has ended before its party has finished: the others may wait for its steps, so none may sleep from now on.
+    // A thread has made its last job before its party has finished: the others may wait for its steps, so none may sleep from
+    // now on.
     pub(crate) fn end(&self) {
         if self.is_ending.swap(true, Ordering::SeqCst) {
             return;

@@ -4,14 +4,14 @@ ghost use Rattle.std.specs.Prelude.{◌≡◌, [], ◌∷◌, ◌++◌, All, IfO
 ghost use Rattle.std.specs.Thread.{IsSync};
 ghost use Rattle.party_exec.specs.Crews.{no_seed, thread_ready, thread_runs};
 ghost use Rattle.party_exec.specs.Entries.{entry_of};
-ghost use Rattle.party_exec.specs.Jobs.{HaveRounds, IsJob, IsRound};
+ghost use Rattle.party_exec.specs.Jobs.{HaveRounds, MakeJobs, MakesJobs};
 ghost use Rattle.party_exec.specs.Parties.{AreFresh, Belongs, HaveFinished};
 ghost use Rattle.party_exec.specs.SameSeats.{AreSameParties};
 
 use crate::all_parties::have_finished;
 use crate::crew::Crew;
 use crate::crew_entry::CrewEntry;
-use crate::job::job;
+use crate::job::jobs;
 use crate::meetings::Meetings;
 use crate::pace::{FreePace, Pace};
 use crate::party::Party;
@@ -129,14 +129,15 @@ fn run_rounds<R: Threads + Wait + Sync, P: Pace>(
         if have_finished(words, parties) {
             return;
         }
-        let is_given_up = round(rt, pace, words, parties, meetings.is_held());
+        let is_given_up = rounds(rt, pace, words, parties, meetings.is_held());
         meetings = meetings.after(is_given_up);
     }
     unreachable!()
 }
 
-// A round: the job of each party, in as many threads as there are parties. Returns whether its jobs were to meet and haven't.
-fn round<R: Threads + Wait + Sync, P: Pace>(
+// Rounds: the jobs of each party in a row, in as many threads as there are parties. Returns whether the threads were to meet
+// and haven't.
+fn rounds<R: Threads + Wait + Sync, P: Pace>(
     rt: &R,
     pace: &P,
     words: &SlotWords,
@@ -144,7 +145,7 @@ fn round<R: Threads + Wait + Sync, P: Pace>(
     is_met: bool,
 ) -> bool
     requires { All (Belongs words.now) parties.old }
-    ensures { IsRound words.now parties.old parties.new }
+    ensures { MakeJobs words.now parties.old 64 parties.new }
 {
     if parties.is_empty() {
         return false;
@@ -157,8 +158,8 @@ fn round<R: Threads + Wait + Sync, P: Pace>(
         threads,
         &|_: usize, party: &mut Party|
             requires { Belongs words.now party.now }
-            ensures { IsJob words.entry.now party.entry.now party.exit.now }
-        { job(rt, pace, words, &round, party) },
+            ensures { MakesJobs words.entry.now party.entry.now 64 party.exit.now }
+        { jobs(rt, pace, words, &round, party) },
     );
     round.was_given_up()
 }
