@@ -69,11 +69,11 @@ CHANGES = {
             "    pause(round, &mut draws);\n",
     }),
     "never_rung": Change("a bell is never rung after a step", "bell.rt", {
-        "== u64::from(party) {\n            self.ring();": "== u64::from(party) {",
+        "if self.awaits(party) {\n            self.ring();": "if self.awaits(party) {",
     }),
     "rung_before": Change("a bell is rung before the step", "job.rt", {
-        "    let turn = paced_turn(pace, words, party);\n    round.ring(words, number_in(words, party), concern);\n":
-            "    round.ring(words, number_in(words, party), concern);\n"
+        "    let turn = paced_turn(pace, words, party);\n    round.ring(words, number_in(words, party), party, concern);\n":
+            "    round.ring(words, number_in(words, party), party, concern);\n"
             "    let turn = paced_turn(pace, words, party);\n",
     }),
     "no_look": Change("a job that has said that it waits and sleeps doesn't look again", "waiting.rt", {
@@ -92,6 +92,15 @@ CHANGES = {
             "                Waiting::Sleeping { rings } => " + SLEEP + "\n"
             "                other => other,\n"
             "            },",
+    }),
+    "said_after": Change("a task says that it is done after it has rung", "concern.rt", {
+        "                self.bell(number).say_done(instances_done(party));\n"
+        "                self.ring_readers(words, task);\n":
+            "                self.ring_readers(words, task);\n"
+            "                self.bell(number).say_done(instances_done(party));\n",
+    }),
+    "not_asked_again": Change("the releaser leaves a task to a writer without asking again whether it is done", "concern.rt", {
+        "bell.pass(releaser, writer) && self.has_done(writer, instances)": "bell.pass(releaser, writer) && false",
     }),
     "silent_end_of_a_task": Change("the step `end` of a task doesn't ring for the releaser", "concern.rt", {
         "Place::End => Concern::Party(releaser_number(words)),": "Place::End => Concern::Nobody,",

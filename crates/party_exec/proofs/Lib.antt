@@ -13,5 +13,7 @@ pub mod Jobs
 pub mod Concerns
 pub mod Ends
 pub mod EachPlace
+pub mod Chosen
+pub mod ManyRounds
 pub mod DrawnRounds
 pub mod Rounds

@@ -7,7 +7,7 @@ use Rattle.std.proofs.lemmas.Option.{get_or_from_slice_get, slice_get-get_or, sl
 use Rattle.word_rule.specs.declared.seats.ReleaserSeat.{ReleaserSeat}
 use Rattle.word_rule.specs.declared.seats.SlotWords.{SlotWords}
 use Rattle.word_rule.specs.declared.seats.TaskSeat.{TaskSeat}
-use Rattle.party_exec.specs.Jobs.{AreJobs, IsCounted, IsCountedTurn, IsJob, MakesTurns, HasWorked, after_one, at_first, no_turn, one_turn}
+use Rattle.party_exec.specs.Jobs.{AreJobs, IsCounted, IsCountedTurn, IsJob, IsNextJob, MakesJobs, MakesTurns, HasWorked, after_one, at_first, no_job, no_turn, one_job, one_turn}
 use Rattle.party_exec.specs.Parties.{AreParties, Belongs, IsPartyAt, IsTurn}
 use Rattle.party_exec.specs.SameSeats.{AreSame, AreSameParties, IsSameParty, IsSameReleaserSeat, IsSameTaskSeat}
 use Rattle.party_exec.specs.declared.party.Party.{Party}
@@ -70,6 +70,16 @@ worked_same w p made idle q (after_one m i r s t before few quiet more turn) = s
 pub turned_same : (w : SlotWords) (p : Party) (made : ℕ) (q : Party) → MakesTurns w p made q → IsSameParty p q
 turned_same w p made q no_turn = same_party p
 turned_same w p made q (one_turn m r s t before turn) = same_further p r q (turned_same w p m r before) (turn_same w r q t turn)
+
+pub next_job_same : (w : SlotWords) (p q : Party) → IsNextJob w p q → IsSameParty p q
+next_job_same w p q next = elim next [
+  | inl rests ↦ subst (λ (x : Party). IsSameParty p x) (sym rests.1) (same_party p)
+  | inr works ↦ let job : IsJob w p q = works.1 in worked_same w p job.made job.idle q job.turns
+]
+
+pub made_jobs_same : (w : SlotWords) (p : Party) (made : ℕ) (q : Party) → MakesJobs w p made q → IsSameParty p q
+made_jobs_same w p made q no_job = same_party p
+made_jobs_same w p made q (one_job m r s before next) = same_further p r q (made_jobs_same w p m r before) (next_job_same w r q next)
 
 -- ---- all parties
 

@@ -53,6 +53,20 @@ pub record IsJob (w : SlotWords) (p q : Party) : Type 0 where
   pub turns : HasWorked w p made idle q
   pub stops : HasFinished w q ⊎ ((made ≡ 4096) ⊎ (idle ≡ 64))
 
+-- the party's next job: it rests once it has finished
+abbrev pub IsNextJob : SlotWords → Party → Party → Type 0
+IsNextJob w p q = (HasFinished w p × (q ≡ p)) ⊎ ((HasFinished w p → ⊥) × IsJob w p q)
+
+-- so many next jobs in a row
+pub data MakesJobs (w : SlotWords) (p : Party) : ℕ → Party → Type 0 where
+  no_job : MakesJobs w p 0 p
+  one_job : (made : ℕ) (q r : Party) → MakesJobs w p made q → IsNextJob w q r → MakesJobs w p (made + 1) r
+
+-- so many of each party
+pub record MakeJobs (w : SlotWords) (ps : List Party) (made : ℕ) (qs : List Party) : Type 0 where
+  pub size : length qs ≡ length ps
+  pub jobs : (k : ℕ) (d : Party) → k < length ps → MakesJobs w (slice_index_or ps k d) made (slice_index_or qs k d)
+
 -- a job of each party
 abbrev pub AreJobs : SlotWords → List Party → List Party → Type 0
 AreJobs w ps qs = (k : ℕ) (d : Party) → k < length ps → IsJob w (slice_index_or ps k d) (slice_index_or qs k d)

@@ -6,13 +6,14 @@ use std::sync::atomic::{AtomicBool, AtomicU64, Ordering};
 // The number of no party.
 const NOBODY: u64 = u64::MAX;
 
-// How often it was rung, the party for whose step its job waits, and whether that job sleeps. A count alone is passed, no
-// value: whoever is woken loads the shared word itself.
+// How often it was rung, the party for whose step its job waits, whether that job sleeps, and how many instances of its task
+// are done. No value is passed: whoever is woken loads the shared word itself.
 #[derive(Drop)]
 pub(crate) struct Bell {
     rings: AtomicU64,
     awaited: AtomicU64,
     sleeps: AtomicBool,
+    done: AtomicU64,
 }
 
 impl Bell {
@@ -21,6 +22,7 @@ impl Bell {
             rings: AtomicU64::new(0),
             awaited: AtomicU64::new(NOBODY),
             sleeps: AtomicBool::new(false),
+            done: AtomicU64::new(0),
         }
     }
 
@@ -32,6 +34,33 @@ impl Bell {
     // The job says that it waits for a step of the party with this number.
     pub(crate) fn say_awaited(&self, party: u32) {
         self.awaited.store(u64::from(party), Ordering::SeqCst);
+    }
+
+    // Whether the job waits for a step of the party with this number.
+    pub(crate) fn awaits(&self, party: u32) -> bool {
+        self.awaited.load(Ordering::SeqCst) == u64::from(party)
+    }
+
+    // A job that waits for a step of the first party waits for one of the second from now on. Returns whether it does.
+    pub(crate) fn pass(&self, first: u32, second: u32) -> bool {
+        self.awaited
+            .compare_exchange(
+                u64::from(first),
+                u64::from(second),
+                Ordering::SeqCst,
+                Ordering::SeqCst,
+            )
+            .is_ok()
+    }
+
+    // Says how many instances of its task are done.
+    pub(crate) fn say_done(&self, instances: u64) {
+        self.done.store(instances, Ordering::SeqCst);
+    }
+
+    // Whether it was said that so many instances of its task are done.
+    pub(crate) fn has_done(&self, instances: u32) -> bool {
+        self.done.load(Ordering::SeqCst) >= u64::from(instances)
     }
 
     // The job says that it sleeps.
@@ -68,7 +97,7 @@ impl Bell {
 
     // Rings after a step of the party with this number, if the job waits for one. Else this is a load.
     pub(crate) fn ring_after(&self, party: u32) {
-        if self.awaited.load(Ordering::SeqCst) == u64::from(party) {
+        if self.awaits(party) {
             self.ring();
         }
     }

@@ -46,6 +46,8 @@ pub(crate) enum Concern {
     Nobody,
     // The party with this number.
     Party(u32),
+    // The party of the task with this number, whose gate is opened.
+    Opened(u32),
     // The parties of the tasks that read the outs of the one with this number.
     Readers(u32),
 }
@@ -66,25 +68,88 @@ pub(crate) fn concerned(words: &SlotWords, party: &Party) -> Concern
     }
 }
 
+// How many instances of its task are done; 0 of the releaser.
+pub(crate) fn instances_done(party: &Party) -> u64 {
+    match party {
+        Party::Releaser(_) => 0,
+        Party::Task(party) => {
+            let part = party.seat.part();
+            let ended = u64::from(part.ended);
+            if matches!(part.place, Place::End) {
+                ended + 1
+            } else {
+                ended
+            }
+        }
+    }
+}
+
 // The party whose gate is opened by the action at the place.
 fn opened_next(words: &SlotWords, place: u32) -> Concern
     ensures { IsConcernIn words.now result }
 {
     match words.wiring().releases.get(place) {
-        Some(Release::OpenGate { task }) => Concern::Party(u32::from(*task)),
+        Some(Release::OpenGate { task }) => Concern::Opened(u32::from(*task)),
         _ => Concern::Nobody,
     }
 }
 
 impl Round {
     // Rings for those who wait for the step that the party with this number has made.
-    pub(crate) fn ring(&self, words: &SlotWords, party: u32, concern: Concern)
-        requires { IsConcernIn words.now concern }
+    pub(crate) fn ring(&self, words: &SlotWords, number: u32, party: &Party, concern: Concern)
+        requires number { number ≤ MAX_TASKS }
+        requires concern { IsConcernIn words.now concern }
     {
         match concern {
             Concern::Nobody => {}
-            Concern::Party(number) => self.bell(number).ring_after(party),
-            Concern::Readers(task) => self.ring_readers(words, task),
+            Concern::Party(other) => self.bell(other).ring_after(number),
+            Concern::Opened(task) => self.ring_opened(words, number, party, task),
+            Concern::Readers(task) => {
+                self.bell(number).say_done(instances_done(party));
+                self.ring_readers(words, task);
+            }
+        }
+    }
+
+    // A task that waits at the gate that the releaser has opened wouldn't get past its look as long as a task that it reads
+    // directly isn't done. If one isn't, it goes on to wait for that one, which rings once it is done.
+    fn ring_opened(&self, words: &SlotWords, releaser: u32, party: &Party, task: u32)
+        requires { task ≤ MAX_TASKS }
+    {
+        let bell = self.bell(task);
+        if !bell.awaits(releaser) {
+            return;
+        }
+        let Some((writer, instances)) = self.late_writer(words, party, task) else {
+            bell.ring();
+            return;
+        };
+        if bell.pass(releaser, writer) && self.has_done(writer, instances) {
+            bell.ring();
+        }
+    }
+
+    // The first task that isn't done with the instance that the task's opened one reads directly; and which instance.
+    fn late_writer(&self, words: &SlotWords, party: &Party, task: u32) -> Option<(u32, u32)> {
+        let Party::Releaser(party) = party else {
+            return None;
+        };
+        let wiring = words.wiring();
+        for number in wiring.tasks.get(task)?.links.items() {
+            let link = wiring.links.get(*number)?;
+            let claim = party.seat.part().links.get(*number)?;
+            if link.delay == 0 && !self.has_done(link.writer, claim.number) {
+                return Some((link.writer, claim.number));
+            }
+        }
+        None
+    }
+
+    // Whether it was said that so many instances of the task with this number are done.
+    fn has_done(&self, task: u32, instances: u32) -> bool {
+        match self.bells.get(task as usize) {
+            Some(bell) => bell.has_done(instances),
+            None => true,
         }
     }
 

@@ -1,11 +1,11 @@
-// A party's job of one round.
+// A party's jobs of the rounds that its thread makes.
 
 ghost use Rattle.std.specs.Prelude.{◌≡◌, ◌<◌};
-ghost use Rattle.party_exec.specs.Jobs.{IsCounted, IsCountedTurn, IsJob, idle_after, number_of, turns_made};
+ghost use Rattle.party_exec.specs.Jobs.{IsCounted, IsCountedTurn, IsJob, IsNextJob, MakesJobs, idle_after, number_of, turns_made};
 ghost use Rattle.party_exec.specs.Parties.{Belongs};
 
 use crate::bell::Bell;
-use crate::concern::{awaited, concerned, releaser_number};
+use crate::concern::{awaited, concerned, instances_done, releaser_number};
 use crate::pace::Pace;
 use crate::party::Party;
 use crate::round::Round;
@@ -21,9 +21,12 @@ const MOST_IDLE: u32 = 64;
 // After so many idle turns in a row a job begins to wait.
 const IDLE_BEFORE_WAIT: u32 = 2;
 
-// Makes turns of the party until it has finished, or until others are to have theirs. In the latter case the round ends: the
-// others may wait for the steps that this job leaves.
-pub(crate) fn job<R: Wait, P: Pace>(
+// So many jobs of a party a thread makes in a row.
+const MOST_JOBS: u32 = 64;
+
+// Makes jobs of the party, of so many rounds. If it hasn't finished then, these rounds end: the others may wait for the steps
+// that its jobs leave.
+pub(crate) fn jobs<R: Wait, P: Pace>(
     rt: &R,
     pace: &P,
     words: &SlotWords,
@@ -31,14 +34,66 @@ pub(crate) fn job<R: Wait, P: Pace>(
     party: &mut Party,
 )
     requires { Belongs words.now party.old }
-    ensures { IsJob words.now party.old party.new }
+    ensures { MakesJobs words.now party.old 64 party.new }
 {
     let bell = round.bell(number_in(words, party));
-    make_turns(rt, pace, words, round, bell, party);
-    bell.say_awake();
+    bell.say_done(instances_done(party));
+    let waiting = round.begin(rt);
+    make_jobs(rt, pace, words, round, waiting, party);
     if !party.has_finished(words) {
         round.end();
     }
+}
+
+fn make_jobs<R: Wait, P: Pace>(
+    rt: &R,
+    pace: &P,
+    words: &SlotWords,
+    round: &Round,
+    waiting: Waiting,
+    party: &mut Party,
+)
+    requires { Belongs words.now party.old }
+    ensures { MakesJobs words.now party.old 64 party.new }
+{
+    for _ in 0..MOST_JOBS {
+        next_job(rt, pace, words, round, waiting, party);
+    }
+}
+
+// The party's job of the next round, if it hasn't finished.
+fn next_job<R: Wait, P: Pace>(
+    rt: &R,
+    pace: &P,
+    words: &SlotWords,
+    round: &Round,
+    waiting: Waiting,
+    party: &mut Party,
+)
+    requires { Belongs words.now party.old }
+    ensures { IsNextJob words.now party.old party.new }
+{
+    if party.has_finished(words) {
+        return;
+    }
+    job(rt, pace, words, round, waiting, party);
+}
+
+// Makes turns of the party until it has finished, or until others are to have theirs.
+fn job<R: Wait, P: Pace>(
+    rt: &R,
+    pace: &P,
+    words: &SlotWords,
+    round: &Round,
+    waiting: Waiting,
+    party: &mut Party,
+)
+    requires { Belongs words.now party.old }
+    ensures { IsJob words.now party.old party.new }
+{
+    let bell = round.bell(number_in(words, party));
+    make_turns(rt, pace, words, round, bell, waiting, party);
+    bell.say_awake();
 }
 
 fn make_turns<R: Wait, P: Pace>(
@@ -47,12 +102,13 @@ fn make_turns<R: Wait, P: Pace>(
     words: &SlotWords,
     round: &Round,
     bell: &Bell,
+    waiting: Waiting,
     party: &mut Party,
 )
     requires { Belongs words.now party.old }
     ensures { IsJob words.now party.old party.new }
 {
-    let mut waiting = round.begin();
+    let mut waiting = waiting;
     let mut idle = 0;
     for _ in 0..MOST_TURNS {
         if party.has_finished(words) {
@@ -78,7 +134,7 @@ fn told_turn<P: Pace>(pace: &P, words: &SlotWords, round: &Round, party: &mut Pa
 {
     let concern = concerned(words, party);
     let turn = paced_turn(pace, words, party);
-    round.ring(words, number_in(words, party), concern);
+    round.ring(words, number_in(words, party), party, concern);
     turn
 }
 

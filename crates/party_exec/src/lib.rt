@@ -3,12 +3,12 @@
 //! A party is a seat with what goes with it. The releaser's has its book, whose part is the seat's (`Booked`). A task's
 //! has its `Work` and its rows, with room for all of them; its type keeps that they are what the meaning gives at its
 //! place (`Computed`), so when all have finished the rows are the meaning's table. A crew makes the turns of all
-//! parties until they have finished. A `ThreadCrew` gives each a thread for a round of at most 4,096 turns, which ends
-//! after 64 idle ones in a row; a thread whose party waits sleeps until the bell of the party is rung (`waiting`). A
-//! `TurnCrew` makes all turns on one thread, in rounds that are drawn from its seed. `Jobs` says what a round of jobs makes
-//! of the parties, `Draws` what is drawn. No clause says that parties finish, in which order turns are made, that a pace is
-//! called or what it does, that each job has a thread, when a thread sleeps or is woken, or that the threads of a round
-//! begin together.
+//! parties until they have finished. A `ThreadCrew` works in rounds, in each of which a party makes at most 4,096 turns,
+//! and none after 64 idle ones in a row. It gives each party a thread for 64 rounds; a thread whose party waits sleeps
+//! until the bell of the party is rung (`waiting`). A `TurnCrew` makes all turns on one thread, in rounds that are drawn
+//! from its seed. `Jobs` says what a round of jobs makes of the parties, `Draws` what is drawn. No clause says that parties
+//! finish, in which order turns are made, that a pace is called or what it does, that each job has a thread, when a thread
+//! sleeps or is woken, or that threads begin together.
 #![tactic(auto)]
 
 mod all_parties;
@@ -21,6 +21,7 @@ mod draws;
 mod job;
 mod look_up;
 mod meeting;
+mod meetings;
 mod pace;
 mod party;
 mod releaser_party;

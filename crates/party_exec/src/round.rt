@@ -1,4 +1,4 @@
-// What the jobs of a round share beside the words.
+// What the threads of a run share beside the words, for the rounds that they make.
 
 ghost use Rattle.std.specs.Prelude.{◌<◌, ◌≤◌};
 ghost use Rattle.dbp_plan.specs.declared.limits.TheConstants.{MAX_TASKS};
@@ -8,6 +8,7 @@ use crate::meeting::Meeting;
 use crate::waiting::Waiting;
 use dbp_plan::MAX_TASKS;
 use std::array;
+use std::sync::Wait;
 use std::sync::atomic::{AtomicBool, Ordering};
 
 // The parties of a run, at most.
@@ -18,35 +19,47 @@ const _: () = prove!(MOST_PARTIES == 33);
 // So many loads are shared among the pairs of jobs: the more jobs there are, the sooner another one needs the processor.
 const LOADS: usize = 16384;
 
-// The meeting of its jobs, a bell for each party, by the party's number, and whether a job has ended before its party.
+// Their meeting, if they hold one, a bell for each party, by the party's number, and whether a thread has made its last job
+// before its party has finished.
 #[derive(Drop)]
 pub(crate) struct Round {
-    meeting: Meeting,
-    bells: [Bell; MOST_PARTIES],
+    meeting: Option<Meeting>,
+    pub(crate) bells: [Bell; MOST_PARTIES],
     is_ending: AtomicBool,
     // how often a job that waits loads the count of its bell before it sleeps
     pub(crate) loads: usize,
 }
 
 impl Round {
-    pub(crate) fn new(jobs: usize) -> Round
+    pub(crate) fn new(jobs: usize, is_met: bool) -> Round
         requires { 0 < jobs }
     {
         Round {
-            meeting: Meeting::new(jobs),
+            meeting: if is_met {
+                Some(Meeting::new(jobs))
+            } else {
+                None
+            },
             bells: array::from_fn(|_: usize| Bell::new()),
             is_ending: AtomicBool::new(false),
             loads: LOADS / jobs / jobs,
         }
     }
 
-    // Waits for the other jobs to begin with them. A job doesn't wait in a round for which fewer threads than jobs were made:
-    // these run one after another, and one that sleeps would keep those after it from ever running.
-    pub(crate) fn begin(&self) -> Waiting {
-        if self.meeting.attend() {
-            Waiting::No
-        } else {
-            Waiting::Never
+    // Waits for the others to begin with them. A job doesn't wait where there may be fewer threads than parties: these run one
+    // after another, and one that sleeps would keep those after it from ever running.
+    pub(crate) fn begin<R: Wait>(&self, rt: &R) -> Waiting {
+        match &self.meeting {
+            Some(meeting) if meeting.attend(rt) => Waiting::No,
+            _ => Waiting::Never,
+        }
+    }
+
+    // Whether they were to meet and haven't.
+    pub(crate) fn was_given_up(&self) -> bool {
+        match &self.meeting {
+            Some(meeting) => !meeting.have_come(),
+            None => false,
         }
     }
 
@@ -57,12 +70,13 @@ impl Round {
         &self.bells[party as usize]
     }
 
-    // Whether a job has ended before its party has finished.
+    // Whether a thread has made its last job before its party has finished.
     pub(crate) fn is_ending(&self) -> bool {
         self.is_ending.load(Ordering::SeqCst)
     }
 
-    // A job has ended before its party has finished: the others may wait for its steps, so none may sleep from now on.
+    // A thread has made its last job before its party has finished: the others may wait for its steps, so none may sleep from
+    // now on.
     pub(crate) fn end(&self) {
         if self.is_ending.swap(true, Ordering::SeqCst) {
             return;

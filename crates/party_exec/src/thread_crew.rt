@@ -4,14 +4,15 @@ ghost use Rattle.std.specs.Prelude.{◌≡◌, [], ◌∷◌, ◌++◌, All, IfO
 ghost use Rattle.std.specs.Thread.{IsSync};
 ghost use Rattle.party_exec.specs.Crews.{no_seed, thread_ready, thread_runs};
 ghost use Rattle.party_exec.specs.Entries.{entry_of};
-ghost use Rattle.party_exec.specs.Jobs.{HaveRounds, IsJob, IsRound};
+ghost use Rattle.party_exec.specs.Jobs.{HaveRounds, MakeJobs, MakesJobs};
 ghost use Rattle.party_exec.specs.Parties.{AreFresh, Belongs, HaveFinished};
 ghost use Rattle.party_exec.specs.SameSeats.{AreSameParties};
 
 use crate::all_parties::have_finished;
 use crate::crew::Crew;
 use crate::crew_entry::CrewEntry;
-use crate::job::job;
+use crate::job::jobs;
+use crate::meetings::Meetings;
 use crate::pace::{FreePace, Pace};
 use crate::party::Party;
 use crate::round::Round;
@@ -123,37 +124,42 @@ fn run_rounds<R: Threads + Wait + Sync, P: Pace>(
     ensures same { AreSameParties parties.old parties.new }
     ensures finished { HaveFinished words.now parties.new }
 {
+    let mut meetings = Meetings::new();
     for _ in rt.forever() {
         if have_finished(words, parties) {
             return;
         }
-        round(rt, pace, words, parties);
+        let is_given_up = rounds(rt, pace, words, parties, meetings.is_held());
+        meetings = meetings.after(is_given_up);
     }
     unreachable!()
 }
 
-// A round: the job of each party, in as many threads as there are parties.
-fn round<R: Threads + Wait + Sync, P: Pace>(
+// Rounds: the jobs of each party in a row, in as many threads as there are parties. Returns whether the threads were to meet
+// and haven't.
+fn rounds<R: Threads + Wait + Sync, P: Pace>(
     rt: &R,
     pace: &P,
     words: &SlotWords,
     parties: &mut [Party],
-)
+    is_met: bool,
+) -> bool
     requires { All (Belongs words.now) parties.old }
-    ensures { IsRound words.now parties.old parties.new }
+    ensures { MakeJobs words.now parties.old 64 parties.new }
 {
     if parties.is_empty() {
-        return;
+        return false;
     }
     let threads = parties.len();
-    let round = Round::new(threads);
+    let round = Round::new(threads, is_met);
     thread::for_each_mut(
         rt,
         parties,
         threads,
         &|_: usize, party: &mut Party|
             requires { Belongs words.now party.now }
-            ensures { IsJob words.entry.now party.entry.now party.exit.now }
-        { job(rt, pace, words, &round, party) },
+            ensures { MakesJobs words.entry.now party.entry.now 64 party.exit.now }
+        { jobs(rt, pace, words, &round, party) },
     );
+    round.was_given_up()
 }

@@ -1,6 +1,5 @@
-use Rattle.std.proofs.Common.{All}
-use Rattle.party_exec.specs.Jobs.{no_round, one_round}
-use Rattle.party_exec.specs.Parties.{HasFinished}
+use Rattle.party_exec.specs.Jobs.{no_round}
+use Rattle.party_exec.proofs.ManyRounds.{rounds_further}
 use Rattle.party_exec.proofs.Places.{fresh_parties}
 use Rattle.party_exec.proofs.Rounds.{rounds_same, rounds_size}
 use Rattle.party_exec.proofs.SameParties.{all_belong, all_there_belong, places_stay, same_parties}
@@ -35,9 +34,8 @@ pub loop-preserved : goal.loop-preserved
 loop-preserved g c =
     let w = c.args.words.now in
     let ps = c.args.parties.now in
-    let more : All (HasFinished w) c.loop.parties → ⊥ = λ all. let no = c.if-have_finished.false in let yes = c.have_finished.ensures.1 all in absurd (cc (no, yes)) in
-    let rounds = one_round c.loop.parties c.round.new.parties c.loop.invariant.rounds more c.round.ensures in
+    let rounds = rounds_further w 64 ps c.loop.parties c.rounds-is_given_up.new.parties c.loop.invariant.rounds c.rounds-is_given_up.ensures in
     let here = all_there_belong w ps (fresh_parties w ps c.requires) in record {
-      here = all_belong w ps c.round.new.parties (rounds_size w ps c.round.new.parties rounds) here (rounds_same w ps c.round.new.parties rounds);
+      here = all_belong w ps c.rounds-is_given_up.new.parties (rounds_size w ps c.rounds-is_given_up.new.parties rounds) here (rounds_same w ps c.rounds-is_given_up.new.parties rounds);
       rounds = rounds;
     }
