@@ -9,6 +9,7 @@ import time
 from pathlib import Path
 
 from awaited import SECONDS
+from served import own_signals
 
 TOP = Path(__file__).resolve().parent.parent
 SERVER = TOP / "tools" / "language_server"
@@ -44,7 +45,7 @@ class Client:
     def __init__(self, program, *words, **how):
         command = [sys.executable, "-S", str(SERVER), "--program", str(program), *words]
         pipe = subprocess.PIPE
-        self.process = subprocess.Popen(command, stdin=pipe, stdout=pipe, stderr=pipe, **how)
+        self.process = subprocess.Popen(command, stdin=pipe, stdout=pipe, stderr=pipe, preexec_fn=own_signals, **how)
         self.messages = queue.Queue()
         self.number = 0
         self.slowest = (0.0, "")
