@@ -66,7 +66,7 @@ def lines_of(document):
 # The tokenizer.
 
 LANGUAGE = (TOP / "docs" / "LANGUAGE.md").read_text()
-RESERVED = re.search(r"\*\*Reserved words\*\* are `([a-z ]+)`", LANGUAGE)[1].split()
+RESERVED = re.search(r"\*\*Keywords\*\* are `([a-z ]+)`", LANGUAGE)[1].split()
 STEPS = list(dict.fromkeys(re.findall(r"(?m)^\| `([a-z]+) T[ `]", LANGUAGE)))
 
 SYMBOLS = r"==|!=|<=|>=|[=<>+\-*/%(),.]"

@@ -523,7 +523,7 @@ def must_be_refused(client):
 AT_LEVEL = {"line": 8, "character": 6}  # the out of `sensor`
 REFUSED_NAMES = {
     "n": "`n` is a state already, declared in line 7",
-    "out": "reserved word",
+    "out": "keyword",
     "5a": "begins with no digit",
     "a b": "letters, digits",
     "é": "letters, digits",

@@ -60,7 +60,7 @@ def wanted(found):
     yield "what can be renamed", (span(found["prepared"]["range"]), found["prepared"]["placeholder"]), (SENSOR, "sensor")
     yield "what can't be renamed", found["unprepared"], "no name stands here, or its line has a fault"
     yield "renaming", edits_of(found["renamed"]), [(it, "gauge") for it in RENAMED_PLACES]
-    yield "a refused name", "reserved word" in found["refused"], True
+    yield "a refused name", "keyword" in found["refused"], True
     completed = [(it["label"], it["kind"], it["detail"], span(it["range"])) for it in found["completed"]]
     yield "completion", completed, [("alarm", 22, "event alarm", [9, 15, 9, 15])]
     yield "symbols", [it["name"] for it in found["symbols"]], ["alarm", "sensor", "report", "control", "trace"]

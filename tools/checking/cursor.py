@@ -99,7 +99,7 @@ class Cursor:
         if self.here.says(",") and wanted == "`=`":
             return "each name has a line of its own"
         if self.here.kind is Kind.WORD and "name" in wanted:
-            return f"`{self.here.text}` is a reserved word, and no name"
+            return f"`{self.here.text}` is a keyword, and no name"
         if "line's end" in wanted and self.here.kind is Kind.WORD and self.here.text in FORMS:
             return "each statement has a line of its own"
         if self.here.says("-") and self.at + 1 < len(self.tokens) and self.tokens[self.at + 1].kind is Kind.NUMBER:

@@ -82,7 +82,7 @@ def about_operand(cursor):
         return ""
     if cursor.says("pre"):
         return "`pre` stands in `read` lines alone; a state keeps a task's own values"
-    return f"`{cursor.here.text}` is a reserved word, and no name"
+    return f"`{cursor.here.text}` is a keyword, and no name"
 
 
 def after_call(cursor, names, call):
@@ -144,5 +144,5 @@ def about_rest(cursor):
     if here.says(".") and before.kind is Kind.NAME:
         return "the out of a task gets a name by a line `read NAME = TASK.OUT`"
     if here.kind is Kind.WORD and here.text not in FORMS:
-        return f"`{here.text}` is a reserved word, and no operator"
+        return f"`{here.text}` is a keyword, and no operator"
     return WORDS.get(here.text.lower()) or about_word(here, ("and", "or")) or ""

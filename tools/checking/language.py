@@ -1,6 +1,6 @@
 """The words, the forms of lines and the limits of the language, as docs/LANGUAGE.md has them.
 
-A new reserved word is also added in editors/vim/syntax/dbp.vim and in editors/vscode/dbp.tmLanguage.json; the gate compares
+A new keyword is also added in editors/vim/syntax/dbp.vim and in editors/vscode/dbp.tmLanguage.json; the gate compares
 both with the list in the docs.
 """
 

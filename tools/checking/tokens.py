@@ -20,7 +20,7 @@ class Kind(Enum):
     """What a token is; the parts of a line that make no token are BAD."""
 
     NAME = "name"
-    WORD = "reserved word"
+    WORD = "keyword"
     NUMBER = "number"
     SYMBOL = "symbol"
     BAD = "bad"
@@ -58,7 +58,7 @@ class Token(NamedTuple):
         return -digits if self.text.startswith("-") else digits
 
     def says(self, *texts):
-        """Whether it is a reserved word or a symbol with one of these texts."""
+        """Whether it is a keyword or a symbol with one of these texts."""
         return self.text in texts and self.kind in (Kind.WORD, Kind.SYMBOL)
 
 

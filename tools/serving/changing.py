@@ -23,7 +23,7 @@ def renamed(version, name, new):
     if declared is None:
         raise NotDone(f"`{name.text}` isn't declared")
     if not NAME.fullmatch(new) or new in RESERVED or len(new) > MOST_NAME:
-        rule = f"letters, digits and `_`, at most {MOST_NAME}, begins with no digit, and is no reserved word"
+        rule = f"letters, digits and `_`, at most {MOST_NAME}, begins with no digit, and is no keyword"
         raise NotDone(f"a name has {rule}")
     if new == name.text:
         return []

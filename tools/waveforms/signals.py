@@ -8,7 +8,7 @@ from enum import Enum
 from itertools import groupby
 from typing import Iterable, NamedTuple, Tuple
 
-TRACE_SCOPE = "trace"  # a reserved word: no task has this name
+TRACE_SCOPE = "trace"  # a keyword: no task has this name
 
 
 class Kind(Enum):

@@ -1,4 +1,4 @@
--- The names of generated documents are names, and no reserved words.
+-- The names of generated documents are names, and no keywords.
 use Rattle.std.proofs.Common.{◌≡◌, ◌≢◌, ℕ, ◌+◌, ◌/◌, ◌%◌, ◌<◌, ◌≤◌, true, false, All, List, [], ◌∷◌, ◌++◌, length, get_or, refl, sym, ap, ◌∙◌, subst, inl, inr, arith}
 use Rattle.std.specs.Prelude.{◌==◌, not, IsTrue, codes, decimal}
 use Rattle.std.specs.Char.{is_ascii_digit}
@@ -63,7 +63,7 @@ read-name j small = record {
   fits = omega arith;
 }
 
--- ---- they are no reserved words
+-- ---- they are no keywords
 
 t-word : (ds : List ℕ) → 0 < length ds → get_or ds 0 0 ≤ 57 → keyword_of (116 ∷ ds) ≡ name (116 ∷ ds)
 unfolding keyword_of

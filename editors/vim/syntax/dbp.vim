@@ -21,7 +21,7 @@ syntax match dbpError /-\=\d\+\h\w*/
 syntax match dbpName /\h\w*/ nextgroup=dbpMinus skipwhite
 syntax match dbpError /\h\w\{24,}/
 
-" Reserved words.
+" Keywords.
 syntax keyword dbpHeader dbp policy fp edf until
 syntax keyword dbpDeclaration input event task
 syntax keyword dbpPart state sense read let next out
