@@ -6,7 +6,7 @@
 // have one order. A job that waits
 //
 //   1. takes the count of its bell,        5. watches the count,
-//   2. loads whether the rounds are ending, 6. says that it sleeps,
+//   2. loads whether rounds are ending,    6. says that it sleeps,
 //   3. says for whose step it waits,       7. looks, by a turn,
 //   4. looks, by a turn,                   8. sleeps while the count is that of 1.
 //
