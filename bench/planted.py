@@ -125,7 +125,7 @@ def make_copy(change, folder):
     folder.mkdir(parents=True)
     for name in COPIED:
         if (TOP / name).is_dir():
-            shutil.copytree(TOP / name, folder / name, symlinks=True)
+            shutil.copytree(TOP / name, folder / name, symlinks=True, ignore=shutil.ignore_patterns("out"))
         else:
             shutil.copy(TOP / name, folder)
     file = folder / SOURCES / change.file
