@@ -120,7 +120,7 @@ impl<T: Drop> List<T> {
         self.items.is_empty()
     }
 
-    /// An empty list with room for as many items.
+    // An empty list with room for as many items.
     pub(crate) fn sized_like(&self) -> Result<List<T>, NoMemory>
         ensures { IfOk result (λ made. made ≡ []) }
     {

@@ -1,3 +1,5 @@
+// The operators of expressions, and their nodes.
+
 /// An operator before one operand.
 #[derive(Clone, Copy, Debug, PartialEq, Eq)]
 pub enum UnOp {

@@ -75,7 +75,7 @@ impl From<NoMemory> for ScriptFail {
     }
 }
 
-/// The first step, counted from 1, that isn't allowed after those before it, and why it isn't.
+// The first step, counted from 1, that isn't allowed after those before it, and why it isn't.
 #[derive(Clone, Copy)]
 pub(crate) struct IllegalStep {
     pub(crate) step: u32,

@@ -10,7 +10,7 @@ use dbp_plan::Name;
 use dia_lines::{delay_at, short_delay};
 use dia_tokens::Token;
 
-/// What a line says after its task.
+// What a line says after its task.
 #[derive(Clone, Copy)]
 pub(crate) enum Operand {
     Nothing,
@@ -20,7 +20,7 @@ pub(crate) enum Operand {
     Port(Name),
 }
 
-/// A line of a script, with names as they were read.
+// A line of a script, with names as they were read.
 #[derive(Clone, Copy)]
 pub(crate) struct Form {
     pub(crate) kind: StepKind,
@@ -28,7 +28,7 @@ pub(crate) struct Form {
     pub(crate) operand: Operand,
 }
 
-/// The text of a name or a keyword.
+// The text of a name or a keyword.
 fn name_text(token: &Token) -> &[u8]
     ensures { result.now ≡ name_text token.now }
 {
@@ -48,7 +48,7 @@ fn slot_of(number: i64) -> Option<Operand>
     }
 }
 
-/// The link with the delay, if that is within its limits.
+// The link with the delay, if that is within its limits.
 fn link_of(delay: Option<i64>, writer: Name) -> Option<Operand>
     ensures { result ≡ link_of delay writer }
 {
@@ -58,7 +58,7 @@ fn link_of(delay: Option<i64>, writer: Name) -> Option<Operand>
     }
 }
 
-/// A delay as documents have it, and then the writer.
+// A delay as documents have it, and then the writer.
 fn writer_of(tokens: &[Token]) -> Option<Operand>
     ensures { result ≡ writer_of (delay_at tokens.now) }
 {
@@ -68,7 +68,7 @@ fn writer_of(tokens: &[Token]) -> Option<Operand>
     }
 }
 
-/// The operand that the tokens are.
+// The operand that the tokens are.
 fn operand_of(takes: Takes, tokens: &[Token]) -> Option<Operand>
     ensures { result ≡ operand_of takes tokens.now }
 {
@@ -82,7 +82,7 @@ fn operand_of(takes: Takes, tokens: &[Token]) -> Option<Operand>
     }
 }
 
-/// The form that the tokens have.
+// The form that the tokens have.
 pub(crate) fn form_in(tokens: &[Token]) -> Option<Form>
     ensures { result ≡ form_in tokens.now }
 {

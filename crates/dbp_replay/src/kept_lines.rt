@@ -12,15 +12,15 @@ use dbp_core::{Step, StepKind};
 use dbp_plan::{Diagram, NoMemory};
 use std::alloc::Global;
 
-/// The most lines that are kept.
+// The most lines that are kept.
 const MOST_LINES: usize = 4096;
 
-/// How many places apart, counted in tasks, the lines of neighbouring numbers are kept. With this count more than nine
-/// in ten steps of the documents in bench/ find their line.
+// How many places apart, counted in tasks, the lines of neighbouring numbers are kept. With this count more than nine
+// in ten steps of the documents in bench/ find their line.
 const NUMBER_SPREAD: usize = 158;
 
-/// What a step is made of: its kind, its task, and the number that it has besides. A claim has its link's number as
-/// both, and a step that names only a task has that as both.
+// What a step is made of: its kind, its task, and the number that it has besides. A claim has its link's number as
+// both, and a step that names only a task has that as both.
 #[derive(Clone, Copy, Debug, PartialEq, Eq)]
 struct Parts {
     kind: StepKind,
@@ -28,14 +28,14 @@ struct Parts {
     number: u32,
 }
 
-/// A step, and its line with the line feed.
+// A step, and its line with the line feed.
 #[derive(Drop)]
 pub(crate) struct Line {
     parts: Parts,
     text: Vec<u8>,
 }
 
-/// Empty places for the lines of a script with so many steps.
+// Empty places for the lines of a script with so many steps.
 pub(crate) fn no_lines(alloc: Global, steps: usize) -> Result<Vec<Option<Line>>, NoMemory>
     ensures { IfOk result (λ lines. lines.items ≡ replicate (min steps MOST_LINES) None) }
 {
@@ -47,7 +47,7 @@ pub(crate) fn no_lines(alloc: Global, steps: usize) -> Result<Vec<Option<Line>>,
     Ok(lines)
 }
 
-/// Adds the step's line, which is copied if it is kept.
+// Adds the step's line, which is copied if it is kept.
 #[inline]
 pub(crate) fn push_line(
     lines: &mut Vec<Option<Line>>,

@@ -5,22 +5,22 @@ ghost use Rattle.dbp_replay.specs.StepForms.{form_of, kind_among, kind_with, kin
 
 use dbp_core::StepKind;
 
-/// What a line has after its word and its task.
+// What a line has after its word and its task.
 #[derive(Clone, Copy, Debug, PartialEq, Eq)]
 pub(crate) enum Takes {
-    /// Nothing.
+    // Nothing.
     Nothing,
-    /// The number of a slot.
+    // The number of a slot.
     Slot,
-    /// The name of a writer, after `pre` or `pre N` if the link is delayed.
+    // The name of a writer, after `pre` or `pre N` if the link is delayed.
     Writer,
-    /// The name of a read.
+    // The name of a read.
     Read,
-    /// The name of an out.
+    // The name of an out.
     Port,
 }
 
-/// The word that begins a line of the kind.
+// The word that begins a line of the kind.
 pub(crate) fn word_of(kind: StepKind) -> &'static [u8]
     ensures { result.now ≡ (form_of kind).0 }
 {
@@ -40,7 +40,7 @@ pub(crate) fn word_of(kind: StepKind) -> &'static [u8]
     }
 }
 
-/// The word that begins a line of the kind, and the space after it.
+// The word that begins a line of the kind, and the space after it.
 pub(crate) fn opening_of(kind: StepKind) -> &'static [u8]
     ensures { result.now ≡ (form_of kind).0 ++ 32 ∷ [] }
 {
@@ -60,7 +60,7 @@ pub(crate) fn opening_of(kind: StepKind) -> &'static [u8]
     }
 }
 
-/// What stands after the task in a line of the kind.
+// What stands after the task in a line of the kind.
 pub(crate) fn takes_of(kind: StepKind) -> Takes
     ensures { result ≡ (form_of kind).1 }
 {
@@ -73,7 +73,7 @@ pub(crate) fn takes_of(kind: StepKind) -> Takes
     }
 }
 
-/// The kinds whose word begins with this byte.
+// The kinds whose word begins with this byte.
 #[tactic(auto, unfolding(crate::specs::StepForms::kinds_from))]
 fn kinds_from(first: u8) -> &'static [StepKind]
     ensures { result.now ≡ kinds_from first }
@@ -93,14 +93,14 @@ fn kinds_from(first: u8) -> &'static [StepKind]
     }
 }
 
-/// The first of the kinds that has the word.
+// The first of the kinds that has the word.
 fn kind_among(kinds: &[StepKind], text: &[u8]) -> Option<StepKind>
     ensures { result ≡ kind_among kinds.now text.now }
 {
     kinds.iter().find(|kind| word_of(**kind) == text).copied()
 }
 
-/// The kind of the lines that begin with the word.
+// The kind of the lines that begin with the word.
 #[tactic(auto, using(crate::proofs::StepWords::among_from))]
 pub(crate) fn kind_with(text: &[u8]) -> Option<StepKind>
     ensures { result ≡ kind_with text.now }

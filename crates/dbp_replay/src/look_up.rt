@@ -22,7 +22,7 @@ pub(crate) fn link_at(diagram: &Diagram, k: u32) -> Link
     diagram.links.items()[k as usize]
 }
 
-/// The name of the task.
+// The name of the task.
 pub(crate) fn task_name(diagram: &Diagram, i: u32) -> &[u8]
     requires { i < length diagram.now.tasks }
     ensures { result.now ≡ (task_at diagram.now i).name }
@@ -30,7 +30,7 @@ pub(crate) fn task_name(diagram: &Diagram, i: u32) -> &[u8]
     task_at(diagram, i).name.bytes()
 }
 
-/// The name of the task's read.
+// The name of the task's read.
 pub(crate) fn read_name(diagram: &Diagram, i: u32, read: u32) -> &[u8]
     requires task { i < length diagram.now.tasks }
     requires read { read < length (task_at diagram.now i).reads }
@@ -41,7 +41,7 @@ pub(crate) fn read_name(diagram: &Diagram, i: u32, read: u32) -> &[u8]
         .bytes()
 }
 
-/// The name of the task's out.
+// The name of the task's out.
 pub(crate) fn port_name(diagram: &Diagram, i: u32, port: u32) -> &[u8]
     requires task { i < length diagram.now.tasks }
     requires port { port < length (task_at diagram.now i).outs }
@@ -50,7 +50,7 @@ pub(crate) fn port_name(diagram: &Diagram, i: u32, port: u32) -> &[u8]
     task_at(diagram, i).outs.items()[port as usize].name.bytes()
 }
 
-/// The task that steps; of a claim it is the link's reader.
+// The task that steps; of a claim it is the link's reader.
 pub(crate) fn task_of(diagram: &Diagram, step: Step) -> u32
     requires { IsNamed diagram.now step }
     ensures { result ≡ task_of diagram.now step }

@@ -13,8 +13,8 @@ use dbp_core::{Step, StepKind};
 use dbp_plan::{Diagram, Link, Name, Out, Read, Task};
 use dia_tokens::Token;
 
-/// The step that the tokens of a line name: `BadStep` if they have no form, else `StepName` if a name or a link isn't
-/// there.
+// The step that the tokens of a line name: `BadStep` if they have no form, else `StepName` if a name or a link isn't
+// there.
 pub(crate) fn step_of(diagram: &Diagram, tokens: &[Token]) -> Result<Step, ScriptCode>
     ensures { result ≡ step_of diagram.now tokens.now }
 {
@@ -42,7 +42,7 @@ fn step_numbered(kind: StepKind, i: u32, number: Option<u32>) -> Result<Step, Sc
     }
 }
 
-/// The step of the kind: of this task, and with this number if it takes one.
+// The step of the kind: of this task, and with this number if it takes one.
 fn step_with(kind: StepKind, task: u32, number: u32) -> Step
     ensures { result ≡ step_with kind task number }
 {
@@ -62,7 +62,7 @@ fn step_with(kind: StepKind, task: u32, number: u32) -> Step
     }
 }
 
-/// The number that an operand of the task's step is; if there is none it is 0.
+// The number that an operand of the task's step is; if there is none it is 0.
 fn number_of(diagram: &Diagram, i: u32, operand: Operand) -> Option<u32>
     requires { i < length diagram.now.tasks }
     ensures { result ≡ number_of diagram.now i operand }
@@ -86,7 +86,7 @@ pub fn task_named(diagram: &Diagram, name: &Name) -> Option<u32>
     within(tasks.len(), task_place(tasks, name))
 }
 
-/// The first read of the task with the name.
+// The first read of the task with the name.
 fn read_named(diagram: &Diagram, i: u32, name: &Name) -> Option<u32>
     requires { i < length diagram.now.tasks }
     ensures { result ≡ read_named diagram.now i name.now }
@@ -95,7 +95,7 @@ fn read_named(diagram: &Diagram, i: u32, name: &Name) -> Option<u32>
     within(reads.len(), read_place(reads, name))
 }
 
-/// The first out of the task with the name.
+// The first out of the task with the name.
 fn port_named(diagram: &Diagram, i: u32, name: &Name) -> Option<u32>
     requires { i < length diagram.now.tasks }
     ensures { result ≡ port_named diagram.now i name.now }
@@ -104,7 +104,7 @@ fn port_named(diagram: &Diagram, i: u32, name: &Name) -> Option<u32>
     within(outs.len(), port_place(outs, name))
 }
 
-/// The first link from the writer to the reader with the delay.
+// The first link from the writer to the reader with the delay.
 fn link_between(diagram: &Diagram, writer: Option<u32>, reader: u32, delay: u32) -> Option<u32>
     ensures { result ≡ link_between diagram.now writer reader delay }
 {
@@ -113,7 +113,7 @@ fn link_between(diagram: &Diagram, writer: Option<u32>, reader: u32, delay: u32)
     within(links.len(), link_place(links, writer, reader, delay))
 }
 
-/// The place in a list of this length, if it is one.
+// The place in a list of this length, if it is one.
 fn within(len: usize, place: usize) -> Option<u32>
     requires { len < 2 ^ 32 }
     ensures { result ≡ within len place }

@@ -33,7 +33,7 @@ pub fn print_script(
     Ok(text)
 }
 
-/// Adds the words of a step: its word and its task, each with the space between them as one slice, and what it names.
+// Adds the words of a step: its word and its task, each with the space between them as one slice, and what it names.
 #[inline]
 pub(crate) fn push_step(text: &mut Vec<u8>, diagram: &Diagram, step: Step) -> Result<(), NoMemory>
     requires { IsThere diagram.now step }
@@ -80,7 +80,7 @@ fn push_delay(text: &mut Vec<u8>, delay: u32) -> Result<(), NoMemory>
     push_number(text, delay)
 }
 
-/// Adds what a step heard after ` ->`, and nothing if it stored a word.
+// Adds what a step heard after ` ->`, and nothing if it stored a word.
 #[inline]
 pub(crate) fn push_heard(text: &mut Vec<u8>, heard: Heard) -> Result<(), NoMemory>
     ensures { OnOk result (text.new.items ≡ text.old.items ++ spaced_words (heard_words heard)) }

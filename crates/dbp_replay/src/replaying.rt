@@ -77,7 +77,7 @@ pub fn replay_in(
     Ok(transcript(alloc, &core.plan().diagram, steps, &all_heard)?)
 }
 
-/// The lines of steps, each with what it heard.
+// The lines of steps, each with what it heard.
 fn transcript(
     alloc: Global,
     diagram: &Diagram,

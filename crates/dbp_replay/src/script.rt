@@ -55,14 +55,14 @@ pub fn read_script(alloc: Global, diagram: &Diagram, doc: &Doc) -> Result<List<S
     Ok(steps)
 }
 
-/// No script: the first fault, which is never out of memory.
+// No script: the first fault, which is never out of memory.
 fn refused(line: u32, code: ScriptCode) -> Result<List<Step>, ScriptFail>
     ensures { result ≡ Err (script_fail.Refused line code) }
 {
     Err(ScriptFail::Refused { line, code })
 }
 
-/// What a kept line says: a step, or a fault. Its tokens take the place of those in the list.
+// What a kept line says: a step, or a fault. Its tokens take the place of those in the list.
 fn step_on(
     diagram: &Diagram,
     line: &[u8],
@@ -77,7 +77,7 @@ fn step_on(
     }
 }
 
-/// Why a line that has tokens gave none.
+// Why a line that has tokens gave none.
 fn out_of_memory(fail: LineFail) -> NoMemory
     requires { fail ≡ OutOfMemory }
 {

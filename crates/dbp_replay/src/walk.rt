@@ -8,8 +8,8 @@ ghost use Rattle.dbp_replay.specs.Replays.{AreTaken, IsIllegal, first};
 use crate::fail::IllegalStep;
 use dbp_core::{Core, Heard, Step};
 
-/// What the steps hear, taken in order by a core from its start on; else the first that isn't allowed after those before
-/// it. There is room for what all of them hear, so no memory is taken.
+// What the steps hear, taken in order by a core from its start on; else the first that isn't allowed after those before
+// it. There is room for what all of them hear, so no memory is taken.
 pub(crate) fn walk(
     core: &mut Core,
     steps: &[Step],

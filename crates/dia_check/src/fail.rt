@@ -98,7 +98,7 @@ impl From<NoMemory> for CheckFail {
     }
 }
 
-/// Why a line of a declaration, a task or a body isn't right.
+// Why a line of a declaration, a task or a body isn't right.
 #[derive(Clone, Copy)]
 pub(crate) enum LineFault {
     Duplicate,
@@ -107,7 +107,7 @@ pub(crate) enum LineFault {
     ReadPastCost,
 }
 
-/// The refusal for a fault of the line with the number.
+// The refusal for a fault of the line with the number.
 pub(crate) fn line_refusal(fault: (u32, LineFault)) -> CheckFail
     ensures { result ≡ line_refusal fault }
 {
@@ -121,7 +121,7 @@ pub(crate) fn line_refusal(fault: (u32, LineFault)) -> CheckFail
     CheckFail::Refused { line, code }
 }
 
-/// Why a task or a read of a diagram doesn't go with its ranks.
+// Why a task or a read of a diagram doesn't go with its ranks.
 #[derive(Clone, Copy)]
 pub(crate) enum RankFault {
     MissingPrio,
@@ -129,7 +129,7 @@ pub(crate) enum RankFault {
     UndelayedUpward { writer: u32, reader: u32 },
 }
 
-/// The refusal for a fault of ranks at the line with the number.
+// The refusal for a fault of ranks at the line with the number.
 pub(crate) fn rank_refusal(fault: (u32, RankFault)) -> CheckFail
     ensures { result ≡ rank_refusal fault }
 {

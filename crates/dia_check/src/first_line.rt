@@ -10,7 +10,7 @@ use crate::line_faults::{decl_fault, part_fault, task_fault};
 use dia_lines::Decl;
 use dia_read::{Body, Doc, RawTask};
 
-/// Of the declarations, whose lines have these numbers.
+// Of the declarations, whose lines have these numbers.
 fn decls_fault(decls: &[Decl], lines: &[u32]) -> Option<(u32, LineFault)>
     requires { length decls.now ≤ length lines.now }
     ensures { result ≡ first_fault (faults_after decl_fault [] decls.now lines.now) }
@@ -23,7 +23,7 @@ fn decls_fault(decls: &[Decl], lines: &[u32]) -> Option<(u32, LineFault)>
     None
 }
 
-/// Of the task's body, whose lines have the first of these numbers.
+// Of the task's body, whose lines have the first of these numbers.
 fn body_fault(body: &Body, task: &RawTask, lines: &[u32]) -> Option<(u32, LineFault)>
     requires { length task.now.parts ≤ length lines.now }
     ensures { result ≡ first_fault
@@ -38,7 +38,7 @@ fn body_fault(body: &Body, task: &RawTask, lines: &[u32]) -> Option<(u32, LineFa
     None
 }
 
-/// Of the tasks and their bodies.
+// Of the tasks and their bodies.
 fn tasks_fault(doc: &Doc) -> Option<(u32, LineFault)>
     requires { HasItemLines doc.now }
     ensures { result ≡ first_fault
@@ -59,7 +59,7 @@ fn tasks_fault(doc: &Doc) -> Option<(u32, LineFault)>
     None
 }
 
-/// The first line of a declaration, a task or a body that has a fault, with its first fault.
+// The first line of a declaration, a task or a body that has a fault, with its first fault.
 pub(crate) fn first_line_fault(doc: &Doc) -> Option<(u32, LineFault)>
     requires { HasItemLines doc.now }
     ensures { result ≡ first_fault (line_faults doc.now) }

@@ -14,7 +14,7 @@ use dbp_plan::{Expr, Name, Node};
 use dia_lines::{Decl, Part, RawClock};
 use dia_read::{Body, RawTask};
 
-/// Whether the part is a state, a sense, a read or a let of the name.
+// Whether the part is a state, a sense, a read or a let of the name.
 fn binds(name: &Name, part: &Part) -> bool
     ensures { result ≡ binds name.now part.now }
 {
@@ -25,14 +25,14 @@ fn binds(name: &Name, part: &Part) -> bool
     }
 }
 
-/// Whether the part declares the name.
+// Whether the part declares the name.
 fn is_declared(name: &Name, part: &Part) -> bool
     ensures { result ≡ is_declared name.now part.now }
 {
     binds(name, part) || matches!(part, Part::Out(other, _, _) if other == name)
 }
 
-/// Whether an input has the name.
+// Whether an input has the name.
 fn has_input(decls: &[Decl], name: &Name) -> bool
     ensures { result ≡ list_any (is_input name.now) decls.now }
 {
@@ -71,7 +71,7 @@ fn has_declared(parts: &[Part], name: &Name) -> bool
     parts.iter().any(|part| is_declared(name, part))
 }
 
-/// Whether a line before declares the part's name too, or gives the same state a next value.
+// Whether a line before declares the part's name too, or gives the same state a next value.
 #[tactic(auto, using(crate::proofs::NameTests::among_nexts, crate::proofs::NameTests::among_declared))]
 fn is_repeated(before: &[Part], part: &Part) -> bool
     ensures { result ≡ is_repeated before.now part.now }
@@ -86,7 +86,7 @@ fn is_repeated(before: &[Part], part: &Part) -> bool
     }
 }
 
-/// Whether the node is a name of nothing in the task's environment.
+// Whether the node is a name of nothing in the task's environment.
 #[tactic(auto, using(crate::proofs::NameTests::among_env))]
 fn is_unbound(parts: &[Part], node: &Node<Name>) -> bool
     ensures { result ≡ is_unbound (env_names parts.now) node.now }
@@ -106,7 +106,7 @@ fn has_unbound(parts: &[Part], expr: &Expr<Name>) -> bool
         .any(|node| is_unbound(parts, node))
 }
 
-/// Whether the part uses a name that nothing has.
+// Whether the part uses a name that nothing has.
 #[tactic(auto, using(crate::proofs::NameTests::among_inputs, crate::proofs::NameTests::among_states))]
 fn is_unknown(body: &Body, task: &RawTask, part: &Part) -> bool
     ensures { result ≡ is_unknown body.now task.now part.now }
@@ -134,7 +134,7 @@ fn is_past_cost(task: &RawTask, part: &Part) -> bool
     matches!(part, Part::Read { at, .. } if task.cost <= *at)
 }
 
-/// The first fault of a line of the task's body, after those before it.
+// The first fault of a line of the task's body, after those before it.
 pub(crate) fn part_fault(
     body: &Body,
     task: &RawTask,
@@ -167,14 +167,14 @@ fn decl_name(decl: &Decl) -> &Name
     }
 }
 
-/// Whether an input or an event has the name.
+// Whether an input or an event has the name.
 fn has_decl(decls: &[Decl], name: &Name) -> bool
     ensures { result ≡ list_any (is_decl name.now) decls.now }
 {
     decls.iter().any(|decl| decl_name(decl) == name)
 }
 
-/// Whether a task has the name.
+// Whether a task has the name.
 #[tactic(auto, using(crate::proofs::PortLaws::some_index))]
 fn has_task(tasks: &[RawTask], name: &Name) -> bool
     ensures { result ≡ list_any (is_task name.now) tasks.now }
@@ -182,7 +182,7 @@ fn has_task(tasks: &[RawTask], name: &Name) -> bool
     task_index(tasks, name).is_some()
 }
 
-/// The fault of a declaration after those before it.
+// The fault of a declaration after those before it.
 #[tactic(auto, using(crate::proofs::NameTests::among_decls))]
 pub(crate) fn decl_fault(before: &[Decl], decl: &Decl) -> Option<LineFault>
     ensures { result ≡ decl_fault before.now decl.now }
@@ -203,7 +203,7 @@ fn is_unknown_clock(decls: &[Decl], clock: RawClock) -> bool
     }
 }
 
-/// Whether a `when` names no input.
+// Whether a `when` names no input.
 #[tactic(auto, using(crate::proofs::NameTests::among_inputs))]
 fn is_unknown_when(decls: &[Decl], when: Option<Name>) -> bool
     ensures { result ≡ is_unknown_when decls.now when }
@@ -214,7 +214,7 @@ fn is_unknown_when(decls: &[Decl], when: Option<Name>) -> bool
     }
 }
 
-/// The first fault of the line that begins a task, after the tasks before it.
+// The first fault of the line that begins a task, after the tasks before it.
 #[tactic(auto, using(crate::proofs::NameTests::among_both))]
 pub(crate) fn task_fault(body: &Body, before: &[RawTask], task: &RawTask) -> Option<LineFault>
     ensures { result ≡ task_fault body.now before.now task.now }

@@ -13,7 +13,7 @@ fn is_same_link(link: &Link, other: &Link) -> bool
     link.writer == other.writer && link.reader == other.reader && link.delay == other.delay
 }
 
-/// The number of the link among these: the first, or their count if it isn't there.
+// The number of the link among these: the first, or their count if it isn't there.
 fn link_number(links: &[Link], link: &Link) -> u32
     requires { length links.now < 2 ^ 32 }
     ensures { result ≡ link_number links.now link.now }
@@ -24,7 +24,7 @@ fn link_number(links: &[Link], link: &Link) -> u32
         .count() as u32
 }
 
-/// The number of the link among these. A link that isn't there is added.
+// The number of the link among these. A link that isn't there is added.
 pub(crate) fn number_of(links: &mut List<Link>, link: Link) -> Result<u32, NoMemory>
     requires { length links.old + 1 < 2 ^ 32 }
     ensures added { OnOk result

@@ -12,7 +12,7 @@ use dbp_plan::{List, Name, NoMemory};
 use dia_lines::{Decl, Part};
 use std::alloc::Global;
 
-/// The kinds of names of a task.
+// The kinds of names of a task.
 #[derive(Clone, Copy)]
 pub(crate) enum Kind {
     State,
@@ -21,7 +21,7 @@ pub(crate) enum Kind {
     Let,
 }
 
-/// The place of the name, the first of them; after all if it isn't among them.
+// The place of the name, the first of them; after all if it isn't among them.
 pub(crate) fn index_of(names: &[Name], name: &Name) -> u32
     requires { length names.now < 2 ^ 32 }
     ensures { result ≡ index_of names.now name.now }
@@ -55,7 +55,7 @@ pub(crate) fn event_names(alloc: Global, decls: &[Decl]) -> Result<List<Name>, N
     Ok(names)
 }
 
-/// The name that the part declares, if it is of the kind.
+// The name that the part declares, if it is of the kind.
 fn named(kind: Kind, part: &Part) -> Option<Name>
     ensures { option_to_list result ≡ named kind part.now }
 {
@@ -68,7 +68,7 @@ fn named(kind: Kind, part: &Part) -> Option<Name>
     }
 }
 
-/// Adds the names of the kind.
+// Adds the names of the kind.
 fn push_named(names: &mut List<Name>, kind: Kind, parts: &[Part]) -> Result<(), NoMemory>
     requires { length names.old + length parts.now < 2 ^ 32 }
     ensures added { OnOk result (names.new ≡ names.old ++ flat_map (named kind) parts.now) }
@@ -91,7 +91,7 @@ pub(crate) fn state_names(alloc: Global, parts: &[Part]) -> Result<List<Name>, N
     Ok(names)
 }
 
-/// The names of the task's environment.
+// The names of the task's environment.
 pub(crate) fn env_names(alloc: Global, parts: &[Part]) -> Result<List<Name>, NoMemory>
     requires { length parts.now ≤ MAX_BODY }
     ensures { IfOk result (λ names. names ≡ env_names parts.now) }

@@ -8,7 +8,7 @@ ghost use Rattle.dia_read.specs.Printable.{HasItemLines, is_out_part};
 use dia_lines::Part;
 use dia_read::{Doc, RawTask};
 
-/// Whether a line of the task's body is an `out`.
+// Whether a line of the task's body is an `out`.
 fn has_outs(task: &RawTask) -> bool
     ensures { result ≡ list_any is_out_part task.now.parts }
 {
@@ -24,7 +24,7 @@ pub(crate) fn lacks_outs(task: &RawTask) -> bool
     !has_outs(task)
 }
 
-/// Whether a line of the task's body is a `let`.
+// Whether a line of the task's body is a `let`.
 fn has_lets(task: &RawTask) -> bool
     ensures { result ≡ has_lets task.now }
 {
@@ -34,7 +34,7 @@ fn has_lets(task: &RawTask) -> bool
         .any(|part| matches!(part, Part::Let(_, _)))
 }
 
-/// The line of the first task without outs, if no task before it has lets, which may have a cycle.
+// The line of the first task without outs, if no task before it has lets, which may have a cycle.
 pub(crate) fn line_without_out(doc: &Doc) -> Option<u32>
     requires { HasItemLines doc.now }
     ensures { result ≡ line_without_out doc.now }

@@ -35,7 +35,7 @@ fn placed_nodes(
     Ok(made)
 }
 
-/// The expression with the place of each name among these.
+// The expression with the place of each name among these.
 pub(crate) fn placed(
     alloc: Global,
     names: &[Name],

@@ -10,14 +10,14 @@ use dbp_plan::{List, Name};
 use dia_lines::Part;
 use dia_read::RawTask;
 
-/// The index of the first task with the name.
+// The index of the first task with the name.
 pub(crate) fn task_index(tasks: &[RawTask], name: &Name) -> Option<usize>
     ensures { result ≡ position (is_task name.now) tasks.now }
 {
     tasks.iter().position(|task| task.name == *name)
 }
 
-/// The index of the name among the body's outs.
+// The index of the name among the body's outs.
 fn out_index(parts: &[Part], name: &Name) -> Option<u32>
     requires { length parts.now < 2 ^ 32 }
     ensures { result ≡ find_index (flat_map out_name parts.now) name.now }
@@ -34,7 +34,7 @@ fn out_index(parts: &[Part], name: &Name) -> Option<u32>
     None
 }
 
-/// The indexes of a task and of its out, of the first task with the name.
+// The indexes of a task and of its out, of the first task with the name.
 pub(crate) fn port_index(tasks: &List<RawTask>, writer: &Name, port: &Name) -> Option<(u32, u32)>
     ensures { result ≡ port_index tasks.now writer.now port.now }
 {

@@ -36,7 +36,7 @@ fn task_rank_fault(policy: Policy, task: &Task) -> Option<RankFault>
     }
 }
 
-/// The first fault of the tasks, whose lines have these numbers.
+// The first fault of the tasks, whose lines have these numbers.
 fn tasks_rank_fault(policy: Policy, tasks: &[Task], lines: &[u32]) -> Option<(u32, RankFault)>
     requires { length tasks.now ≤ length lines.now }
     ensures { result ≡ first_fault
@@ -50,7 +50,7 @@ fn tasks_rank_fault(policy: Policy, tasks: &[Task], lines: &[u32]) -> Option<(u3
     None
 }
 
-/// `UndelayedUpward`, if the link is direct and its reader is ranked above its writer.
+// `UndelayedUpward`, if the link is direct and its reader is ranked above its writer.
 fn link_rank_fault(policy: Policy, tasks: &[Task], link: Link) -> Option<RankFault>
     requires { (link.writer < length tasks.now) × (link.reader < length tasks.now) }
     ensures { result ≡ link_rank_fault (ranks_of policy tasks.now) link }
@@ -64,7 +64,7 @@ fn link_rank_fault(policy: Policy, tasks: &[Task], link: Link) -> Option<RankFau
     None
 }
 
-/// The first fault of the read lines, which read over these links of these tasks.
+// The first fault of the read lines, which read over these links of these tasks.
 fn reads_rank_fault(
     policy: Policy,
     tasks: &[Task],
@@ -85,7 +85,7 @@ fn reads_rank_fault(
     None
 }
 
-/// The first fault of the tasks, or else of the read lines.
+// The first fault of the tasks, or else of the read lines.
 fn first_rank_fault(shaped: &Shaped) -> Option<(u32, RankFault)>
     requires closed { IsClosed shaped.now.diagram }
     requires lines { HasLines shaped.now }

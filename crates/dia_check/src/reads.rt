@@ -17,14 +17,14 @@ use dia_lines::Part;
 use dia_read::{Body, RawTask};
 use std::alloc::Global;
 
-/// The links over which tasks read, and their `read` lines.
+// The links over which tasks read, and their `read` lines.
 #[derive(Drop)]
 pub(crate) struct ReadLinks {
     pub(crate) links: List<Link>,
     pub(crate) lines: List<ReadLine>,
 }
 
-/// The read of this line of the reader's body. Its link is added if it isn't there, and so is the line.
+// The read of this line of the reader's body. Its link is added if it isn't there, and so is the line.
 fn read_of(
     body: &Body,
     found: &mut ReadLinks,
@@ -78,8 +78,8 @@ fn read_of(
     }))
 }
 
-/// The reads of the task with this number, of which no line has a fault. The links of its `read` lines that aren't there
-/// are added, and so are the lines. The lines of its body have the first of these numbers.
+// The reads of the task with this number, of which no line has a fault. The links of its `read` lines that aren't there
+// are added, and so are the lines. The lines of its body have the first of these numbers.
 pub(crate) fn reads_of(
     alloc: Global,
     body: &Body,

@@ -8,7 +8,7 @@ use dbp_plan::{List, Name, NoMemory};
 use dia_read::Body;
 use std::alloc::Global;
 
-/// The names that a document declares, each kind by number.
+// The names that a document declares, each kind by number.
 #[derive(Drop)]
 pub(crate) struct Scope {
     pub(crate) inputs: List<Name>,

@@ -40,7 +40,7 @@ fn inputs_of(alloc: Global, decls: &[Decl]) -> Result<List<Input>, NoMemory>
     Ok(inputs)
 }
 
-/// The tasks of the document, of which no line has a fault. Their links and read lines are put into `found`.
+// The tasks of the document, of which no line has a fault. Their links and read lines are put into `found`.
 #[tactic(auto, using(crate::proofs::TasksSoFar::tasks_begin))]
 fn tasks_of(
     alloc: Global,
@@ -72,7 +72,7 @@ fn tasks_of(
     Ok(tasks)
 }
 
-/// The diagram of the document with these tasks and links.
+// The diagram of the document with these tasks and links.
 fn diagram_of(
     alloc: Global,
     body: &Body,
@@ -98,7 +98,7 @@ fn diagram_of(
     })
 }
 
-/// The diagram and the lines of the document, of which no line has a fault.
+// The diagram and the lines of the document, of which no line has a fault.
 fn shaped_of(alloc: Global, doc: &Doc) -> Result<Shaped, CheckFail>
     requires printable { IsPrintable doc.now.body }
     requires lines { HasItemLines doc.now }

@@ -36,7 +36,7 @@ fn clock_of(scope: &Scope, clock: &RawClock) -> Clock
     }
 }
 
-/// The number of the input that must not be 0, if the line names one.
+// The number of the input that must not be 0, if the line names one.
 fn when_of(scope: &Scope, when: Option<Name>) -> Option<u32>
     ensures { result ≡ when_of scope.now.inputs when }
 {
@@ -44,14 +44,14 @@ fn when_of(scope: &Scope, when: Option<Name>) -> Option<u32>
     Some(index_of(scope.inputs.items(), &input))
 }
 
-/// The lets of a task and an order of them from the front.
+// The lets of a task and an order of them from the front.
 #[derive(Drop)]
 struct OrderedLets {
     lets: List<Let>,
     order: List<u32>,
 }
 
-/// The lets of the task, whose environment has these names.
+// The lets of the task, whose environment has these names.
 fn ordered_lets(
     alloc: Global,
     body: &Body,
@@ -71,7 +71,7 @@ fn ordered_lets(
     Ok(OrderedLets { lets, order })
 }
 
-/// What a task computes.
+// What a task computes.
 #[derive(Drop)]
 struct Work {
     lets: List<Let>,
@@ -101,7 +101,7 @@ fn work_of(alloc: Global, body: &Body, raw: &RawTask) -> Result<Work, LetFail>
     })
 }
 
-/// What a task keeps and senses.
+// What a task keeps and senses.
 #[derive(Drop)]
 struct Sources {
     states: List<State>,
@@ -124,7 +124,7 @@ fn sources_of(
     })
 }
 
-/// The task that its lines say, with these reads.
+// The task that its lines say, with these reads.
 fn task_of(
     alloc: Global,
     body: &Body,
@@ -160,7 +160,7 @@ fn task_of(
     })
 }
 
-/// The line of the let with the number, from 0, if the lines of the body have the first of these numbers.
+// The line of the let with the number, from 0, if the lines of the body have the first of these numbers.
 fn let_line(parts: &[Part], lines: &[u32], number: u32) -> u32
     requires lines { length parts.now ≤ length lines.now }
     requires there { number < length (let_lines parts.now lines.now) }
@@ -178,7 +178,7 @@ fn let_line(parts: &[Part], lines: &[u32], number: u32) -> u32
     unreachable!()
 }
 
-/// The refusal for a failure of the task's lets. The lines of its body have the first of these numbers.
+// The refusal for a failure of the task's lets. The lines of its body have the first of these numbers.
 fn let_refusal(raw: &RawTask, lines: &[u32], fail: LetFail) -> CheckFail
     requires fail { IsFailOf (base_of raw.now) (lets_of raw.now) fail }
     requires lines { length raw.now.parts ≤ length lines.now }
@@ -193,8 +193,8 @@ fn let_refusal(raw: &RawTask, lines: &[u32], fail: LetFail) -> CheckFail
     }
 }
 
-/// The task that its lines say, with these reads, or why it isn't right as a whole. Its first line has this number, and
-/// those of its body the first of these.
+// The task that its lines say, with these reads, or why it isn't right as a whole. Its first line has this number, and
+// those of its body the first of these.
 pub(crate) fn checked_task(
     alloc: Global,
     body: &Body,

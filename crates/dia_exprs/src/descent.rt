@@ -15,7 +15,7 @@ use crate::{ExpressionFail, Level};
 use dbp_plan::{BinOp, List, Name, Node};
 use dia_tokens::Token;
 
-/// An expression of the level.
+// An expression of the level.
 #[cycle(expression)]
 fn at_level<'t>(
     level: Level,
@@ -44,7 +44,7 @@ fn at_level<'t>(
     }
 }
 
-/// A whole expression.
+// A whole expression.
 #[cycle(expression)]
 pub(crate) fn whole<'t>(
     out: &mut List<Node<Name>>,
@@ -65,7 +65,7 @@ pub(crate) fn whole<'t>(
     }
 }
 
-/// What stands after `if`.
+// What stands after `if`.
 #[cycle(expression)]
 fn choice<'t>(
     out: &mut List<Node<Name>>,
@@ -96,7 +96,7 @@ fn choice<'t>(
     Ok(rest)
 }
 
-/// Operands of the level, joined by its operators from the left.
+// Operands of the level, joined by its operators from the left.
 #[cycle(expression)]
 fn joined<'t>(
     level: Level,
@@ -123,7 +123,7 @@ fn joined<'t>(
     Ok(rest)
 }
 
-/// A sum, or two that are compared.
+// A sum, or two that are compared.
 #[cycle(expression)]
 fn compared<'t>(
     out: &mut List<Node<Name>>,
@@ -149,7 +149,7 @@ fn compared<'t>(
     Ok(rest)
 }
 
-/// A factor, with operators before it.
+// A factor, with operators before it.
 #[cycle(expression)]
 fn prefixed<'t>(
     out: &mut List<Node<Name>>,
@@ -173,7 +173,7 @@ fn prefixed<'t>(
     Ok(rest)
 }
 
-/// A number, a name, a call or an expression in parentheses.
+// A number, a name, a call or an expression in parentheses.
 #[tactic(auto, unfolding(crate::specs::Grammar::operator_of))]
 #[cycle(expression)]
 fn factor<'t>(
@@ -212,7 +212,7 @@ fn factor<'t>(
     }
 }
 
-/// What stands after a parenthesis that opens.
+// What stands after a parenthesis that opens.
 #[cycle(expression)]
 fn inside<'t>(
     out: &mut List<Node<Name>>,
@@ -233,7 +233,7 @@ fn inside<'t>(
     }
 }
 
-/// Two arguments in parentheses.
+// Two arguments in parentheses.
 #[cycle(expression)]
 fn call<'t>(
     op: BinOp,

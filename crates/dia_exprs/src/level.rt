@@ -1,3 +1,5 @@
+// The levels of expressions.
+
 /// Where an expression may stand, the loosest first.
 #[derive(Clone, Copy, Debug, PartialEq, Eq)]
 pub enum Level {

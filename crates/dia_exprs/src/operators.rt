@@ -66,7 +66,7 @@ fn prefix(token: &Token) -> Option<UnOp>
     }
 }
 
-/// The operator that a token is before two arguments.
+// The operator that a token is before two arguments.
 #[tactic(auto, unfolding(crate::specs::Grammar::operator_of))]
 pub(crate) fn called(token: &Token) -> Option<BinOp>
     ensures { result ≡ is_called token.now }
@@ -101,7 +101,7 @@ pub fn operator_token(op: BinOp) -> Token
     }
 }
 
-/// The operator of the level at the front, and the tokens after it.
+// The operator of the level at the front, and the tokens after it.
 #[tactic(auto, unfolding(crate::specs::Grammar::operator_of))]
 pub(crate) fn split_operator(level: Level, tokens: &[Token]) -> Option<(BinOp, &[Token])>
     ensures value { option_map (λ x. (x.0, x.1.now)) result ≡ operator_at level tokens.now }
@@ -117,7 +117,7 @@ pub(crate) fn split_operator(level: Level, tokens: &[Token]) -> Option<(BinOp, &
     }
 }
 
-/// Whether a number or a name is a product of its own at the front of the tokens.
+// Whether a number or a name is a product of its own at the front of the tokens.
 pub(crate) fn is_lone(tokens: &[Token]) -> bool
     ensures { result ≡ is_lone tokens.now }
 {
@@ -130,7 +130,7 @@ pub(crate) fn is_lone(tokens: &[Token]) -> bool
     }
 }
 
-/// The comparison at the front, and the tokens after it.
+// The comparison at the front, and the tokens after it.
 #[tactic(auto, unfolding(crate::specs::Grammar::operator_of))]
 pub(crate) fn split_comparison(tokens: &[Token]) -> Option<(BinOp, &[Token])>
     ensures value { option_map (λ x. (x.0, x.1.now)) result ≡ comparison_at tokens.now }
@@ -146,7 +146,7 @@ pub(crate) fn split_comparison(tokens: &[Token]) -> Option<(BinOp, &[Token])>
     }
 }
 
-/// The prefix at the front, and the tokens after it.
+// The prefix at the front, and the tokens after it.
 pub(crate) fn split_prefix(tokens: &[Token]) -> Option<(UnOp, &[Token])>
     ensures value { option_map (λ x. (x.0, x.1.now)) result ≡ prefix_at tokens.now }
     ensures shorter { IfSome result (λ x. length x.1.now + 1 ≡ length tokens.now) }
@@ -161,7 +161,7 @@ pub(crate) fn split_prefix(tokens: &[Token]) -> Option<(UnOp, &[Token])>
     }
 }
 
-/// The tokens after `then`.
+// The tokens after `then`.
 pub(crate) fn split_then(tokens: &[Token]) -> Option<&[Token]>
     ensures value { option_map (λ rest. rest.now) result ≡ then_at tokens.now }
     ensures shorter { IfSome result (λ rest. length rest.now + 1 ≡ length tokens.now) }
@@ -173,7 +173,7 @@ pub(crate) fn split_then(tokens: &[Token]) -> Option<&[Token]>
     }
 }
 
-/// The tokens after `else`.
+// The tokens after `else`.
 pub(crate) fn split_else(tokens: &[Token]) -> Option<&[Token]>
     ensures value { option_map (λ rest. rest.now) result ≡ else_at tokens.now }
     ensures shorter { IfSome result (λ rest. length rest.now + 1 ≡ length tokens.now) }
@@ -185,7 +185,7 @@ pub(crate) fn split_else(tokens: &[Token]) -> Option<&[Token]>
     }
 }
 
-/// The tokens after `(`.
+// The tokens after `(`.
 pub(crate) fn split_open(tokens: &[Token]) -> Option<&[Token]>
     ensures value { option_map (λ rest. rest.now) result ≡ open_at tokens.now }
     ensures shorter { IfSome result (λ rest. length rest.now + 1 ≡ length tokens.now) }
@@ -197,7 +197,7 @@ pub(crate) fn split_open(tokens: &[Token]) -> Option<&[Token]>
     }
 }
 
-/// The tokens after a comma.
+// The tokens after a comma.
 pub(crate) fn split_comma(tokens: &[Token]) -> Option<&[Token]>
     ensures value { option_map (λ rest. rest.now) result ≡ comma_at tokens.now }
     ensures shorter { IfSome result (λ rest. length rest.now + 1 ≡ length tokens.now) }
@@ -209,7 +209,7 @@ pub(crate) fn split_comma(tokens: &[Token]) -> Option<&[Token]>
     }
 }
 
-/// The tokens after `)`.
+// The tokens after `)`.
 pub(crate) fn split_close(tokens: &[Token]) -> Option<&[Token]>
     ensures value { option_map (λ rest. rest.now) result ≡ close_at tokens.now }
     ensures shorter { IfSome result (λ rest. length rest.now + 1 ≡ length tokens.now) }
@@ -221,7 +221,7 @@ pub(crate) fn split_close(tokens: &[Token]) -> Option<&[Token]>
     }
 }
 
-/// The tokens after `if`.
+// The tokens after `if`.
 pub(crate) fn split_if(tokens: &[Token]) -> Option<&[Token]>
     ensures value { option_map (λ rest. rest.now) result ≡ if_at tokens.now }
     ensures shorter { IfSome result (λ rest. length rest.now + 1 ≡ length tokens.now) }
@@ -233,7 +233,7 @@ pub(crate) fn split_if(tokens: &[Token]) -> Option<&[Token]>
     }
 }
 
-/// The first token, and the tokens after it.
+// The first token, and the tokens after it.
 pub(crate) fn split_token(tokens: &[Token]) -> Option<(&Token, &[Token])>
     ensures some { IfSome result (λ x. tokens.now ≡ x.0.now ∷ x.1.now) }
     ensures none { IsNone result → tokens.now ≡ [] }

@@ -3,16 +3,16 @@
 use dbp_plan::{Name, Policy};
 use dia_tokens::Token;
 
-/// When a task occurs, with its numbers as they are spelled.
+// When a task occurs, with its numbers as they are spelled.
 #[derive(Clone, Copy)]
 pub(crate) enum ClockForm {
-    /// With a period and an offset.
+    // With a period and an offset.
     Every(i64, i64),
-    /// At the event's occurrences.
+    // At the event's occurrences.
     On(Name),
 }
 
-/// A line that begins a task, with its numbers as they are spelled.
+// A line that begins a task, with its numbers as they are spelled.
 #[derive(Clone, Copy)]
 pub(crate) struct TaskForm {
     pub name: Name,
@@ -26,7 +26,7 @@ pub(crate) struct TaskForm {
     pub cpu: Option<i64>,
 }
 
-/// A line that names an out of a task, with its numbers as they are spelled.
+// A line that names an out of a task, with its numbers as they are spelled.
 #[derive(Clone, Copy)]
 pub(crate) struct ReadForm {
     pub name: Name,
@@ -37,11 +37,11 @@ pub(crate) struct ReadForm {
     pub at: i64,
 }
 
-/// What a line says, with its numbers as they are spelled and with the tokens of its expression.
+// What a line says, with its numbers as they are spelled and with the tokens of its expression.
 #[derive(Clone, Copy)]
 pub(crate) enum Form<'t> {
     Nothing,
-    /// The version.
+    // The version.
     Header(u32),
     Policy(Policy),
     Until(i64),

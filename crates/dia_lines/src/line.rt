@@ -21,7 +21,7 @@ use crate::{Counts, Line, LineError, Place, Position};
 use dia_tokens::{Keyword, Token, line_spelling, tokens_into};
 use std::alloc::Global;
 
-/// The tokens of a line, which take the place of the list's, or its first fault.
+// The tokens of a line, which take the place of the list's, or its first fault.
 fn line_tokens(line: &[u8], out: &mut Vec<Token>) -> Result<(), LineError>
     ensures found { OnOk result (SpellsTokens line.now out.new.items) }
     ensures fault { IfErr result (λ e. RefusesText line.now e) }
@@ -31,7 +31,7 @@ fn line_tokens(line: &[u8], out: &mut Vec<Token>) -> Result<(), LineError>
     Ok(tokens_into(line, out)?)
 }
 
-/// A line of the diagram, and the counts after it.
+// A line of the diagram, and the counts after it.
 fn diagram_line(
     alloc: Global,
     position: Position,
@@ -57,7 +57,7 @@ fn diagram_line(
     }
 }
 
-/// A line of the script section.
+// A line of the script section.
 fn script_line(alloc: Global, line: &[u8]) -> Result<Line, LineError>
     ensures found { IfOk result (λ l. (said : Content) × SaysInScript line.now said × IsHeld said l) }
     ensures fault { IfErr result (λ e. RefusesText line.now e) }
@@ -73,7 +73,7 @@ fn script_line(alloc: Global, line: &[u8]) -> Result<Line, LineError>
     }
 }
 
-/// The place after a line that may stand at the place.
+// The place after a line that may stand at the place.
 fn place_after(place: Place, line: &Line) -> Place
     ensures { result ≡ place_after_line place line.now }
 {
@@ -89,7 +89,7 @@ fn place_after(place: Place, line: &Line) -> Place
     }
 }
 
-/// The version after a line that may stand after lines of the version.
+// The version after a line that may stand after lines of the version.
 fn version_after(version: u32, line: &Line) -> u32
     ensures { result ≡ version_after_line version line.now }
 {
@@ -99,7 +99,7 @@ fn version_after(version: u32, line: &Line) -> u32
     }
 }
 
-/// What is kept of a line of the trace section. The position goes on behind it.
+// What is kept of a line of the trace section. The position goes on behind it.
 fn past_trace_line(position: &mut Position, line: TraceLine) -> Line
     ensures kept { result ≡ kept_in_trace line }
     ensures next { position.new
@@ -119,7 +119,7 @@ fn past_trace_line(position: &mut Position, line: TraceLine) -> Line
     }
 }
 
-/// What the line says after those before it, which aren't in the trace section, and the counts after it.
+// What the line says after those before it, which aren't in the trace section, and the counts after it.
 fn counted_line(
     alloc: Global,
     position: Position,
@@ -142,7 +142,7 @@ fn counted_line(
     }
 }
 
-/// What a line that isn't in the trace section says after those before it. The position goes on behind it.
+// What a line that isn't in the trace section says after those before it. The position goes on behind it.
 fn line_outside_trace(
     alloc: Global,
     position: &mut Position,

@@ -225,7 +225,7 @@ fn line<'t>(keyword: Keyword, tokens: &'t [Token]) -> Option<Form<'t>>
     }
 }
 
-/// The form of a line.
+// The form of a line.
 #[tactic(auto, unfolding(crate::specs::Forms::shape_at))]
 pub(crate) fn form<'t>(tokens: &'t [Token]) -> Option<Form<'t>>
     ensures { option_map shape_of result ≡ shape_at tokens.now }

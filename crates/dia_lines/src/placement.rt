@@ -70,7 +70,7 @@ fn is_of_version(version: u32, form: &Form) -> bool
     }
 }
 
-/// Whether a line of the form may stand at the place in a document of the version.
+// Whether a line of the form may stand at the place in a document of the version.
 pub(crate) fn may_stand(version: u32, place: Place, form: &Form) -> bool
     ensures { result
         ≡ (is_some (leads place (example_of (shape_of form.now)))

@@ -90,7 +90,7 @@ impl Counts {
         }
     }
 
-    /// The counts after the line, or the first limit that it is one past.
+    // The counts after the line, or the first limit that it is one past.
     pub(crate) fn with_line(self, line: &Line) -> Result<Counts, Limit>
         ensures { result ≡ counts_with_line self line.now }
     {

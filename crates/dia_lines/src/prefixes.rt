@@ -11,7 +11,7 @@ use crate::form::ClockForm;
 use dbp_plan::Name;
 use dia_tokens::{Keyword, Symbol, Token};
 
-/// The version of the language that has the number.
+// The version of the language that has the number.
 pub(crate) fn version(value: i64) -> Option<u32>
     ensures { result ≡ version_of value }
 {
@@ -22,7 +22,7 @@ pub(crate) fn version(value: i64) -> Option<u32>
     }
 }
 
-/// `NAME =` at the front.
+// `NAME =` at the front.
 pub(crate) fn assigned(tokens: &[Token]) -> Option<(Name, &[Token])>
     ensures { option_map (λ x. (x.0, x.1.now)) result ≡ assigned_at tokens.now }
 {
@@ -32,7 +32,7 @@ pub(crate) fn assigned(tokens: &[Token]) -> Option<(Name, &[Token])>
     }
 }
 
-/// `N then` at the front.
+// `N then` at the front.
 pub(crate) fn first_value(tokens: &[Token]) -> Option<(i64, &[Token])>
     ensures { option_map (λ x. (x.0, x.1.now)) result ≡ first_at tokens.now }
 {
@@ -60,7 +60,7 @@ fn offset(tokens: &[Token]) -> (i64, &[Token])
     }
 }
 
-/// A task's clock at the front.
+// A task's clock at the front.
 pub(crate) fn clock(tokens: &[Token]) -> Option<(ClockForm, &[Token])>
     ensures { option_map (λ x. (clock_of x.0, x.1.now)) result ≡ clock_at tokens.now }
 {
@@ -81,7 +81,7 @@ pub(crate) fn clock(tokens: &[Token]) -> Option<(ClockForm, &[Token])>
     }
 }
 
-/// `when NAME` at the front, if it is.
+// `when NAME` at the front, if it is.
 pub(crate) fn when_name(tokens: &[Token]) -> (Option<Name>, &[Token])
     ensures { (result.0, result.1.now) ≡ when_at tokens.now }
 {
@@ -91,7 +91,7 @@ pub(crate) fn when_name(tokens: &[Token]) -> (Option<Name>, &[Token])
     }
 }
 
-/// `prio N` at the front, if it is.
+// `prio N` at the front, if it is.
 pub(crate) fn prio(tokens: &[Token]) -> (Option<i64>, &[Token])
     ensures { (result.0, result.1.now) ≡ prio_at tokens.now }
 {
@@ -105,7 +105,7 @@ pub(crate) fn prio(tokens: &[Token]) -> (Option<i64>, &[Token])
     }
 }
 
-/// `deadline N` at the front, if it is.
+// `deadline N` at the front, if it is.
 pub(crate) fn deadline(tokens: &[Token]) -> (Option<i64>, &[Token])
     ensures { (result.0, result.1.now) ≡ deadline_at tokens.now }
 {
@@ -134,7 +134,7 @@ pub fn delay_at(tokens: &[Token]) -> (Option<i64>, &[Token])
     }
 }
 
-/// `TASK.PORT` at the front.
+// `TASK.PORT` at the front.
 pub(crate) fn port(tokens: &[Token]) -> Option<(Name, Name, &[Token])>
     ensures { option_map (λ x. (x.0, x.1, x.2.now)) result ≡ port_at tokens.now }
 {
@@ -149,7 +149,7 @@ pub(crate) fn port(tokens: &[Token]) -> Option<(Name, Name, &[Token])>
     }
 }
 
-/// A name, and nothing after it.
+// A name, and nothing after it.
 pub(crate) fn name_alone(tokens: &[Token]) -> Option<Name>
     ensures { result ≡ is_name_alone tokens.now }
 {
@@ -159,7 +159,7 @@ pub(crate) fn name_alone(tokens: &[Token]) -> Option<Name>
     }
 }
 
-/// A number, and nothing after it.
+// A number, and nothing after it.
 pub(crate) fn number_alone(tokens: &[Token]) -> Option<i64>
     ensures { result ≡ is_number_alone tokens.now }
 {
@@ -169,7 +169,7 @@ pub(crate) fn number_alone(tokens: &[Token]) -> Option<i64>
     }
 }
 
-/// `cost N`, and after it `cpu N` or nothing.
+// `cost N`, and after it `cpu N` or nothing.
 pub(crate) fn cost_end(tokens: &[Token]) -> Option<(i64, Option<i64>)>
     ensures { result ≡ is_cost_end tokens.now }
 {
@@ -185,7 +185,7 @@ pub(crate) fn cost_end(tokens: &[Token]) -> Option<(i64, Option<i64>)>
     }
 }
 
-/// `at N` and nothing after it, or 0 for nothing at all.
+// `at N` and nothing after it, or 0 for nothing at all.
 pub(crate) fn tick_alone(tokens: &[Token]) -> Option<i64>
     ensures { result ≡ is_tick_alone tokens.now }
 {

@@ -29,7 +29,7 @@ fn within(value: i64, least: u64, greatest: u64) -> Option<u64>
     }
 }
 
-/// A number of ticks from 0 on.
+// A number of ticks from 0 on.
 pub(crate) fn ticks(value: i64) -> Option<u64>
     ensures value { IfSome result (λ n. value ≡ pos n) }
     ensures exact { is_some result ≡ lies_within value 0 MaxTime }
@@ -109,7 +109,7 @@ fn clock(form: ClockForm) -> Option<RawClock>
     }
 }
 
-/// The line that begins a task, if its numbers are within their limits.
+// The line that begins a task, if its numbers are within their limits.
 pub(crate) fn task_line(form: &TaskForm) -> Option<TaskLine>
     ensures value { IfSome result (λ t. IsTaskLine (task_of form.now) t) }
     ensures exact { is_some result ≡ numbers_fit (task_of form.now) }
@@ -145,7 +145,7 @@ pub fn short_delay(delay: Option<i64>) -> Option<u32>
     }
 }
 
-/// The line that names an out of a task, if its numbers are within their limits.
+// The line that names an out of a task, if its numbers are within their limits.
 pub(crate) fn read_part(form: &ReadForm) -> Option<Part>
     ensures value { IfSome result (λ p. IsPart (read_of form.now) p) }
     ensures exact { is_some result ≡ numbers_fit (read_of form.now) }

@@ -92,7 +92,7 @@ fn kept(alloc: Global, form: &Form) -> Result<Line, LineError>
     }
 }
 
-/// What the tokens of a line of the diagram say that may stand at the place in a document of the version.
+// What the tokens of a line of the diagram say that may stand at the place in a document of the version.
 pub(crate) fn statement(
     alloc: Global,
     version: u32,

@@ -9,7 +9,7 @@ use dbp_plan::MAX_NODES;
 use dia_exprs::{MAX_DEPTH, depth, node_tokens};
 use dia_tokens::{Keyword, Symbol, Token};
 
-/// Whether the tokens are the header.
+// Whether the tokens are the header.
 fn is_header_line(tokens: &[Token]) -> bool
     ensures { result ≡ is_header tokens.now }
 {
@@ -19,7 +19,7 @@ fn is_header_line(tokens: &[Token]) -> bool
     }
 }
 
-/// Whether the header comes next, and the line has tokens that are none.
+// Whether the header comes next, and the line has tokens that are none.
 fn lacks_the_header(place: Place, tokens: &[Token]) -> bool
     ensures { result ≡ lacks_header place tokens.now }
 {
@@ -29,7 +29,7 @@ fn lacks_the_header(place: Place, tokens: &[Token]) -> bool
     }
 }
 
-/// The tokens after the first `=`.
+// The tokens after the first `=`.
 fn after_assign(tokens: &[Token]) -> &[Token]
     ensures { result.now ≡ expression_after_assign tokens.now }
 {
@@ -43,7 +43,7 @@ fn after_assign(tokens: &[Token]) -> &[Token]
     rest
 }
 
-/// The tokens after the first `then`.
+// The tokens after the first `then`.
 fn after_then(tokens: &[Token]) -> &[Token]
     ensures { result.now ≡ expression_after_then tokens.now }
 {
@@ -57,7 +57,7 @@ fn after_then(tokens: &[Token]) -> &[Token]
     rest
 }
 
-/// Where an expression stands on a line that begins as one with an expression does.
+// Where an expression stands on a line that begins as one with an expression does.
 fn expression_tokens(tokens: &[Token]) -> &[Token]
     ensures { result.now ≡ expression_of tokens.now }
 {
@@ -68,7 +68,7 @@ fn expression_tokens(tokens: &[Token]) -> &[Token]
     }
 }
 
-/// The first fault of the tokens, except for their form.
+// The first fault of the tokens, except for their form.
 pub(crate) fn token_code(place: Place, tokens: &[Token]) -> Option<ReadCode>
     ensures { result ≡ token_fault place tokens.now }
 {

@@ -11,13 +11,13 @@ ghost use Rattle.dia_lines.specs.Moves.{kept_in_trace};
 
 use crate::ReadCode;
 
-/// What a line of the trace section is.
+// What a line of the trace section is.
 #[derive(Clone, Copy)]
 pub(crate) enum TraceLine {
     Blank,
-    /// A row, which is kept as it is.
+    // A row, which is kept as it is.
     Row,
-    /// The script section begins.
+    // The script section begins.
     Script,
     Done,
 }
@@ -91,7 +91,7 @@ fn trim(line: &[u8]) -> &[u8]
     trim_end(trim_start(line))
 }
 
-/// What a line of the trace section says, or its fault.
+// What a line of the trace section says, or its fault.
 pub(crate) fn trace_line(line: &[u8]) -> Result<TraceLine, ReadCode>
     ensures found { IfOk result (λ l. (said : Content) × SaysInTrace line.now said
         × IsHeld said (kept_in_trace l)) }

@@ -29,7 +29,7 @@ fn is_call(op: BinOp) -> bool
     matches!(op.notation(), Notation::Call)
 }
 
-/// Whether a node is an operator that is written as no call, or an `if`.
+// Whether a node is an operator that is written as no call, or an `if`.
 fn is_compound(node: &Node<Name>) -> bool
     ensures { result ≡ is_compound_node node.now }
 {
@@ -40,7 +40,7 @@ fn is_compound(node: &Node<Name>) -> bool
     }
 }
 
-/// The tree whose root stands at the place.
+// The tree whose root stands at the place.
 #[cycle(tree)]
 fn push_tree(printer: &mut Printer, nodes: &[Node<Name>], place: u32) -> Result<(), NoMemory>
     requires { (x : Tree (Items ℕ)) × Stands nodes.now place x }
@@ -69,7 +69,7 @@ fn push_tree(printer: &mut Printer, nodes: &[Node<Name>], place: u32) -> Result<
     }
 }
 
-/// An operand of an operator or a part of an `if`: in parentheses if it is an operator or an `if` itself.
+// An operand of an operator or a part of an `if`: in parentheses if it is an operator or an `if` itself.
 #[cycle(tree)]
 fn push_operand(printer: &mut Printer, nodes: &[Node<Name>], place: u32) -> Result<(), NoMemory>
     requires { (x : Tree (Items ℕ)) × Stands nodes.now place x }
@@ -84,7 +84,7 @@ fn push_operand(printer: &mut Printer, nodes: &[Node<Name>], place: u32) -> Resu
     printer.push(Token::Symbol(Symbol::Close))
 }
 
-/// A call of two arguments.
+// A call of two arguments.
 #[cycle(tree)]
 fn push_call(
     printer: &mut Printer,
@@ -107,7 +107,7 @@ fn push_call(
     printer.push(Token::Symbol(Symbol::Close))
 }
 
-/// An `if` with its parts.
+// An `if` with its parts.
 #[cycle(tree)]
 fn push_choice(
     printer: &mut Printer,
@@ -131,7 +131,7 @@ fn push_choice(
     push_operand(printer, nodes, other)
 }
 
-/// Adds an expression.
+// Adds an expression.
 pub(crate) fn push_expression(printer: &mut Printer, expr: &Expr<Name>) -> Result<(), NoMemory>
     ensures { OnOk result (printer.new ≡ with_tokens printer.old (tokens_of (tree_of expr.now))) }
 {

@@ -12,7 +12,7 @@ use dbp_plan::{Name, NoMemory, Policy};
 use dia_lines::{Decl, Part, RawClock, TaskLine, policy_keyword};
 use dia_tokens::{Keyword, Symbol, Token};
 
-/// The keyword and a number, if it is there.
+// The keyword and a number, if it is there.
 fn push_option(printer: &mut Printer, keyword: Keyword, count: Option<u64>) -> Result<(), NoMemory>
     ensures { OnOk result (printer.new ≡ with_tokens printer.old (option_tokens keyword count)) }
 {
@@ -40,7 +40,7 @@ fn push_clock(printer: &mut Printer, clock: RawClock) -> Result<(), NoMemory>
     }
 }
 
-/// `when` and the input, if it is there.
+// `when` and the input, if it is there.
 fn push_when(printer: &mut Printer, input: Option<Name>) -> Result<(), NoMemory>
     ensures { OnOk result (printer.new ≡ with_tokens printer.old (when_tokens input)) }
 {
@@ -51,7 +51,7 @@ fn push_when(printer: &mut Printer, input: Option<Name>) -> Result<(), NoMemory>
     Ok(())
 }
 
-/// The processor, if task lines of the version name it.
+// The processor, if task lines of the version name it.
 fn cpu_of_version(version: u32, cpu: u32) -> Option<u64>
     ensures { result ≡ named_cpu version cpu }
 {
@@ -62,7 +62,7 @@ fn cpu_of_version(version: u32, cpu: u32) -> Option<u64>
     }
 }
 
-/// The keyword that begins a line, the name that it declares and `=`.
+// The keyword that begins a line, the name that it declares and `=`.
 fn push_assigned(printer: &mut Printer, keyword: Keyword, name: Name) -> Result<(), NoMemory>
     ensures { OnOk result (printer.new ≡ with_tokens printer.old (assigned keyword name)) }
 {
@@ -83,7 +83,7 @@ fn push_delay(printer: &mut Printer, delay: u32) -> Result<(), NoMemory>
     Ok(())
 }
 
-/// What a read reads: an out of a task, directly or with a delay.
+// What a read reads: an out of a task, directly or with a delay.
 fn push_source(printer: &mut Printer, delay: u32, task: Name, port: Name) -> Result<(), NoMemory>
     ensures { OnOk result (printer.new ≡ with_tokens printer.old (source_tokens delay task port)) }
 {

@@ -134,7 +134,7 @@ impl Printer {
         Ok(())
     }
 
-    /// Adds a name, as `push` does.
+    // Adds a name, as `push` does.
     pub(crate) fn push_name(&mut self, name: &Name) -> Result<(), NoMemory>
         ensures { OnOk result (self.new ≡ with_token self.old (NameToken name.now)) }
     {

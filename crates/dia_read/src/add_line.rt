@@ -11,7 +11,7 @@ use dia_lines::{Line, Part, TaskLine};
 use std::alloc::Global;
 
 impl Tasks {
-    /// Begins a task after the others.
+    // Begins a task after the others.
     fn begin(&mut self, alloc: Global, line: TaskLine) -> Result<(), NoMemory>
         requires { length self.old.earlier + 1 < 2 ^ 32 }
         ensures { OnOk result (self.new ≡ begun self.old line) }
@@ -23,7 +23,7 @@ impl Tasks {
         Ok(())
     }
 
-    /// Adds a line to the body of the latest task.
+    // Adds a line to the body of the latest task.
     fn add(&mut self, part: Part) -> Result<(), NoMemory>
         requires { ForSome self.old.latest (λ task. length task.parts + 1 < 2 ^ 32) }
         ensures { OnOk result (self.new ≡ added self.old part) }
@@ -34,7 +34,7 @@ impl Tasks {
         }
     }
 
-    /// All tasks.
+    // All tasks.
     fn all(self) -> Result<List<RawTask>, NoMemory>
         requires { length self.earlier + 1 < 2 ^ 32 }
         ensures { IfOk result (λ tasks. tasks ≡ self.earlier ++ option_to_list self.latest) }
@@ -60,14 +60,14 @@ impl Section {
         }
     }
 
-    /// The section's text, if it is there.
+    // The section's text, if it is there.
     fn into_text(self) -> Option<List<u8>>
         ensures { result ≡ section_text self }
     {
         if self.begun { Some(self.text) } else { None }
     }
 
-    /// Keeps a line as it is.
+    // Keeps a line as it is.
     fn keep(&mut self, line: &[u8]) -> Result<(), NoMemory>
         requires { length self.old.text + length line.now + 1 < 2 ^ 32 }
         ensures { OnOk result (self.new ≡ kept_line self.old line.now) }
@@ -78,7 +78,7 @@ impl Section {
 }
 
 impl Draft {
-    /// Before the first line.
+    // Before the first line.
     pub(crate) fn new(alloc: Global) -> Draft
         ensures { result ≡ empty_draft }
     {
@@ -106,7 +106,7 @@ impl Draft {
         }
     }
 
-    /// The document that the draft has come to.
+    // The document that the draft has come to.
     pub(crate) fn finish(self) -> Result<Doc, NoMemory>
         requires { length self.tasks.earlier + 1 < 2 ^ 32 }
         ensures { IfOk result (λ doc. doc ≡ finished self) }
@@ -125,7 +125,7 @@ impl Draft {
         })
     }
 
-    /// Adds what is held of a line, which has the number and these bytes.
+    // Adds what is held of a line, which has the number and these bytes.
     pub(crate) fn add(
         &mut self,
         alloc: Global,

@@ -26,7 +26,7 @@ impl RawTask {
     ghost use Rattle.dia_read.specs.Documents.{first_line};
     ghost use Rattle.dia_read.specs.Drafts.{task_of};
 
-    /// The task that a line begins, without a body yet.
+    // The task that a line begins, without a body yet.
     pub(crate) fn begun(alloc: Global, line: TaskLine) -> RawTask
         ensures { result ≡ task_of line }
     {
@@ -42,7 +42,7 @@ impl RawTask {
         }
     }
 
-    /// The line that begins the task.
+    // The line that begins the task.
     pub(crate) fn first_line(&self) -> TaskLine
         ensures { result ≡ first_line self.now }
     {

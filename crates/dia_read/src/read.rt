@@ -17,7 +17,7 @@ use crate::{Doc, ReadCode, ReadFail};
 use dia_lines::{Position, next_line, read_line_with};
 use std::alloc::Global;
 
-/// The document that a text with tokens spells, or its first fault.
+// The document that a text with tokens spells, or its first fault.
 fn read_lines(alloc: Global, bytes: &[u8]) -> Result<Doc, ReadFail>
     requires fits { length bytes.now ≤ MAX_TEXT }
     requires full { is_blank_text bytes.now ≡ false }
@@ -50,7 +50,7 @@ fn read_lines(alloc: Global, bytes: &[u8]) -> Result<Doc, ReadFail>
     }
 }
 
-/// The document that the text spells, or its first fault.
+// The document that the text spells, or its first fault.
 fn read_text(alloc: Global, bytes: &[u8]) -> Result<Doc, ReadFail>
     requires { length bytes.now ≤ MAX_TEXT }
     ensures found { IfOk result (λ doc. Spells bytes.now doc) }

@@ -9,7 +9,7 @@ use crate::ReadFail;
 use dia_lines::{LineError, ReadCode, next_line};
 use dia_tokens::all_allowed;
 
-/// Whether the line has nothing but spaces, tabs and a comment.
+// Whether the line has nothing but spaces, tabs and a comment.
 fn is_blank_line(line: &[u8]) -> bool
     ensures { result ≡ is_blank line.now }
 {
@@ -24,7 +24,7 @@ fn is_blank_line(line: &[u8]) -> bool
     true
 }
 
-/// Whether no line of the text has tokens.
+// Whether no line of the text has tokens.
 pub(crate) fn is_blank_text(bytes: &[u8]) -> bool
     ensures { result ≡ is_blank_text bytes.now }
 {
@@ -39,7 +39,7 @@ pub(crate) fn is_blank_text(bytes: &[u8]) -> bool
     true
 }
 
-/// The fault of a text without any line with tokens. It stands at line 1.
+// The fault of a text without any line with tokens. It stands at line 1.
 pub(crate) fn blank_fault(bytes: &[u8]) -> ReadCode
     requires { is_blank_text bytes.now ≡ true }
     ensures { IsFirstFault bytes.now 1 result }
@@ -55,7 +55,7 @@ pub(crate) fn blank_fault(bytes: &[u8]) -> ReadCode
     }
 }
 
-/// The refusal of a text, of which the line with the number is the first that isn't read.
+// The refusal of a text, of which the line with the number is the first that isn't read.
 pub(crate) fn refused_at(number: u32, error: LineError) -> ReadFail
     ensures { result ≡ refusal_at number error }
 {

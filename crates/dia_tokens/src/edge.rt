@@ -1,3 +1,5 @@
+// The ends of lines.
+
 /// How the end of a line stands to the next token.
 #[derive(Clone, Copy, Debug, PartialEq, Eq)]
 pub enum Edge {

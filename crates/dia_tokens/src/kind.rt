@@ -13,7 +13,7 @@ pub(crate) enum Kind {
     Digit,
     Dash,
     Bang,
-    /// A symbol, and the longer one that it makes with a `=` after it.
+    // A symbol, and the longer one that it makes with a `=` after it.
     Pair(Symbol, Symbol),
     Plain(Symbol),
     Other,

@@ -14,7 +14,7 @@ use crate::kind::{Kind, kind_at};
 use crate::piece::Piece;
 use crate::reserved::keyword_or_name;
 
-/// What stands at the beginning of a line.
+// What stands at the beginning of a line.
 #[derive(Clone, Copy)]
 pub(crate) enum Front<'a> {
     Nothing,
@@ -43,7 +43,7 @@ fn blank_len(line: &[u8]) -> usize
     line.iter().take_while(|byte| is_blank_byte(**byte)).count()
 }
 
-/// The name or the keyword at the front.
+// The name or the keyword at the front.
 #[inline(always)]
 fn name_token<'a>(line: &'a [u8]) -> Front<'a>
     ensures { front result ≡ name_in line.now }
@@ -53,7 +53,7 @@ fn name_token<'a>(line: &'a [u8]) -> Front<'a>
     Front::Found(keyword_or_name(text), rest)
 }
 
-/// The number at the front, after so many bytes of sign.
+// The number at the front, after so many bytes of sign.
 fn number_token<'a>(sign: usize, line: &'a [u8]) -> Front<'a>
     requires { sign ≤ length line.now }
     ensures { front result ≡ number_in sign line.now }
@@ -94,7 +94,7 @@ fn begins_equals(line: &[u8]) -> bool
     }
 }
 
-/// The token that begins with a byte of the kind.
+// The token that begins with a byte of the kind.
 #[inline(always)]
 fn token_of_kind<'a>(signed: bool, kind: Kind, line: &'a [u8]) -> Front<'a>
     requires { 0 < length line.now }
@@ -130,7 +130,7 @@ fn token_of_kind<'a>(signed: bool, kind: Kind, line: &'a [u8]) -> Front<'a>
     }
 }
 
-/// The first token, after the blanks.
+// The first token, after the blanks.
 #[inline(always)]
 #[tactic(auto, unfolding(crate::specs::Reading::token_at))]
 pub(crate) fn next_token<'a>(signed: bool, line: &'a [u8]) -> Front<'a>
@@ -143,7 +143,7 @@ pub(crate) fn next_token<'a>(signed: bool, line: &'a [u8]) -> Front<'a>
     }
 }
 
-/// Whether a `-` before a digit belongs to the number, if this is the token before it.
+// Whether a `-` before a digit belongs to the number, if this is the token before it.
 pub(crate) fn may_sign(last: Piece) -> bool
     ensures { result ≡ signs (seen last.entry) }
 {

@@ -79,7 +79,7 @@ fn push_token(out: &mut Vec<Token>, token: Token, len: usize) -> Result<(), NoMe
     Ok(())
 }
 
-/// Reads a line: its tokens, which take the place of the list's, or its first fault.
+// Reads a line: its tokens, which take the place of the list's, or its first fault.
 fn read(line: &[u8], out: &mut Vec<Token>) -> Result<(), LineFail>
     ensures found { OnOk result (Spells line.now out.new.items) }
     ensures fault { IfErr result (λ e. Refuses line.now e) }

@@ -2,7 +2,7 @@
 
 use crate::{Keyword, Symbol};
 
-/// A token as its text, which has no value yet.
+// A token as its text, which has no value yet.
 #[derive(Clone, Copy)]
 pub(crate) enum Piece<'a> {
     Keyword(Keyword),

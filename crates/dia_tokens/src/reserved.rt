@@ -8,7 +8,7 @@ ghost use Rattle.dia_tokens.specs.Keywords.{keyword_among, keyword_of, keyword_t
 use crate::Keyword;
 use crate::piece::Piece;
 
-/// The keywords that begin with this byte.
+// The keywords that begin with this byte.
 #[tactic(auto, unfolding(crate::specs::Keywords::keywords_from))]
 fn keywords_from(first: u8) -> &'static [Keyword]
     ensures { result.now ≡ keywords_from first }
@@ -42,7 +42,7 @@ fn is_text(keyword: Keyword, text: &[u8]) -> bool
     own.len() == text.len() && own == text
 }
 
-/// The first of the keywords that the text is.
+// The first of the keywords that the text is.
 fn keyword_among(keywords: &[Keyword], text: &[u8]) -> Option<Keyword>
     ensures { result ≡ keyword_among keywords.now text.now }
 {
@@ -52,7 +52,7 @@ fn keyword_among(keywords: &[Keyword], text: &[u8]) -> Option<Keyword>
         .copied()
 }
 
-/// A keyword, or else a name. Keywords have 2 to 8 bytes.
+// A keyword, or else a name. Keywords have 2 to 8 bytes.
 #[inline(always)]
 #[tactic(auto, using(crate::proofs::KeywordLaws::among_from, crate::proofs::KeywordLaws::no_keyword), unfolding(crate::specs::Keywords::keyword_of))]
 pub(crate) fn keyword_or_name<'a>(text: &'a [u8]) -> Piece<'a>

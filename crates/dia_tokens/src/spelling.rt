@@ -56,7 +56,7 @@ fn text_of<'a>(piece: Piece<'a>) -> &'a [u8]
     }
 }
 
-/// Adds the token's text, after a space unless it is the first.
+// Adds the token's text, after a space unless it is the first.
 fn push_piece(first: bool, out: &mut SmallVec<u8, NEAR>, piece: Piece) -> Result<(), NoMemory>
     ensures { OnOk result (out.new.items ≡ out.old.items ++ spaced first (seen piece.entry)) }
 {

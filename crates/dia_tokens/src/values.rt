@@ -9,12 +9,12 @@ use crate::piece::Piece;
 use crate::{LineFail, Token};
 use dbp_plan::{MAX_NAME, Name};
 
-/// Why a text has no value.
+// Why a text has no value.
 #[derive(Clone, Copy)]
 pub(crate) enum ValueFail {
-    /// A number outside of 64 bits.
+    // A number outside of 64 bits.
     NumberTooWide,
-    /// A name of more than 24 bytes.
+    // A name of more than 24 bytes.
     NameTooLong,
 }
 
@@ -29,7 +29,7 @@ impl From<ValueFail> for LineFail {
     }
 }
 
-/// The number that the text makes, if it fits in 64 bits.
+// The number that the text makes, if it fits in 64 bits.
 fn number(text: &[u8]) -> Option<i64>
     requires { IsNumberText text.now }
     ensures some { IfSome result (λ n. (n ≡ number_of text.now) × (is_in_range text.now ≡ true)) }
@@ -41,7 +41,7 @@ fn number(text: &[u8]) -> Option<i64>
     }
 }
 
-/// The token with its value.
+// The token with its value.
 pub(crate) fn token_of(piece: Piece) -> Result<Token, ValueFail>
     requires { IsShaped (seen piece) }
     ensures found { IfOk result (λ t. HasValue (seen piece.entry) t) }
@@ -64,7 +64,7 @@ pub(crate) fn token_of(piece: Piece) -> Result<Token, ValueFail>
     }
 }
 
-/// Why the token has no value, if it has none.
+// Why the token has no value, if it has none.
 pub(crate) fn fault_of(piece: Piece) -> Option<ValueFail>
     requires { IsShaped (seen piece) }
     ensures narrow { IfNone result (is_narrow (seen piece.entry) ≡ true) }
@@ -87,7 +87,7 @@ pub(crate) fn fault_of(piece: Piece) -> Option<ValueFail>
     }
 }
 
-/// The one of two faults of a line that is said: a number that is too wide goes before a name that is too long.
+// The one of two faults of a line that is said: a number that is too wide goes before a name that is too long.
 pub(crate) fn first_fault(fault: Option<ValueFail>, fail: ValueFail) -> ValueFail
     ensures { result ≡ first_fault fault fail }
 {

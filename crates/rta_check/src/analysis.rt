@@ -13,21 +13,21 @@ use crate::{Bound, RtaFail};
 use dbp_plan::{Clock, Diagram, List, ServedBy, Task};
 use std::alloc::Global;
 
-/// Whether the task is on an event, or occurs only where an input isn't 0.
+// Whether the task is on an event, or occurs only where an input isn't 0.
 fn is_aperiodic(task: &Task) -> bool
     ensures { result ≡ is_aperiodic task.now }
 {
     matches!(task.clock, Clock::On { .. }) || task.when.is_some()
 }
 
-/// The number of the first task that is on an event, or occurs only where an input isn't 0.
+// The number of the first task that is on an event, or occurs only where an input isn't 0.
 fn first_aperiodic(tasks: &[Task]) -> Option<usize>
     ensures { result ≡ position is_aperiodic tasks.now }
 {
     tasks.iter().position(|task| is_aperiodic(task))
 }
 
-/// Why the diagram has no response times, if it has none.
+// Why the diagram has no response times, if it has none.
 fn fault(diagram: &Diagram) -> Option<RtaFail>
     requires { IsRanked diagram.now }
     ensures { result ≡ rta_fault diagram.now }

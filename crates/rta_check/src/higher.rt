@@ -8,17 +8,17 @@ ghost use Rattle.rta_check.specs.Periods.{is_periodic, period_of};
 
 use dbp_plan::{Clock, Task};
 
-/// The parts of a whole processor, in which a utilization is told.
+// The parts of a whole processor, in which a utilization is told.
 pub(crate) const WHOLE: u128 = 1 << 64;
 
-/// A task that is ranked above another.
+// A task that is ranked above another.
 #[derive(Clone, Copy, Default)]
 pub(crate) struct Higher {
-    /// In ticks, at least 1.
+    // In ticks, at least 1.
     pub(crate) period: u64,
-    /// In ticks.
+    // In ticks.
     pub(crate) cost: u64,
-    /// The cost over the period, in parts of a whole processor, rounded down.
+    // The cost over the period, in parts of a whole processor, rounded down.
     pub(crate) utilization: u128,
 }
 
@@ -33,7 +33,7 @@ pub fn period_of(clock: Clock) -> u64
 }
 
 impl Higher {
-    /// What is kept of the task.
+    // What is kept of the task.
     pub(crate) fn of(task: &Task) -> Higher
         requires closed { IsClosedSomewhere task.now }
         requires periodic { IsTrue (is_periodic task.now.clock) }
@@ -49,7 +49,7 @@ impl Higher {
         }
     }
 
-    /// What the task asks for within so many ticks, at most.
+    // What the task asks for within so many ticks, at most.
     pub(crate) fn request(&self, ticks: u64) -> u64
         requires higher { IsHigher self.now }
         requires ticks { ticks ≤ MAX_TIME }

@@ -13,24 +13,24 @@ use crate::higher::{Higher, WHOLE, period_of};
 use arrayvec::ArrayVec;
 use dbp_plan::{Diagram, MAX_TASKS};
 
-/// Tasks above another, at most.
+// Tasks above another, at most.
 const MAX_HIGHER: usize = MAX_TASKS as usize;
 
 const _: () = prove!(MAX_HIGHER == 32);
 
-/// A task and those ranked above it, in the numbers that its response time depends on.
+// A task and those ranked above it, in the numbers that its response time depends on.
 #[derive(Drop)]
 pub(crate) struct Level {
-    /// In ticks.
+    // In ticks.
     period: u64,
-    /// In ticks.
+    // In ticks.
     cost: u64,
-    /// The tasks above it, in order of declaration.
+    // The tasks above it, in order of declaration.
     higher: ArrayVec<Higher, MAX_HIGHER>,
 }
 
 impl Level {
-    /// The level of the task, which is numbered from 0.
+    // The level of the task, which is numbered from 0.
     pub(crate) fn of(diagram: &Diagram, task: usize) -> Level
         requires ranked { IsRanked diagram.now }
         requires periodic { IsPeriodic diagram.now }
@@ -53,7 +53,7 @@ impl Level {
         }
     }
 
-    /// What the task and those above it ask for within so many ticks, at most.
+    // What the task and those above it ask for within so many ticks, at most.
     fn request_bound(&self, ticks: u64) -> u128
         requires level { IsLevel self.now }
         requires ticks { ticks ≤ MAX_TIME }
@@ -66,8 +66,8 @@ impl Level {
         asked
     }
 
-    /// A later start, or the same or an earlier one: tasks with a period of at most `longest` ticks ask for their
-    /// utilization of the time until they are served, all others for their requests within `ticks`.
+    // A later start, or the same or an earlier one: tasks with a period of at most `longest` ticks ask for their
+    // utilization of the time until they are served, all others for their requests within `ticks`.
     fn start_by_utilization(&self, ticks: u64, longest: u64) -> u64
         requires level { IsLevel self.now }
         requires ticks { ticks ≤ MAX_TIME }
@@ -92,7 +92,7 @@ impl Level {
         ticks.min(u128::from(beyond)) as u64
     }
 
-    /// A start at least as late.
+    // A start at least as late.
     fn later_start(&self, ticks: u64) -> u64
         requires level { IsLevel self.now }
         requires ticks { ticks ≤ MAX_TIME }
@@ -108,7 +108,7 @@ impl Level {
         latest
     }
 
-    /// A number of ticks from which the response time is sought: by utilizations, which pass over most turns.
+    // A number of ticks from which the response time is sought: by utilizations, which pass over most turns.
     fn start(&self) -> u64
         requires level { IsLevel self.now }
         ensures start { IsStart self.now result }
@@ -124,7 +124,7 @@ impl Level {
         later
     }
 
-    /// The task's bound: from the start on each request bound is the next number of ticks that may be a response time.
+    // The task's bound: from the start on each request bound is the next number of ticks that may be a response time.
     pub(crate) fn bound(&self) -> Bound
         requires level { IsLevel self.now }
         ensures { (d : Diagram) (task : ℕ) → IsLevelOf d task self.now → IsBound d task result }

@@ -8,8 +8,8 @@ use crate::clocks::nth_time;
 use dbp_plan::{Batch, Clock, List, MAX_OCCURRENCES, MAX_TASKS, NoMemory, TaskNumbers};
 use std::alloc::Global;
 
-/// The batches of these clocks, below tick `until`: each clock stands in those of exactly its base times. The times of
-/// event `e` are those of `events[e]`. Each turn makes one batch, from each clock's next base time.
+// The batches of these clocks, below tick `until`: each clock stands in those of exactly its base times. The times of
+// event `e` are those of `events[e]`. Each turn makes one batch, from each clock's next base time.
 pub(crate) fn merged(
     alloc: Global,
     until: u64,

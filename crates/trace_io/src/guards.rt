@@ -176,7 +176,7 @@ fn alike_before(tasks: &[Task], i: u32) -> Option<u32>
     None
 }
 
-/// How often all tasks together occur. No tick is walked, and tasks of one clock and one `when` are counted once.
+// How often all tasks together occur. No tick is walked, and tasks of one clock and one `when` are counted once.
 pub(crate) fn total(diagram: &Diagram, events: &[List<u64>], own: &[List<Sample>]) -> u64
     requires ranked { IsRanked diagram.now }
     requires table { IsTimetable diagram.now.until events.now }
@@ -235,9 +235,9 @@ fn merge_clock(
     }
 }
 
-/// The clocks that the merge takes for the tasks. Tasks with a `when` have an event of their own, which those with one
-/// clock and one `when` share, so that their times are kept once; its times are added behind those of the diagram's
-/// events. Any other task keeps its clock.
+// The clocks that the merge takes for the tasks. Tasks with a `when` have an event of their own, which those with one
+// clock and one `when` share, so that their times are kept once; its times are added behind those of the diagram's
+// events. Any other task keeps its clock.
 pub(crate) fn merge_clocks(
     alloc: Global,
     diagram: &Diagram,

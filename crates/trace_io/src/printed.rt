@@ -11,8 +11,8 @@ use dbp_plan::{Batch, NoMemory, Plan, Table, Task};
 use itoa::Integer;
 use std::alloc::Global;
 
-/// Bytes that the text of a table has room for at first, for each batch. A text that begins large grows without being
-/// copied, and touches no place that it leaves.
+// Bytes that the text of a table has room for at first, for each batch. A text that begins large grows without being
+// copied, and touches no place that it leaves.
 const BATCH_ROOM: usize = 32;
 
 /// The text of a table of the plan: all occurrences by time and then by declaration, each as a line `t,task,n,v1,..,vk`
@@ -84,14 +84,14 @@ fn push_cells(text: &mut Vec<u8>, row: &[i64]) -> Result<(), NoMemory>
     Ok(())
 }
 
-/// Bytes of a number's text in `itoa`, at most.
+// Bytes of a number's text in `itoa`, at most.
 const NUMBER_LENGTH: usize = 40;
 
-/// Bytes that are copied at once. The compiler knows how many these are, and copies them without a call. A number of 64
-/// bits with a comma has fewer.
+// Bytes that are copied at once. The compiler knows how many these are, and copies them without a call. A number of 64
+// bits with a comma has fewer.
 const PIECE: usize = 24;
 
-/// Room for a number's text, and for a piece that begins in it.
+// Room for a number's text, and for a piece that begins in it.
 const PIECE_ROOM: usize = NUMBER_LENGTH + PIECE;
 
 // Writes the time in decimal before place `NUMBER_LENGTH`, and returns where it starts.

@@ -24,20 +24,20 @@ use trace_rows::{
     Records, RowValues, TraceCode, TraceFail, TraceFault, is_header, no_times, row_values,
 };
 
-/// What a document's trace gives.
+// What a document's trace gives.
 #[derive(Drop)]
 struct Trace {
-    /// The times of each event, in ticks.
+    // The times of each event, in ticks.
     events: Vec<List<u64>>,
     samples: List<Sample>,
-    /// The samples of each input by itself, if there are several inputs and a task has a `when`; else nothing.
+    // The samples of each input by itself, if there are several inputs and a task has a `when`; else nothing.
     own: List<List<Sample>>,
 }
 
 ghost use Rattle.dbp_plan.specs.declared.schedule.Sample.{Sample as AnySample};
 
-/// The fault of the `until` line: all tasks together occur more often than `MAX_OCCURRENCES`, if these are the times of
-/// the events and the samples of each input.
+// The fault of the `until` line: all tasks together occur more often than `MAX_OCCURRENCES`, if these are the times of
+// the events and the samples of each input.
 fn check_occurrences(
     diagram: &Diagram,
     doc: &Doc,
@@ -65,7 +65,7 @@ fn check_occurrences(
     Ok(())
 }
 
-/// The empty trace of a document without a trace section. The occurrences are counted before memory is taken.
+// The empty trace of a document without a trace section. The occurrences are counted before memory is taken.
 fn empty_trace(alloc: Global, diagram: &Diagram, doc: &Doc) -> Result<Trace, TraceFail>
     requires section { doc.now.body.trace ≡ None }
     requires ranked { IsRanked diagram.now }
@@ -96,7 +96,7 @@ fn has_guard(tasks: &[Task]) -> bool
     tasks.iter().any(|task| task.when.is_some())
 }
 
-/// The samples of each of several inputs, if a task has a `when`; else nothing.
+// The samples of each of several inputs, if a task has a `when`; else nothing.
 fn own_samples(
     alloc: Global,
     diagram: &Diagram,
@@ -135,7 +135,7 @@ fn own_lists<'s>(
     }
 }
 
-/// What the lines of the document's trace section give to the inputs and events of its diagram, or their first fault.
+// What the lines of the document's trace section give to the inputs and events of its diagram, or their first fault.
 fn read_section(
     alloc: Global,
     diagram: &Diagram,
@@ -183,8 +183,8 @@ fn bad_header(line: u32) -> TraceFail
     })
 }
 
-/// What the document's trace section gives to the inputs and events of its diagram, if the tasks then occur seldom
-/// enough; else the first fault. A section that keeps no line is refused before memory is taken.
+// What the document's trace section gives to the inputs and events of its diagram, if the tasks then occur seldom
+// enough; else the first fault. A section that keeps no line is refused before memory is taken.
 fn section_trace(
     alloc: Global,
     diagram: &Diagram,
@@ -220,7 +220,7 @@ fn section_trace(
     })
 }
 
-/// What the document's trace gives to the inputs and events of its diagram, or its first fault.
+// What the document's trace gives to the inputs and events of its diagram, or its first fault.
 fn trace_of(alloc: Global, diagram: &Diagram, doc: &Doc) -> Result<Trace, TraceFail>
     requires printable { IsPrintable doc.now.body }
     requires lines { HasItemLines doc.now }

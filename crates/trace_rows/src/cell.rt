@@ -18,14 +18,14 @@ pub enum Kind {
     Mark,
 }
 
-/// Whether the byte is a digit.
+// Whether the byte is a digit.
 fn is_digit(byte: u8) -> bool
     ensures { result ≡ is_digit byte }
 {
     byte.is_ascii_digit()
 }
 
-/// The value of the byte, if it is a digit.
+// The value of the byte, if it is a digit.
 fn digit_of(byte: u8) -> Option<u64>
     ensures value { MatchOption result
         (is_digit byte ≡ false)
@@ -39,13 +39,13 @@ fn digit_of(byte: u8) -> Option<u64>
     }
 }
 
-/// The most digits of which each number is below 2 ^ 63.
+// The most digits of which each number is below 2 ^ 63.
 const FEW_DIGITS: usize = 18;
 
-/// A tenth of 2 ^ 63: with one more digit a greater number is past 2 ^ 63.
+// A tenth of 2 ^ 63: with one more digit a greater number is past 2 ^ 63.
 const MAX_TENTH: u64 = 922_337_203_685_477_580;
 
-/// The number of a few digits, if they are digits alone.
+// The number of a few digits, if they are digits alone.
 fn few_digits_number(digits: &[u8]) -> Option<u64>
     requires { length digits.now ≤ FEW_DIGITS }
     ensures { MatchOption result
@@ -59,8 +59,8 @@ fn few_digits_number(digits: &[u8]) -> Option<u64>
     Some(number)
 }
 
-/// The number of the digits, if they are digits alone. It is none if the number is past 2 ^ 63, and may be none from
-/// there on.
+// The number of the digits, if they are digits alone. It is none if the number is past 2 ^ 63, and may be none from
+// there on.
 fn many_digits_number(digits: &[u8]) -> Option<u64>
     ensures { MatchOption result
         ((list_all is_digit digits.now && nat_le (digits_value digits.now) (2 ^ 63)) ≡ false)
@@ -76,8 +76,8 @@ fn many_digits_number(digits: &[u8]) -> Option<u64>
     Some(number)
 }
 
-/// The number of the digits, if they are digits alone, at least one. It is none if the number is past 2 ^ 63, and may
-/// be none from there on.
+// The number of the digits, if they are digits alone, at least one. It is none if the number is past 2 ^ 63, and may
+// be none from there on.
 #[inline(never)]
 fn digits_number(digits: &[u8]) -> Option<u64>
     ensures { MatchOption result
@@ -94,21 +94,21 @@ fn digits_number(digits: &[u8]) -> Option<u64>
     }
 }
 
-/// The number of the digits.
+// The number of the digits.
 fn positive(digits: &[u8]) -> Option<i64>
     ensures { result ≡ positive_in digits.now }
 {
     0i64.checked_add_unsigned(digits_number(digits)?)
 }
 
-/// The number of the digits after a `-`.
+// The number of the digits after a `-`.
 fn negative(digits: &[u8]) -> Option<i64>
     ensures { result ≡ negative_in digits.now }
 {
     0i64.checked_sub_unsigned(digits_number(digits)?)
 }
 
-/// The number in the cell, if one stands there.
+// The number in the cell, if one stands there.
 fn value_in(cell: &[u8]) -> Option<i64>
     ensures { result ≡ value_in cell.now }
 {
@@ -118,7 +118,7 @@ fn value_in(cell: &[u8]) -> Option<i64>
     }
 }
 
-/// The time in the cell, if one stands there.
+// The time in the cell, if one stands there.
 pub(crate) fn time_in(cell: &[u8]) -> Option<u64>
     ensures { MatchOption result
         (is_time cell.now ≡ false)
@@ -128,16 +128,16 @@ pub(crate) fn time_in(cell: &[u8]) -> Option<u64>
     if time < 1 << 63 { Some(time) } else { None }
 }
 
-/// What a cell says.
+// What a cell says.
 #[derive(Clone, Copy)]
 pub(crate) struct CellContent {
-    /// The value, in an input's column.
+    // The value, in an input's column.
     pub(crate) value: Option<i64>,
-    /// Whether the cell is `1`, by which an event occurs.
+    // Whether the cell is `1`, by which an event occurs.
     pub(crate) is_one: bool,
 }
 
-/// The value in an input's cell, if the cell is of its form: none in an empty one.
+// The value in an input's cell, if the cell is of its form: none in an empty one.
 fn input_value(cell: &[u8]) -> Option<Option<i64>>
     ensures { MatchOption result
         (cell_fits Value cell.now ≡ false)
@@ -150,7 +150,7 @@ fn input_value(cell: &[u8]) -> Option<Option<i64>>
     if value.is_some() { Some(value) } else { None }
 }
 
-/// What the cell says in a column of this kind, if it is of the column's form. A mark says no value.
+// What the cell says in a column of this kind, if it is of the column's form. A mark says no value.
 pub(crate) fn content_in(kind: Kind, cell: &[u8]) -> Option<CellContent>
     ensures { MatchOption result
         (cell_fits kind cell.now ≡ false)

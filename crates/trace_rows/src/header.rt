@@ -13,21 +13,21 @@ use csv::ByteRecord;
 use dbp_plan::{Input, Name, NoMemory};
 use std::alloc::Global;
 
-/// Whether an input has the name.
+// Whether an input has the name.
 fn has_input(inputs: &[Input], name: &[u8]) -> bool
     ensures { result ≡ list_any (λ input. bytes_eq input.name name.now) inputs.now }
 {
     inputs.iter().any(|input| input.name.bytes() == name)
 }
 
-/// Whether the name is among these.
+// Whether the name is among these.
 fn is_among(names: &[Name], name: &[u8]) -> bool
     ensures { result ≡ is_among names.now name.now }
 {
     names.iter().any(|other| other.bytes() == name)
 }
 
-/// Whether an input or an event has the name.
+// Whether an input or an event has the name.
 #[tactic(auto, using(dbp_plan::proofs::NameLaws::among_append, crate::proofs::HeaderColumns::among_inputs))]
 fn is_known(inputs: &[Input], events: &[Name], name: &[u8]) -> bool
     ensures { result ≡ is_among (input_names inputs.now ++ events.now) name.now }
@@ -35,7 +35,7 @@ fn is_known(inputs: &[Input], events: &[Name], name: &[u8]) -> bool
     has_input(inputs, name) || is_among(events, name)
 }
 
-/// Whether the record has this cell at the place.
+// Whether the record has this cell at the place.
 fn is_cell(record: &ByteRecord, place: usize, text: &[u8]) -> bool
     ensures { result ≡ option_map_or
         (λ cell. bytes_eq cell text.now) (field_at (fields_of «record».now) place) false }
@@ -46,7 +46,7 @@ fn is_cell(record: &ByteRecord, place: usize, text: &[u8]) -> bool
     }
 }
 
-/// Whether an earlier column has the name.
+// Whether an earlier column has the name.
 fn is_repeated(header: &ByteRecord, place: usize, name: &[u8]) -> bool
     requires { place ≤ length (fields_of header.now) }
     ensures { result ≡ is_among (drop 1 (take place (fields_of header.now))) name.now }
@@ -80,7 +80,7 @@ pub fn is_header(inputs: &[Input], events: &[Name], first: &ByteRecord) -> bool
     true
 }
 
-/// What the column with this name holds.
+// What the column with this name holds.
 #[tactic(auto, using(crate::proofs::HeaderColumns::among_inputs))]
 fn kind_of_column(inputs: &[Input], name: &[u8]) -> Kind
     ensures { result ≡ kind_of_column inputs.now name.now }
@@ -107,7 +107,7 @@ pub fn kinds(alloc: Global, inputs: &[Input], header: &ByteRecord) -> Result<Vec
     Ok(kinds)
 }
 
-/// The place of the name among the columns, and how many columns there are if it isn't among them.
+// The place of the name among the columns, and how many columns there are if it isn't among them.
 pub(crate) fn index_of(header: &ByteRecord, name: &[u8]) -> usize
     ensures { result ≡ index_of (drop 1 (fields_of header.now)) name.now }
 {

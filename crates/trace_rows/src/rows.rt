@@ -37,7 +37,7 @@ pub struct RowValues {
     pub samples: List<Sample>,
 }
 
-/// The time of a row with a cell for each column, if its cells are of their forms. What they say is then in `said`.
+// The time of a row with a cell for each column, if its cells are of their forms. What they say is then in `said`.
 fn row_time(kinds: &[Kind], row: &ByteRecord, said: &mut [CellContent]) -> Option<u64>
     requires whole { length (fields_of row.now) ≡ length kinds.now + 1 }
     requires places { length said.old ≡ length kinds.now }
@@ -52,8 +52,8 @@ fn row_time(kinds: &[Kind], row: &ByteRecord, said: &mut [CellContent]) -> Optio
     time_in(row.get(0)?)
 }
 
-/// The time of the row with this number, from 1, after a row with this time, or the row's first fault. What its cells
-/// say is in `said` if it has none.
+// The time of the row with this number, from 1, after a row with this time, or the row's first fault. What its cells
+// say is in `said` if it has none.
 fn checked_row(
     until: u64,
     kinds: &[Kind],
@@ -91,7 +91,7 @@ fn checked_row(
     Ok(time)
 }
 
-/// Room for what the cells of a row with so many columns say.
+// Room for what the cells of a row with so many columns say.
 fn no_contents(alloc: Global, columns: usize) -> Result<Vec<CellContent>, NoMemory>
     ensures { IfOk result (λ said. length said.items ≡ columns) }
 {
@@ -102,7 +102,7 @@ fn no_contents(alloc: Global, columns: usize) -> Result<Vec<CellContent>, NoMemo
     Ok(vec![in alloc; nothing; columns]?)
 }
 
-/// What the columns of a header hold, and in which of them the inputs and the events stand.
+// What the columns of a header hold, and in which of them the inputs and the events stand.
 #[derive(Drop)]
 struct Columns {
     kinds: Vec<Kind>,

@@ -10,8 +10,8 @@ use csv::{ByteRecord, Error, ErrorKind, Reader, ReaderBuilder};
 use dbp_plan::NoMemory;
 use std::alloc::Global;
 
-/// What an error of the reader of records says, if it doesn't say that a record is no text or of another length: a
-/// slice can always be read, so memory ran out.
+// What an error of the reader of records says, if it doesn't say that a record is no text or of another length: a
+// slice can always be read, so memory ran out.
 fn out_of_memory(error: &Error) -> NoMemory
     requires { IsOfMemory (error_kind error.now) }
 {
@@ -21,14 +21,14 @@ fn out_of_memory(error: &Error) -> NoMemory
     }
 }
 
-/// Whether one of the bytes is at most a space, as white space is.
+// Whether one of the bytes is at most a space, as white space is.
 fn may_have_space(bytes: &[u8]) -> bool
     ensures { result ≡ list_any (λ b. nat_le b 32) bytes.now }
 {
     bytes.iter().any(|byte| *byte <= b' ')
 }
 
-/// Takes the white space around the cells away. A record without any is left as it is.
+// Takes the white space around the cells away. A record without any is left as it is.
 fn trim_cells(cells: &mut ByteRecord) -> Result<(), NoMemory>
     ensures { OnOk result (fields_of cells.new ≡ map trimmed (fields_of cells.old)) }
 {

@@ -11,7 +11,7 @@ use csv::ByteRecord;
 use dbp_plan::{Input, List, Name, NoMemory, Sample};
 use std::alloc::Global;
 
-/// The columns of the inputs.
+// The columns of the inputs.
 pub(crate) fn input_columns(
     alloc: Global,
     inputs: &[Input],
@@ -27,7 +27,7 @@ pub(crate) fn input_columns(
     Ok(columns)
 }
 
-/// The columns of the events.
+// The columns of the events.
 pub(crate) fn event_columns(
     alloc: Global,
     events: &[Name],
@@ -54,7 +54,7 @@ pub fn no_times(alloc: Global, events: usize) -> Result<Vec<List<u64>>, NoMemory
     Ok(times)
 }
 
-/// What is said in the column; nothing if there is no such column.
+// What is said in the column; nothing if there is no such column.
 fn content_at(said: &[CellContent], column: usize) -> CellContent
     ensures { result ≡ slice_index_or said.now column nothing }
 {
@@ -68,7 +68,7 @@ fn content_at(said: &[CellContent], column: usize) -> CellContent
     }
 }
 
-/// Adds the samples of a row at this time, whose cells say this, if these are the columns of the inputs.
+// Adds the samples of a row at this time, whose cells say this, if these are the columns of the inputs.
 pub(crate) fn push_samples(
     found: &mut List<Sample>,
     time: u64,
@@ -92,8 +92,8 @@ pub(crate) fn push_samples(
     Ok(())
 }
 
-/// Adds the time of a row, whose cells say this, to those of each event that occurs there, if these are the columns of
-/// the events.
+// Adds the time of a row, whose cells say this, to those of each event that occurs there, if these are the columns of
+// the events.
 pub(crate) fn push_times(
     events: &mut [List<u64>],
     time: u64,
