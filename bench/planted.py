@@ -2,7 +2,7 @@
 """Makes a copy of the crates in which something about waiting is changed, to see what `bench/hangs.py` finds in it.
 
   bench/planted.py --list
-  bench/planted.py CHANGE FOLDER
+  bench/planted.py CHANGE [CHANGE ..] FOLDER
 
 FOLDER is new. It gets `dbp`, which proves the crates of the copy and builds crates/dbp/out/dbp: give that program to
 `bench/hangs.py --program`. No clause speaks of bells, rounds or paces; but that a copy is proved was never tried, and
@@ -44,6 +44,20 @@ fn pause(round: &Round, draws: &mut SplitMix64) {
 
 // One turn of the party. Then it rings"""
 
+# A ring pauses where what a job says of its waiting may change meanwhile: after it has found a late writer, and after it has
+# rung for the readers.
+RING_PAUSE = """impl Round {
+    // Loads a word for about as long as it takes to fall asleep.
+    fn pause(&self) {
+        for _ in 0..20_000 {
+            if self.is_ending() {
+                return;
+            }
+        }
+    }
+
+"""
+
 
 SLEEP = "{ bell.sleep(rt, rings); bell.say_awake(); Waiting::No }"
 
@@ -67,6 +81,14 @@ CHANGES = {
             "    pause(round, &mut draws);\n"
             "    let turn = paced_turn(pace, words, party);\n"
             "    pause(round, &mut draws);\n",
+    }),
+    "paused_rings": Change("a ring pauses after it has found a late writer, and after it has rung for the readers", "concern.rt", {
+        "impl Round {\n": RING_PAUSE,
+        "                return Some((link.writer, claim.number));\n":
+            "                self.pause();\n"
+            "                return Some((link.writer, claim.number));\n",
+        "                self.bell(link.reader).ring_after(task);\n            }\n        }\n":
+            "                self.bell(link.reader).ring_after(task);\n            }\n        }\n        self.pause();\n",
     }),
     "never_rung": Change("a bell is never rung after a step", "bell.rt", {
         "if self.awaits(party) {\n            self.ring();": "if self.awaits(party) {",
@@ -120,32 +142,36 @@ def changed(text, change):
     return text
 
 
-def make_copy(change, folder):
-    """Copies what is built, with the change."""
+def make_copy(changes, folder):
+    """Copies what is built, with the changes."""
     folder.mkdir(parents=True)
     for name in COPIED:
         if (TOP / name).is_dir():
             shutil.copytree(TOP / name, folder / name, symlinks=True, ignore=shutil.ignore_patterns("out"))
         else:
             shutil.copy(TOP / name, folder)
-    file = folder / SOURCES / change.file
-    file.write_text(changed(file.read_text(), change))
+    for change in changes:
+        file = folder / SOURCES / change.file
+        file.write_text(changed(file.read_text(), change))
 
 
 def main():
     parser = argparse.ArgumentParser(description=__doc__, formatter_class=argparse.RawDescriptionHelpFormatter)
     parser.add_argument("--list", action="store_true", help="list the changes")
-    parser.add_argument("change", nargs="?", choices=CHANGES)
-    parser.add_argument("folder", nargs="?", type=Path)
+    parser.add_argument("words", nargs="*", metavar="CHANGE .. FOLDER")
     options = parser.parse_args()
     if options.list:
         for name, change in CHANGES.items():
             print(f"{name:<24}{change.about}")
         return 0
-    if not options.folder:
+    *changes, folder = options.words or [None]
+    if not changes:
         parser.error("a change and a folder are wanted")
+    unknown = [it for it in changes if it not in CHANGES]
+    if unknown:
+        parser.error(f"no such change: {unknown[0]}")
     try:
-        make_copy(CHANGES[options.change], options.folder)
+        make_copy([CHANGES[it] for it in changes], Path(folder))
     except OSError as error:
         sys.exit(f"planted.py: {error}")
     return 0

@@ -16,7 +16,8 @@ const MOST_PARTIES: usize = MAX_TASKS as usize + 1;
 
 const _: () = prove!(MOST_PARTIES == 33);
 
-// So many loads are shared among the pairs of jobs: the more jobs there are, the sooner another one needs the processor.
+// So many loads are shared among the pairs of jobs: the more jobs there are, the sooner another one needs the processor. On one
+// processor nobody rings while a job watches, so there it sleeps at once.
 const LOADS: usize = 16384;
 
 // Their meeting, if they hold one, a bell for each party, by the party's number, and whether a thread has made its last job
@@ -31,7 +32,7 @@ pub(crate) struct Round {
 }
 
 impl Round {
-    pub(crate) fn new(jobs: usize, is_met: bool) -> Round
+    pub(crate) fn new(jobs: usize, is_met: bool, is_on_one_processor: bool) -> Round
         requires { 0 < jobs }
     {
         Round {
@@ -42,7 +43,11 @@ impl Round {
             },
             bells: array::from_fn(|_: usize| Bell::new()),
             is_ending: AtomicBool::new(false),
-            loads: LOADS / jobs / jobs,
+            loads: if is_on_one_processor {
+                0
+            } else {
+                LOADS / jobs / jobs
+            },
         }
     }
 

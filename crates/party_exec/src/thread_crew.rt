@@ -135,6 +135,14 @@ fn run_rounds<R: Threads + Wait + Sync, P: Pace>(
     unreachable!()
 }
 
+// Whether the threads may run on one processor alone. If the system doesn't say it, they may run on several.
+fn is_on_one_processor<R: Threads>(rt: &R) -> bool {
+    match thread::available_parallelism(rt) {
+        Ok(processors) => processors.get() == 1,
+        Err(_) => false,
+    }
+}
+
 // Rounds: the jobs of each party in a row, in as many threads as there are parties. Returns whether the threads were to meet
 // and haven't.
 fn rounds<R: Threads + Wait + Sync, P: Pace>(
@@ -151,7 +159,7 @@ fn rounds<R: Threads + Wait + Sync, P: Pace>(
         return false;
     }
     let threads = parties.len();
-    let round = Round::new(threads, is_met);
+    let round = Round::new(threads, is_met, is_on_one_processor(rt));
     thread::for_each_mut(
         rt,
         parties,
