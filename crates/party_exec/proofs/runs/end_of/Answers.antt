@@ -1,6 +1,6 @@
 use Rattle.std.proofs.Common.{◌∙◌, length, ap}
 use Rattle.dbp_rules.specs.declared.wiring.TaskWiring.{TaskWiring}
-use Rattle.party_exec.proofs.Fresh.{time_count}
+use Rattle.party_turns.proofs.Fresh.{time_count}
 use Rattle.party_exec.proofs.runs.end_of.Goals as goal
 
 pub returns-clause-occurrences : goal.returns-clause-occurrences
