@@ -1,10 +1,10 @@
--- How many turns are counted of a party.
+-- How many turns a crew counts of a party.
 use Rattle.std.specs.Prelude.{◌≡◌, ℕ}
 use Rattle.dbp_plan.specs.Calls.{one_more}
 use Rattle.party_turns.specs.declared.party.Party.{Party}
 use Rattle.party_turns.specs.declared.party.Party.TheVariants.{Releaser, Task}
 
--- how many turns a crew has made of the party
+-- how many turns were counted of the party
 abbrev pub turns_made : Party → ℕ
 turns_made (Releaser s) = s.turns
 turns_made (Task s) = s.turns

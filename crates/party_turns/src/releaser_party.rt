@@ -12,7 +12,7 @@ use word_rule::ReleaserSeat;
 pub struct ReleaserParty {
     pub(crate) seat: ReleaserSeat,
     pub(crate) book: Book,
-    // how many turns were counted of it
+    // how many turns a crew has counted of it, for the pace
     pub(crate) turns: u64,
     ghost booked: { IsBooked seat book },
 }

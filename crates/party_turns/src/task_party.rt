@@ -14,7 +14,7 @@ pub struct TaskParty {
     pub(crate) seat: TaskSeat,
     pub(crate) work: Work,
     pub(crate) rows: TaskRows,
-    // how many turns were counted of it
+    // how many turns a crew has counted of it, for the pace
     pub(crate) turns: u64,
     ghost computed: { HasComputed (plan_of_task seat) seat.task seat.part work rows },
 }
