@@ -98,8 +98,9 @@ fn end_of(words: &SlotWords, party: &TaskParty) -> TaskEnd
     ensures ended { result.ended ≡ party.now.seat.part.ended }
     ensures occurrences { result.occurrences ≡ length (times_of words.now.plan.batches party.now.seat.task) }
 {
+    let seat = party.seat();
     TaskEnd {
-        ended: party.seat().part().ended,
-        occurrences: wired_of(words, party.seat()).times.len(),
+        ended: seat.part().ended,
+        occurrences: wired_of(words, seat).times.len(),
     }
 }
