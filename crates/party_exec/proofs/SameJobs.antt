@@ -1,5 +1,5 @@
 -- The parties of which jobs and turns are made stay those of their seats.
-use Rattle.std.proofs.Common.{◌≡◌, inl, inr, ℕ, ◌<◌, List, length, get_or, sym, subst}
+use Rattle.std.proofs.Common.{inl, inr, ℕ, List, get_or, sym, subst}
 use Rattle.word_rule.specs.declared.seats.SlotWords.{SlotWords}
 use Rattle.party_turns.specs.SameSeats.{AreSame, IsSameParty}
 use Rattle.party_turns.specs.declared.party.Party.{Party}

@@ -1,4 +1,3 @@
-use Rattle.std.proofs.Common.{◌+◌}
 use Rattle.party_turns.proofs.SameParties.{still_belongs}
 use Rattle.party_exec.specs.Jobs.{no_job, one_job}
 use Rattle.party_exec.proofs.SameJobs.{next_job_same}

@@ -1,4 +1,3 @@
-use Rattle.std.proofs.Common.{◌<◌}
 use Rattle.party_turns.specs.Parties.{Belongs}
 use Rattle.party_exec.specs.Jobs.{MakesJobs}
 use Rattle.party_exec.proofs.job.make_jobs.Given as goal
