@@ -25,7 +25,7 @@ PAUSE = """
 // What is drawn at this turn of the party.
 fn draws_at(words: &SlotWords, party: &Party) -> SplitMix64 {
     let mut seed = words.plan().diagram.until;
-    for number in [turn_number(party), u64::from(number_in(words, party))] {
+    for number in [party.turn_number(), u64::from(number_in(words, party))] {
         seed = SplitMix64::seed_from_u64(seed).next_word() ^ number;
     }
     SplitMix64::seed_from_u64(seed)

@@ -1,8 +1,8 @@
 // What the tests do with a crew and a plan.
 
 ghost use Rattle.std.specs.Prelude.{◌≡◌, Some};
+ghost use Rattle.party_turns.specs.Parties.{AreFresh, HaveFinished};
 ghost use Rattle.party_exec.specs.Crews.{thread_ready};
-ghost use Rattle.party_exec.specs.Parties.{AreFresh, HaveFinished};
 
 use dbp_plan::{List, Plan, Table};
 use party_exec::{Crew, Pace, Party, ThreadCrew, parties, table_of};

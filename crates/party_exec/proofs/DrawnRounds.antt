@@ -1,18 +1,19 @@
 -- The rounds that a crew of drawn turns makes.
-use Rattle.std.proofs.Common.{◌≡◌, ℕ, zero, suc, ◌+◌, ◌-◌, ◌<◌, ◌≤◌, true, false, List, length, get_or, set, refl, sym, ◌∙◌, ap, subst, arith, length-set}
+use Rattle.std.proofs.Common.{◌≡◌, ℕ, suc, ◌+◌, ◌-◌, ◌<◌, ◌≤◌, true, false, List, length, get_or, set, refl, sym, ◌∙◌, ap, subst, arith, length-set}
 use Rattle.std.specs.Prelude.{nat_lt}
 use Rattle.std.proofs.lemmas.Bool.Decides.{nat_tests}
 use Rattle.std.proofs.lemmas.Grind.{get_or-set_at}
 use Rattle.std.proofs.lemmas.List.{get_or-set_other, get_or_default}
 use mathlib.Core.Logic.{dite}
 use native.Mathlib.Decide.{dec_lt, ℕ_discrete}
-use Rattle.word_rule.specs.declared.seats.SlotWords.{SlotWords}
 use Rattle.drawn_numbers.specs.Draws.{after_draw, after_draws}
-use Rattle.party_exec.specs.Draws.{HaveDrawnRounds, IsDrawnRound, MakesDrawnTurns, MakeTurnsBetween, after_round, first_place, no_round, one_round, turns_before}
 use Rattle.drawn_numbers.proofs.DrawLaws.{draws-add}
-use Rattle.party_exec.specs.SameSeats.{AreSame, IsSameParty}
-use Rattle.party_exec.specs.declared.party.Party.{Party}
-use Rattle.party_exec.proofs.SameParties.{all_same, same_all_further, same_party, turned_same}
+use Rattle.word_rule.specs.declared.seats.SlotWords.{SlotWords}
+use Rattle.party_turns.specs.SameSeats.{AreSame, IsSameParty}
+use Rattle.party_turns.specs.declared.party.Party.{Party}
+use Rattle.party_turns.proofs.SameParties.{all_same, same_all_further, same_party}
+use Rattle.party_exec.specs.Draws.{HaveDrawnRounds, IsDrawnRound, MakesDrawnTurns, MakeTurnsBetween, after_round, first_place, no_round, one_round, turns_before}
+use Rattle.party_exec.proofs.SameJobs.{turned_same}
 
 -- ---- draws
 

@@ -4,14 +4,14 @@ use Rattle.dbp_plan.specs.Occurrences.{times_of}
 use Rattle.dbp_plan.specs.ListItems.{all_place, read_place}
 use Rattle.word_rule.specs.Seats.{TaskSits}
 use Rattle.word_rule.specs.declared.seats.SlotWords.{SlotWords}
+use Rattle.party_turns.specs.Parties.{HasFinished, HaveFinished, IsPartyAt}
+use Rattle.party_turns.specs.declared.party.Party.{Party}
+use Rattle.party_turns.specs.declared.party.Party.TheVariants.{Releaser, Task}
+use Rattle.party_turns.specs.declared.releaser_party.ReleaserParty.{ReleaserParty}
+use Rattle.party_turns.specs.declared.task_party.TaskParty.{TaskParty}
+use Rattle.party_turns.proofs.Fresh.{time_count}
 use Rattle.party_exec.specs.Entries.{task_end}
-use Rattle.party_exec.specs.Parties.{HasFinished, HaveFinished, IsPartyAt}
 use Rattle.party_exec.specs.declared.crew_entry.TaskEnd.{TaskEnd}
-use Rattle.party_exec.specs.declared.party.Party.{Party}
-use Rattle.party_exec.specs.declared.party.Party.TheVariants.{Releaser, Task}
-use Rattle.party_exec.specs.declared.releaser_party.ReleaserParty.{ReleaserParty}
-use Rattle.party_exec.specs.declared.task_party.TaskParty.{TaskParty}
-use Rattle.party_exec.proofs.Fresh.{time_count}
 
 -- the party is that of the task i, and all occurrences of its task have ended
 pub record IsEnded (w : SlotWords) (i : ℕ) (s : TaskParty) : Type 0 where

@@ -1,11 +1,11 @@
 -- The turns of a job.
 use Rattle.std.proofs.Common.{◌≡◌, ℕ, ◌+◌, ◌<◌, ◌≤◌, sym, subst, arith}
 use Rattle.word_rule.specs.declared.seats.SlotWords.{SlotWords}
+use Rattle.party_turns.specs.Parties.{HasFinished}
+use Rattle.party_turns.specs.declared.party.Party.{Party}
+use Rattle.party_turns.specs.declared.turn.Turn.{Turn}
+use Rattle.party_turns.specs.declared.turn.Turn.TheVariants.{Finished, Idle, Stepped}
 use Rattle.party_exec.specs.Jobs.{IsCountedTurn, HasWorked, after_one, idle_after}
-use Rattle.party_exec.specs.Parties.{HasFinished}
-use Rattle.party_exec.specs.declared.party.Party.{Party}
-use Rattle.party_exec.specs.declared.turn.Turn.{Turn}
-use Rattle.party_exec.specs.declared.turn.Turn.TheVariants.{Finished, Idle, Stepped}
 
 pub idle_most : (idle : ℕ) (t : Turn) → idle < 64 → idle_after idle t ≤ 64
 idle_most idle Stepped few = omega arith

@@ -1,14 +1,4 @@
-pub mod Stays
-pub mod Written
-pub mod Works
-pub mod Seats
-pub mod Fresh
-pub mod Places
-pub mod Finished
-pub mod Turned
-pub mod Releasers
-pub mod Shutting
-pub mod SameParties
+pub mod SameJobs
 pub mod Jobs
 pub mod Concerns
 pub mod Ends

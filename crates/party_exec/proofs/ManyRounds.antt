@@ -1,11 +1,11 @@
 -- Jobs of each party in a row are rounds.
-use Rattle.std.proofs.Common.{◌≡◌, ◌⊎◌, inl, inr, ℕ, zero, suc, ◌+◌, ◌<◌, List, [], ◌∷◌, length, All, get_or, refl, sym, ◌∙◌, ap, subst, arith}
+use Rattle.std.proofs.Common.{◌≡◌, ◌⊎◌, inl, inr, ℕ, zero, suc, ◌+◌, ◌<◌, List, [], ◌∷◌, length, get_or, refl, sym, ◌∙◌, subst, arith}
 use Rattle.std.proofs.lemmas.List.{ext_get_or, get_or_default}
 use Rattle.word_rule.specs.declared.seats.SlotWords.{SlotWords}
-use Rattle.party_exec.specs.Jobs.{HaveRounds, IsJob, IsNextJob, MakeJobs, MakesJobs, at_first, no_job, one_job, no_round, one_round}
-use Rattle.party_exec.specs.Parties.{HasFinished}
-use Rattle.party_exec.specs.declared.party.Party.{Party}
-use Rattle.party_exec.proofs.Chosen.{Chosen, all_or_one, choose}
+use Rattle.party_turns.specs.Parties.{HasFinished}
+use Rattle.party_turns.specs.declared.party.Party.{Party}
+use Rattle.party_exec.specs.Jobs.{HaveRounds, IsJob, IsNextJob, MakeJobs, MakesJobs, at_first, no_job, one_job, one_round}
+use Rattle.party_exec.proofs.Chosen.{all_or_one, choose}
 
 module _ (w : SlotWords) where
   none_made : (p : Party) (n : ℕ) (r : Party) → n ≡ 0 → MakesJobs w p n r → r ≡ p

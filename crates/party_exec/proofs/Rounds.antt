@@ -1,10 +1,11 @@
 -- The rounds that a crew of threads makes.
 use Rattle.std.proofs.Common.{◌≡◌, List, length, refl, ◌∙◌}
 use Rattle.word_rule.specs.declared.seats.SlotWords.{SlotWords}
+use Rattle.party_turns.specs.SameSeats.{AreSame}
+use Rattle.party_turns.specs.declared.party.Party.{Party}
+use Rattle.party_turns.proofs.SameParties.{all_same, same_all_further}
 use Rattle.party_exec.specs.Jobs.{HaveRounds, no_round, one_round}
-use Rattle.party_exec.specs.SameSeats.{AreSame}
-use Rattle.party_exec.specs.declared.party.Party.{Party}
-use Rattle.party_exec.proofs.SameParties.{all_same, jobs_same, same_all_further}
+use Rattle.party_exec.proofs.SameJobs.{jobs_same}
 
 pub rounds_size : (w : SlotWords) (ps qs : List Party) → HaveRounds w ps qs → length qs ≡ length ps
 rounds_size w ps qs no_round = refl

@@ -1,10 +1,10 @@
 -- The rounds that are drawn.
-use Rattle.std.specs.Prelude.{◌≡◌, ℕ, zero, suc, ◌+◌, ◌-◌, ◌<◌, ◌≤◌, nat_lt, if◌then◌else◌, List, length, All, slice_index_or}
-use Rattle.drawn_numbers.specs.Draws.{drawn, after_draw, after_draws}
+use Rattle.std.specs.Prelude.{◌≡◌, ℕ, ◌+◌, ◌-◌, ◌<◌, ◌≤◌, nat_lt, if◌then◌else◌, List, length, All, slice_index_or}
+use Rattle.drawn_numbers.specs.Draws.{drawn, after_draws}
 use Rattle.word_rule.specs.declared.seats.SlotWords.{SlotWords}
+use Rattle.party_turns.specs.Parties.{HasFinished}
+use Rattle.party_turns.specs.declared.party.Party.{Party}
 use Rattle.party_exec.specs.Jobs.{MakesTurns}
-use Rattle.party_exec.specs.Parties.{HasFinished}
-use Rattle.party_exec.specs.declared.party.Party.{Party}
 
 -- the place among so many at which a round begins
 abbrev pub first_place : ℕ → ℕ → ℕ

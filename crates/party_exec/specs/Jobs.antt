@@ -1,25 +1,14 @@
 -- What a crew makes of a party: a job of one round, and so many turns. And the rounds of a crew of threads.
 use Rattle.std.specs.Prelude.{◌≡◌, ◌⊎◌, ℕ, ◌+◌, ◌<◌, List, length, All, slice_index_or}
-use Rattle.dbp_plan.specs.Calls.{one_more}
 use Rattle.word_rule.specs.declared.seats.SlotWords.{SlotWords}
-use Rattle.party_exec.specs.Parties.{HasFinished, IsTurn}
-use Rattle.party_exec.specs.declared.party.Party.{Party}
-use Rattle.party_exec.specs.declared.party.Party.TheVariants.{Releaser, Task}
-use Rattle.party_exec.specs.declared.turn.Turn.{Turn}
-use Rattle.party_exec.specs.declared.turn.Turn.TheVariants.{Idle}
+use Rattle.party_turns.specs.Counts.{IsCounted}
+use Rattle.party_turns.specs.Parties.{HasFinished, IsTurn}
+use Rattle.party_turns.specs.declared.party.Party.{Party}
+use Rattle.party_turns.specs.declared.party.Party.TheVariants.{Releaser, Task}
+use Rattle.party_turns.specs.declared.turn.Turn.{Turn}
+use Rattle.party_turns.specs.declared.turn.Turn.TheVariants.{Idle}
 
 -- ---- what a pace hears
-
--- how many turns a crew has made of the party
-abbrev pub turns_made : Party → ℕ
-turns_made (Releaser s) = s.turns
-turns_made (Task s) = s.turns
-
--- the same party, with one turn more in its count, which stays at the last number of 64 bits
-abbrev pub IsCounted : Party → Party → Type 0
-IsCounted (Releaser old) (Releaser new) = (new.seat ≡ old.seat) × (new.book ≡ old.book) × (new.turns ≡ one_more old.turns)
-IsCounted (Task old) (Task new) = (new.seat ≡ old.seat) × (new.work ≡ old.work) × (new.rows ≡ old.rows) × (new.turns ≡ one_more old.turns)
-IsCounted _ _ = ⊥
 
 -- the number of the task; of the releaser the number of tasks
 abbrev pub number_of : SlotWords → Party → ℕ

@@ -1,9 +1,9 @@
 // What a crew asks of all parties.
 
 ghost use Rattle.std.specs.Prelude.{◌↔◌, All, IsTrue};
-ghost use Rattle.party_exec.specs.Parties.{Belongs, HasFinished};
+ghost use Rattle.party_turns.specs.Parties.{Belongs, HasFinished};
 
-use crate::party::Party;
+use party_turns::Party;
 use word_rule::SlotWords;
 
 // Whether none has a step left.

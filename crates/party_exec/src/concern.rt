@@ -2,13 +2,14 @@
 
 ghost use Rattle.std.specs.Prelude.{◌≡◌, ◌<◌, ◌≤◌, length};
 ghost use Rattle.dbp_plan.specs.declared.limits.TheConstants.{MAX_TASKS};
+ghost use Rattle.dbp_rules.specs.declared.parts.Place.TheVariants as place;
+ghost use Rattle.word_rule.specs.Seats.{TaskSits};
+ghost use Rattle.party_turns.specs.Parties.{Belongs};
 ghost use Rattle.party_exec.specs.Concerns.{IsConcernIn};
-ghost use Rattle.party_exec.specs.Parties.{Belongs};
 
-use crate::look_up::{wired_of, writer_of_read};
-use crate::party::Party;
 use crate::round::Round;
 use dbp_rules::Place;
+use party_turns::{Party, TaskParty, wired_of};
 use release_book::ReleaseStep;
 use release_list::Release;
 use word_rule::SlotWords;
@@ -27,16 +28,24 @@ pub(crate) fn awaited(words: &SlotWords, party: &Party) -> Option<u32>
     requires { Belongs words.now party.now }
 {
     match party {
-        Party::Releaser(party) => match party.book.next(words.plan()) {
+        Party::Releaser(party) => match party.next_step(words) {
             ReleaseStep::Seen { task } => Some(task),
             _ => None,
         },
-        Party::Task(party) => match party.seat.part().place {
+        Party::Task(party) => match party.seat().part().place {
             Place::Idle => Some(releaser_number(words)),
             Place::Look(turn) => Some(writer_of_read(words, party, turn)),
             _ => None,
         },
     }
+}
+
+// The task whose out is read by the read whose turn this is.
+fn writer_of_read(words: &SlotWords, party: &TaskParty, turn: u32) -> u32
+    requires here { TaskSits words.now party.now.seat }
+    requires place { party.now.seat.part.place ≡ place.Look turn }
+{
+    wired_of(words, party.seat()).reads.items()[turn as usize].writer
 }
 
 // Who may wait for a step.
@@ -59,9 +68,9 @@ pub(crate) fn concerned(words: &SlotWords, party: &Party) -> Concern
     ensures { IsConcernIn words.now result }
 {
     match party {
-        Party::Releaser(party) => opened_next(words, party.seat.part().place),
-        Party::Task(party) => match party.seat.part().place {
-            Place::Done => Concern::Readers(party.seat.task()),
+        Party::Releaser(party) => opened_next(words, party.seat().part().place),
+        Party::Task(party) => match party.seat().part().place {
+            Place::Done => Concern::Readers(party.seat().task()),
             Place::End => Concern::Party(releaser_number(words)),
             _ => Concern::Nobody,
         },
@@ -73,7 +82,7 @@ pub(crate) fn instances_done(party: &Party) -> u64 {
     match party {
         Party::Releaser(_) => 0,
         Party::Task(party) => {
-            let part = party.seat.part();
+            let part = party.seat().part();
             let ended = u64::from(part.ended);
             if matches!(part.place, Place::End) {
                 ended + 1
@@ -137,7 +146,7 @@ impl Round {
         let wiring = words.wiring();
         for number in wiring.tasks.get(task)?.links.items() {
             let link = wiring.links.get(*number)?;
-            let claim = party.seat.part().links.get(*number)?;
+            let claim = party.seat().part().links.get(*number)?;
             if link.delay == 0 && !self.has_done(link.writer, claim.number) {
                 return Some((link.writer, claim.number));
             }

@@ -2,12 +2,12 @@
 
 ghost use Rattle.std.specs.Prelude.{◌≡◌, ◌∷◌, [], ◌++◌, IfOk, None, OnErr, Some};
 ghost use Rattle.std.specs.Thread.{IsSync};
+ghost use Rattle.party_turns.specs.Parties.{AreFresh, HaveFinished};
+ghost use Rattle.party_turns.specs.SameSeats.{AreSameParties};
 ghost use Rattle.party_exec.specs.Entries.{entry_of};
-ghost use Rattle.party_exec.specs.Parties.{AreFresh, HaveFinished};
-ghost use Rattle.party_exec.specs.SameSeats.{AreSameParties};
 
-use crate::party::Party;
 use dbp_plan::{NoMemory, Plan};
+use party_turns::Party;
 use std::sync::Wait;
 use std::thread::Threads;
 use word_rule::SlotWords;

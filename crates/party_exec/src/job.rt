@@ -1,16 +1,15 @@
 // A party's jobs of the rounds that its thread makes.
 
 ghost use Rattle.std.specs.Prelude.{◌≡◌, ◌<◌};
-ghost use Rattle.party_exec.specs.Jobs.{IsCounted, IsCountedTurn, IsJob, IsNextJob, MakesJobs, idle_after, number_of, turns_made};
-ghost use Rattle.party_exec.specs.Parties.{Belongs};
+ghost use Rattle.party_turns.specs.Parties.{Belongs};
+ghost use Rattle.party_exec.specs.Jobs.{IsCountedTurn, IsJob, IsNextJob, MakesJobs, idle_after, number_of};
 
 use crate::bell::Bell;
 use crate::concern::{awaited, concerned, instances_done, releaser_number};
 use crate::pace::Pace;
-use crate::party::Party;
 use crate::round::Round;
-use crate::turn::Turn;
 use crate::waiting::Waiting;
+use party_turns::{Party, Turn};
 use std::sync::Wait;
 use word_rule::SlotWords;
 
@@ -143,29 +142,9 @@ fn paced_turn<P: Pace>(pace: &P, words: &SlotWords, party: &mut Party) -> Turn
     requires { Belongs words.now party.old }
     ensures { IsCountedTurn words.now party.old party.new result }
 {
-    count_turn(party);
-    pace.at(number_in(words, party), turn_number(party));
+    party.count_turn();
+    pace.at(number_in(words, party), party.turn_number());
     party.turn(words)
-}
-
-// Counts one turn more.
-fn count_turn(party: &mut Party)
-    ensures { IsCounted party.old party.new }
-{
-    match party {
-        Party::Releaser(party) => party.turns = party.turns.saturating_add(1),
-        Party::Task(party) => party.turns = party.turns.saturating_add(1),
-    }
-}
-
-// The number of its last turn.
-fn turn_number(party: &Party) -> u64
-    ensures { result ≡ turns_made party.now }
-{
-    match party {
-        Party::Releaser(party) => party.turns,
-        Party::Task(party) => party.turns,
-    }
 }
 
 // Its number among the parties.
@@ -174,7 +153,7 @@ fn number_in(words: &SlotWords, party: &Party) -> u32
 {
     match party {
         Party::Releaser(_) => releaser_number(words),
-        Party::Task(party) => party.seat.task(),
+        Party::Task(party) => party.seat().task(),
     }
 }
 

@@ -3,15 +3,13 @@
 ghost use Rattle.std.specs.Prelude.{◌≡◌, [], ◌∷◌, ◌++◌, IfOk, None, OnErr, Some, length, vec_capacity, vec_len};
 ghost use Rattle.dbp_plan.specs.Occurrences.{times_of};
 ghost use Rattle.word_rule.specs.Seats.{TaskSits};
+ghost use Rattle.party_turns.specs.Parties.{HaveFinished};
 ghost use Rattle.party_exec.specs.Entries.{HasRoom, entry_of, plan_ready, task_ends};
-ghost use Rattle.party_exec.specs.Parties.{HaveFinished};
 ghost use Rattle.party_exec.specs.declared.crew_entry.CrewEntry.{CrewEntry};
 
 use crate::crew_entry::{CrewEntry, TaskEnd};
-use crate::look_up::wired_of;
-use crate::party::Party;
-use crate::task_party::TaskParty;
 use dbp_plan::{List, NoMemory, Plan};
+use party_turns::{Party, TaskParty, wired_of};
 use std::alloc::Global;
 use word_rule::SlotWords;
 
@@ -100,8 +98,9 @@ fn end_of(words: &SlotWords, party: &TaskParty) -> TaskEnd
     ensures ended { result.ended ≡ party.now.seat.part.ended }
     ensures occurrences { result.occurrences ≡ length (times_of words.now.plan.batches party.now.seat.task) }
 {
+    let seat = party.seat();
     TaskEnd {
-        ended: party.seat.part().ended,
-        occurrences: wired_of(words, &party.seat).times.len(),
+        ended: seat.part().ended,
+        occurrences: wired_of(words, seat).times.len(),
     }
 }

@@ -2,11 +2,11 @@
 
 ghost use Rattle.std.specs.Prelude.{◌≡◌, [], ◌∷◌, ◌++◌, All, IfOk, None, OnErr, Some};
 ghost use Rattle.std.specs.Thread.{IsSync};
+ghost use Rattle.party_turns.specs.Parties.{AreFresh, Belongs, HaveFinished};
+ghost use Rattle.party_turns.specs.SameSeats.{AreSameParties};
 ghost use Rattle.party_exec.specs.Crews.{no_seed, thread_ready, thread_runs};
 ghost use Rattle.party_exec.specs.Entries.{entry_of};
 ghost use Rattle.party_exec.specs.Jobs.{HaveRounds, MakeJobs, MakesJobs};
-ghost use Rattle.party_exec.specs.Parties.{AreFresh, Belongs, HaveFinished};
-ghost use Rattle.party_exec.specs.SameSeats.{AreSameParties};
 
 use crate::all_parties::have_finished;
 use crate::crew::Crew;
@@ -14,10 +14,10 @@ use crate::crew_entry::CrewEntry;
 use crate::job::jobs;
 use crate::meetings::Meetings;
 use crate::pace::{FreePace, Pace};
-use crate::party::Party;
 use crate::round::Round;
 use crate::runs::Runs;
 use dbp_plan::{NoMemory, Plan};
+use party_turns::Party;
 use std::alloc::Global;
 use std::sync::Wait;
 use std::thread;

@@ -1,21 +1,21 @@
 // A crew of one thread, which draws the turns.
 
 ghost use Rattle.std.specs.Prelude.{◌≡◌, ◌<◌, ◌≤◌, ◌-◌, [], ◌∷◌, ◌++◌, ℕ, All, None, Some, length};
-ghost use Rattle.party_exec.specs.Crews.{last_seed_of, seed_of, turn_ready, turn_runs};
 ghost use Rattle.drawn_numbers.specs.Draws.{after_draw, after_draws};
+ghost use Rattle.party_turns.specs.Parties.{AreFresh, Belongs, HaveFinished};
+ghost use Rattle.party_turns.specs.SameSeats.{AreSameParties};
+ghost use Rattle.party_exec.specs.Crews.{last_seed_of, seed_of, turn_ready, turn_runs};
 ghost use Rattle.party_exec.specs.Draws.{HaveDrawnRounds, IsDrawnRound, MakeTurnsBetween, after_round, turn_count};
 ghost use Rattle.party_exec.specs.Entries.{entry_of};
 ghost use Rattle.party_exec.specs.Jobs.{MakesTurns};
-ghost use Rattle.party_exec.specs.Parties.{AreFresh, Belongs, HaveFinished};
-ghost use Rattle.party_exec.specs.SameSeats.{AreSameParties};
 
 use crate::all_parties::have_finished;
 use crate::crew::Crew;
 use crate::crew_entry::CrewEntry;
 use crate::draws::{draw_place, draw_turns};
-use crate::party::Party;
 use crate::runs::Runs;
 use dbp_plan::{NoMemory, Plan};
+use party_turns::Party;
 use rand_core::SeedableRng;
 use rand_xoshiro::SplitMix64;
 use std::alloc::Global;

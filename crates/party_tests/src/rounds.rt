@@ -1,9 +1,9 @@
 // Rounds of turns, in some order of the parties, until all have finished.
 
-ghost use Rattle.party_exec.specs.Parties.{AreParties};
+ghost use Rattle.party_turns.specs.Parties.{AreParties};
 
 use crate::turns::{have_finished, turn_of};
-use party_exec::{Party, Turn};
+use party_turns::{Party, Turn};
 use std::test::Fail;
 use word_rule::SlotWords;
 

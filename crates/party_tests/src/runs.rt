@@ -1,12 +1,12 @@
 // Whole runs: what turns answer, and the rows at the end, which are those of the meaning.
 
 ghost use Rattle.std.specs.Prelude.{IfOk};
-ghost use Rattle.party_exec.specs.Parties.{AreParties, HaveFinished};
+ghost use Rattle.party_turns.specs.Parties.{AreParties, HaveFinished};
 
 use crate::rounds::{ROUNDS, Round, finish};
 use crate::turns::{have_finished, turn_of};
 use dbp_plan::{List, Plan, Table};
-use party_exec::{Cause, Party, Turn, parties, table_of};
+use party_turns::{Cause, Party, Turn, parties, table_of};
 use std::alloc::Global;
 use std::process::Abort;
 use std::test::Fail;

@@ -1,9 +1,9 @@
 // Turns of the parties of one table, and whether all have finished.
 
 ghost use Rattle.std.specs.Prelude.{IsTrue};
-ghost use Rattle.party_exec.specs.Parties.{AreParties, HaveFinished};
+ghost use Rattle.party_turns.specs.Parties.{AreParties, HaveFinished};
 
-use party_exec::{Party, Turn};
+use party_turns::{Party, Turn};
 use std::test::Fail;
 use word_rule::SlotWords;
 

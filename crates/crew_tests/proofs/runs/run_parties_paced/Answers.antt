@@ -1,6 +1,6 @@
 use Rattle.std.proofs.Common.{◌∙◌, ap, length, sym, subst}
 use Rattle.sync_meaning.proofs.Sets.{refill_all}
-use Rattle.party_exec.specs.Parties.{HaveFinished}
+use Rattle.party_turns.specs.Parties.{HaveFinished}
 use Rattle.crew_tests.proofs.runs.run_parties_paced.Goals as goal
 
 pub have_meaning-requires : goal.have_meaning-requires

@@ -1,6 +1,6 @@
 use Rattle.std.proofs.Common.{ap, length, sym, subst, ◌∙◌}
 use Rattle.sync_meaning.proofs.Sets.{refill_all}
-use Rattle.party_exec.specs.Parties.{HaveFinished}
+use Rattle.party_turns.specs.Parties.{HaveFinished}
 use Rattle.dbp_top.proofs.run.run_table.Goals as goal
 
 pub table_of-requires : goal.table_of-requires

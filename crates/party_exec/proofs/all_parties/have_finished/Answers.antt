@@ -1,5 +1,5 @@
 use Rattle.std.proofs.Common.{refl}
-use Rattle.party_exec.specs.Parties.{HasFinished}
+use Rattle.party_turns.specs.Parties.{HasFinished}
 use Rattle.party_exec.proofs.EachPlace.{next_place}
 use Rattle.party_exec.proofs.all_parties.have_finished.Goals as goal
 

@@ -1,6 +1,6 @@
 use Rattle.std.proofs.Common.{ℕ, ◌<◌, get_or}
-use Rattle.party_exec.specs.Parties.{HasFinished}
-use Rattle.party_exec.specs.declared.party.Party.{Party}
+use Rattle.party_turns.specs.Parties.{HasFinished}
+use Rattle.party_turns.specs.declared.party.Party.{Party}
 use Rattle.party_exec.proofs.all_parties.have_finished.Given as goal
 
 abbrev pub invariant-loop-party : goal.invariant-loop-party

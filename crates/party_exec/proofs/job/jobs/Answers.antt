@@ -1,4 +1,5 @@
-use Rattle.party_exec.proofs.SameParties.{made_jobs_same, still_belongs}
+use Rattle.party_turns.proofs.SameParties.{still_belongs}
+use Rattle.party_exec.proofs.SameJobs.{made_jobs_same}
 use Rattle.party_exec.proofs.job.jobs.Goals as goal
 
 pub has_finished-requires : goal.has_finished-requires

@@ -1,6 +1,6 @@
-use Rattle.std.proofs.Common.{◌+◌}
+use Rattle.party_turns.proofs.SameParties.{still_belongs}
 use Rattle.party_exec.specs.Jobs.{no_job, one_job}
-use Rattle.party_exec.proofs.SameParties.{next_job_same, still_belongs}
+use Rattle.party_exec.proofs.SameJobs.{next_job_same}
 use Rattle.party_exec.proofs.job.make_jobs.Goals as goal
 
 pub loop-init : goal.loop-init

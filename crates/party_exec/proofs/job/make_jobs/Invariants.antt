@@ -1,6 +1,5 @@
-use Rattle.std.proofs.Common.{◌<◌}
+use Rattle.party_turns.specs.Parties.{Belongs}
 use Rattle.party_exec.specs.Jobs.{MakesJobs}
-use Rattle.party_exec.specs.Parties.{Belongs}
 use Rattle.party_exec.proofs.job.make_jobs.Given as goal
 
 abbrev pub invariant-loop : goal.invariant-loop

@@ -1,8 +1,9 @@
 use Rattle.std.proofs.Common.{◌+◌, inr, arith}
 use Rattle.std.proofs.lemmas.Bool.{false≢true}
+use Rattle.party_turns.proofs.SameParties.{still_belongs}
 use Rattle.party_exec.specs.Jobs.{at_first}
 use Rattle.party_exec.proofs.Jobs.{idle_most, worked_further}
-use Rattle.party_exec.proofs.SameParties.{counted_turn_same, still_belongs}
+use Rattle.party_exec.proofs.SameJobs.{counted_turn_same}
 use Rattle.party_exec.proofs.job.make_turns.Goals as goal
 
 pub loop-init : goal.loop-init

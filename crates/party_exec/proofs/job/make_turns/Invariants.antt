@@ -1,6 +1,6 @@
 use Rattle.std.proofs.Common.{◌<◌}
+use Rattle.party_turns.specs.Parties.{Belongs}
 use Rattle.party_exec.specs.Jobs.{HasWorked}
-use Rattle.party_exec.specs.Parties.{Belongs}
 use Rattle.party_exec.proofs.job.make_turns.Given as goal
 
 abbrev pub invariant-loop : goal.invariant-loop

@@ -1,8 +1,8 @@
+use Rattle.party_turns.proofs.Places.{fresh_parties}
+use Rattle.party_turns.proofs.SameParties.{all_belong, all_there_belong, places_stay, same_parties}
 use Rattle.party_exec.specs.Jobs.{no_round}
 use Rattle.party_exec.proofs.ManyRounds.{rounds_further}
-use Rattle.party_exec.proofs.Places.{fresh_parties}
 use Rattle.party_exec.proofs.Rounds.{rounds_same, rounds_size}
-use Rattle.party_exec.proofs.SameParties.{all_belong, all_there_belong, places_stay, same_parties}
 use Rattle.party_exec.proofs.thread_crew.run_rounds.Goals as goal
 
 pub loop-init : goal.loop-init

@@ -1,6 +1,6 @@
 use Rattle.std.proofs.Common.{All}
+use Rattle.party_turns.specs.Parties.{Belongs}
 use Rattle.party_exec.specs.Jobs.{HaveRounds}
-use Rattle.party_exec.specs.Parties.{Belongs}
 use Rattle.party_exec.proofs.thread_crew.run_rounds.Given as goal
 
 abbrev pub invariant-loop : goal.invariant-loop

@@ -1,8 +1,8 @@
 use Rattle.std.proofs.Common.{◌-◌, ℕ, length, ap, refl, ◌∙◌, subst}
 use Rattle.drawn_numbers.specs.Draws.{after_draws}
+use Rattle.party_turns.proofs.SameParties.{all_belong}
 use Rattle.party_exec.specs.Draws.{MakeTurnsBetween}
 use Rattle.party_exec.proofs.DrawnRounds.{between_same, drawn_round_is, round_draws}
-use Rattle.party_exec.proofs.SameParties.{all_belong}
 use Rattle.party_exec.proofs.turn_crew.drawn_round.Goals as goal
 
 pub turns_between-requires-2-clause-here : goal.turns_between-requires-2-clause-here

@@ -1,9 +1,9 @@
 use Rattle.std.proofs.Common.{ℕ, All, sym, subst, arith}
+use Rattle.party_turns.specs.Parties.{HasFinished}
+use Rattle.party_turns.proofs.Places.{fresh_parties}
+use Rattle.party_turns.proofs.SameParties.{all_belong, all_there_belong, places_stay, same_parties}
 use Rattle.party_exec.specs.Draws.{HaveDrawnRounds, no_round, one_round}
-use Rattle.party_exec.specs.Parties.{HasFinished}
 use Rattle.party_exec.proofs.DrawnRounds.{rounds_same, rounds_size}
-use Rattle.party_exec.proofs.Places.{fresh_parties}
-use Rattle.party_exec.proofs.SameParties.{all_belong, all_there_belong, places_stay, same_parties}
 use Rattle.party_exec.proofs.turn_crew.run_drawn_rounds.Goals as goal
 
 pub loop-init : goal.loop-init

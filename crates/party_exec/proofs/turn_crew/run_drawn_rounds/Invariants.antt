@@ -1,6 +1,6 @@
 use Rattle.std.proofs.Common.{All}
+use Rattle.party_turns.specs.Parties.{Belongs}
 use Rattle.party_exec.specs.Draws.{HaveDrawnRounds}
-use Rattle.party_exec.specs.Parties.{Belongs}
 use Rattle.party_exec.proofs.turn_crew.run_drawn_rounds.Given as goal
 
 abbrev pub invariant-loop : goal.invariant-loop

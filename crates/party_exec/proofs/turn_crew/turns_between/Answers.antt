@@ -1,9 +1,9 @@
 use Rattle.std.proofs.Common.{◌≡◌, ℕ, ◌+◌, ◌-◌, ◌<◌, ◌≤◌, length, get_or, set, subst, ◌∙◌, arith}
 use Rattle.std.proofs.lemmas.List.{get_or_default}
+use Rattle.party_turns.proofs.SameParties.{all_belong}
 use Rattle.party_exec.specs.Draws.{MakesDrawnTurns, turn_count}
 use Rattle.party_exec.specs.Jobs.{MakesTurns}
 use Rattle.party_exec.proofs.DrawnRounds.{between_same, one_draw, one_turned}
-use Rattle.party_exec.proofs.SameParties.{all_belong}
 use Rattle.party_exec.proofs.turn_crew.turns_between.Goals as goal
 
 pub loop-place-preserved : goal.loop-place-preserved

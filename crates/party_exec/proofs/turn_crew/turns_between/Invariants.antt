@@ -1,7 +1,7 @@
 use Rattle.std.proofs.Common.{◌≡◌, ◌-◌, All}
 use Rattle.drawn_numbers.specs.Draws.{after_draws}
+use Rattle.party_turns.specs.Parties.{Belongs}
 use Rattle.party_exec.specs.Draws.{MakeTurnsBetween}
-use Rattle.party_exec.specs.Parties.{Belongs}
 use Rattle.party_exec.proofs.turn_crew.turns_between.Given as goal
 
 abbrev pub invariant-loop-place : goal.invariant-loop-place

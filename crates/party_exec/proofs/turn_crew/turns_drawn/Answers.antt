@@ -1,5 +1,5 @@
+use Rattle.party_turns.proofs.SameParties.{still_belongs, turn_same}
 use Rattle.party_exec.specs.Jobs.{no_turn, one_turn}
-use Rattle.party_exec.proofs.SameParties.{still_belongs, turn_same}
 use Rattle.party_exec.proofs.turn_crew.turns_drawn.Goals as goal
 
 pub loop-init : goal.loop-init

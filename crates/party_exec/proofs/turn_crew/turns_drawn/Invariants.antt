@@ -1,5 +1,5 @@
+use Rattle.party_turns.specs.Parties.{Belongs}
 use Rattle.party_exec.specs.Jobs.{MakesTurns}
-use Rattle.party_exec.specs.Parties.{Belongs}
 use Rattle.party_exec.proofs.turn_crew.turns_drawn.Given as goal
 
 abbrev pub invariant-loop : goal.invariant-loop

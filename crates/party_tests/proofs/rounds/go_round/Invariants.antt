@@ -1,4 +1,4 @@
-use Rattle.party_exec.specs.Parties.{AreParties}
+use Rattle.party_turns.specs.Parties.{AreParties}
 use Rattle.party_tests.proofs.rounds.go_round.Given as goal
 
 abbrev pub invariant-loop-place : goal.invariant-loop-place

@@ -1,4 +1,4 @@
-use Rattle.party_exec.proofs.Places.{fresh_parties}
+use Rattle.party_turns.proofs.Places.{fresh_parties}
 use Rattle.party_tests.proofs.runs.table_by.Goals as goal
 
 pub table_after-requires : goal.table_after-requires

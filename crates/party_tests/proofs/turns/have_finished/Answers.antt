@@ -3,9 +3,9 @@ use Rattle.std.specs.Prelude.{slice_index_or}
 use Rattle.std.proofs.lemmas.Option.{get_or_from_slice_get}
 use borrow.Author.Count.{below_more}
 use Rattle.dbp_plan.specs.ListItems.{read_place}
-use Rattle.party_exec.specs.Parties.{HasFinished}
-use Rattle.party_exec.specs.declared.party.Party.{Party}
-use Rattle.party_exec.proofs.Places.{belongs}
+use Rattle.party_turns.specs.Parties.{HasFinished}
+use Rattle.party_turns.specs.declared.party.Party.{Party}
+use Rattle.party_turns.proofs.Places.{belongs}
 use Rattle.party_tests.proofs.turns.have_finished.Goals as goal
 
 pub has_finished-requires : goal.has_finished-requires

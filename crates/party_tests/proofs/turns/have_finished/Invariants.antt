@@ -1,7 +1,7 @@
 use Rattle.std.proofs.Common.{ℕ, ◌<◌}
 use Rattle.std.specs.Prelude.{slice_index_or}
-use Rattle.party_exec.specs.Parties.{HasFinished}
-use Rattle.party_exec.specs.declared.party.Party.{Party}
+use Rattle.party_turns.specs.Parties.{HasFinished}
+use Rattle.party_turns.specs.declared.party.Party.{Party}
 use Rattle.party_tests.proofs.turns.have_finished.Given as goal
 
 abbrev pub invariant-loop-party : goal.invariant-loop-party

@@ -1,8 +1,8 @@
 use Rattle.std.proofs.Common.{get_or, subst}
 use Rattle.std.proofs.lemmas.Option.{slice_get-get_or}
 use Rattle.dbp_plan.specs.ListItems.{read_place}
-use Rattle.party_exec.specs.Parties.{Belongs}
-use Rattle.party_exec.proofs.Places.{belongs, still_parties}
+use Rattle.party_turns.specs.Parties.{Belongs}
+use Rattle.party_turns.proofs.Places.{belongs, still_parties}
 use Rattle.party_tests.proofs.turns.turn_of.Goals as goal
 
 pub turn-requires : goal.turn-requires

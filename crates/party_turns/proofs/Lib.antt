@@ -1,0 +1,11 @@
+pub mod Stays
+pub mod Written
+pub mod Works
+pub mod Seats
+pub mod Fresh
+pub mod Places
+pub mod Finished
+pub mod Turned
+pub mod Releasers
+pub mod Shutting
+pub mod SameParties
