@@ -94,8 +94,3 @@ module _ (a : Recorder) (i : ℕ) (next_ : slice_get (wiring_in a).releases (sta
 
         pub aim_keeps : ((j : ℕ) → j ≢ i → task_entry (state_in b) j ≡ task_entry (state_in a) j) → (j : ℕ) → j ≢ i → task_entry (state_in c) j ≡ task_entry (state_in a) j
         aim_keeps before j other = ap (λ (s : State). task_entry s j) step.state ∙ aim_others (plan_in b) (wiring_in b) (state_in b) i slot j other ∙ before j other
-
--- the times that the code looks at
-pub times_are : (a : Recorder) (i : ℕ) (w : Wiring) (t : TaskWiring) (items : List ℕ) → i < length (plan_in a).diagram.tasks → w ≡ wiring_in a → t ≡ wired_task w i → items ≡ t.times → items ≡ times_of (plan_in a).batches i
-times_are a i w t items named same there list =
-    list ∙ ap (λ (x : TaskWiring). x.times) there ∙ ap (λ (x : Wiring). (wired_task x i).times) same ∙ ((own_in a).whole.each_task i (wired_there a i named)).times
