@@ -89,7 +89,7 @@ module _ (a : Recorder) (number : ℕ) (there : number < length (plan_in a).batc
     next_unaimed none =
         ap (λ (p : Plan). time_of p.batches (get_or (tasks_of a number) n 0) 1) adds.steps.plan
         ∙ first_here (plan_in a).batches number (get_or (tasks_of a number) n 0) there (names_task (batch_at (plan_in a) number) n below)
-          (sym aimed_before ∙ ap (λ (e : TaskEntry). e.aimed) (sym own_entry) ∙ none)
+        (sym aimed_before ∙ ap (λ (e : TaskEntry). e.aimed) (sym own_entry) ∙ none)
 
     module _ (c : Recorder) (one : AddsRelease b c (aim_events (plan_in b) (time_at a number) (get_or (tasks_of a number) n 0)) ((state_in b).releaser.place + 1)) where
       pub aimed_more : HasAimed a number c (n + 1)

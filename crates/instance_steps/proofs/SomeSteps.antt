@@ -1,5 +1,5 @@
 -- There is a recorder before the first step, and one after each step that is allowed.
-use Rattle.std.proofs.Common.{◌≡◌, ◌≢◌, ℕ, suc, zero, ◌+◌, ◌*◌, ◌%◌, ◌^◌, ◌<◌, ◌≤◌, Bool, true, false, List, [], ◌∷◌, ◌++◌, length, map, Option, Some, None, Ok, refl, sym, ap, ◌∙◌, subst, arith, inl, inr, w32}
+use Rattle.std.proofs.Common.{◌≡◌, ℕ, suc, zero, ◌+◌, ◌<◌, ◌≤◌, List, [], ◌∷◌, ◌++◌, map, None, Ok, refl, ◌∙◌, subst, arith}
 use Rattle.std.specs.Option.{option_map}
 use Rattle.std.proofs.Math.Logic.{∥∥₁_elim}
 use denote.RawPtr.{null_ptr}
@@ -10,7 +10,6 @@ use Rattle.dbp_rules.specs.Listing.{without_releases}
 use Rattle.dbp_rules.specs.Rules.{IsStep, hears, next}
 use Rattle.dbp_rules.specs.Start.{start_of}
 use Rattle.dbp_rules.specs.Wired.{wiring_of}
-use Rattle.dbp_rules.specs.declared.state.State.{State}
 use Rattle.dbp_rules.specs.declared.step.Count.{Count}
 use Rattle.dbp_rules.specs.declared.step.Step.{Step}
 use Rattle.dbp_rules.proofs.SoundKept.{asked_sound}

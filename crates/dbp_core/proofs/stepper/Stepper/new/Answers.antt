@@ -46,4 +46,3 @@ invariant_of-result-clause-sound c =
     let wired = wiring_is c.args.plan.value _ c.args.count c.in_ok-wiring.wiring c.deref.ensures c.in_ok-wiring.ensures in
     let state = state_is c.args.plan.value _ c.args.count c.in_ok-wiring.wiring c.in_ok-state.state c.deref-2.ensures wired c.in_ok-state.ensures in
     rw (state, wired) (∣ first_sound c.args.plan.value c.args.count ∣₁)
-
