@@ -27,8 +27,8 @@ use Rattle.dbp_rules.specs.Wired.{wiring_of}
 use Rattle.dbp_rules.specs.declared.state.State.{State}
 use Rattle.dbp_rules.specs.declared.step.Count.{Count}
 use Rattle.dbp_rules.specs.declared.wiring.Wiring.{Wiring}
-use Rattle.dbp_core.specs.Cores.{plan_in, state_in}
-use Rattle.dbp_core.specs.declared.machine.Core.{Core}
+use Rattle.dbp_core.specs.Steppers.{plan_in, state_in}
+use Rattle.dbp_core.specs.declared.stepper.Stepper.{Stepper}
 use Rattle.instance_steps.specs.Releases.{HasReleased}
 use Rattle.instance_steps.specs.TaskPieces.{HasRowsToRead}
 use Rattle.rank_order.specs.Instances.{Instance, IsInstance, release_of}
@@ -78,7 +78,7 @@ claim_number p count rows s b k sound released below some =
     seen_is zero none = absurd (omega (arith, none))
     seen_is (suc n) some = refl
 
-pub claimed_is : (p : Plan) (core : Core) (b k : ℕ) → plan_in core ≡ p → HasReleased p (state_in core) b → k < length p.diagram.links
+pub claimed_is : (p : Plan) (core : Stepper) (b k : ℕ) → plan_in core ≡ p → HasReleased p (state_in core) b → k < length p.diagram.links
     → 0 < release_count p.batches b (link_at p.diagram.links k).reader
     → (link_entry (state_in core) k).number ≡ read_number p (last_of p b (link_at p.diagram.links k).reader) (link_at p.diagram.links k).writer - (link_at p.diagram.links k).delay
 claimed_is p core b k plan released below some = ∥∥₁_elim core.sound (hlevel props) (λ sound.
@@ -92,14 +92,14 @@ abbrev pub HasComeTo : Plan → ℕ → ℕ → List ℕ → List (List ℕ) →
 HasComeTo p b now rest ends = IsSimulatedTo p (λ j. (declared_task p j).cpu) (services p) b (λ c. now) rest ends
 
 -- the core has come to the same; no further batch is due at this time
-pub record Together (p : Plan) (core : Core) (b now : ℕ) (rest : List ℕ) (ends : List (List ℕ)) : Type 0 where
+pub record Together (p : Plan) (core : Stepper) (b now : ℕ) (rest : List ℕ) (ends : List (List ℕ)) : Type 0 where
   pub plan : plan_in core ≡ p
   pub released : HasReleased p (state_in core) b
   pub at : HasComeTo p b now rest ends
   pub until : NoBatchBefore p b (now + 1)
 
 -- a core and a run that stand together
-pub together : (p : Plan) (core : Core) (run : Run) → StandTogether p core run → Together p core run.released run.time run.rest.items run.ends
+pub together : (p : Plan) (core : Stepper) (run : Run) → StandTogether p core run → Together p core run.released run.time run.rest.items run.ends
 together p core run t = record { plan = t.plan; released = t.released; at = t.at.at; until = t.until }
 
 -- ---- the writer's instance has something left exactly if it hasn't ended
@@ -162,7 +162,7 @@ module _ (p : Plan) (b now : ℕ) (rest : List ℕ) (ends : List (List ℕ)) (h 
 
 -- ---- so a link blocks exactly if its claim's number is above the ended ones
 
-module _ (p : Plan) (core : Core) (b now : ℕ) (rest : List ℕ) (ends : List (List ℕ)) (t : Together p core b now rest ends) (k : ℕ) (below : k < length p.diagram.links) (some : 0 < get_or rest (link_at p.diagram.links k).reader 0) where
+module _ (p : Plan) (core : Stepper) (b now : ℕ) (rest : List ℕ) (ends : List (List ℕ)) (t : Together p core b now rest ends) (k : ℕ) (below : k < length p.diagram.links) (some : 0 < get_or rest (link_at p.diagram.links k).reader 0) where
   abbrev l : Link
   l = link_at p.diagram.links k
 
@@ -243,7 +243,7 @@ module _ (p : Plan) (b now : ℕ) (rest : List ℕ) (ends : List (List ℕ)) (h 
 -- ---- so one that isn't blocked has its rows
 
 -- the rows that the task's instance reads now are filled, if it isn't blocked
-pub rows_there : (p : Plan) (core : Core) (b now : ℕ) (rest : List ℕ) (ends : List (List ℕ)) → Together p core b now rest ends → (count : Count) (i : ℕ) → i < length p.diagram.tasks → 0 < get_or rest i 0
+pub rows_there : (p : Plan) (core : Stepper) (b now : ℕ) (rest : List ℕ) (ends : List (List ℕ)) → Together p core b now rest ends → (count : Count) (i : ℕ) → i < length p.diagram.tasks → 0 < get_or rest i 0
     → ((j : ℕ) → j < length p.diagram.tasks → (task (state_in core) j).part.ended ≡ length (get_or ends j [])) → is_blocked p (served_on p (services p) now) (last_of p b i) ≡ false
     → HasRowsToRead p (wiring_of p count) (state_in core) i ((declared_task p i).cost - get_or rest i 0)
 rows_there p core b now rest ends t count i small some ended free all r less due =

@@ -4,8 +4,8 @@ use Rattle.std.specs.Option.{option_map}
 use Rattle.dbp_plan.specs.declared.diagram.Link.{Link}
 use Rattle.dbp_plan.specs.declared.plan.Plan.{Plan}
 use Rattle.dbp_plan.specs.Lookups.{declared_task}
-use Rattle.dbp_core.specs.Cores.{plan_in, state_in}
-use Rattle.dbp_core.specs.declared.machine.Core.{Core}
+use Rattle.dbp_core.specs.Steppers.{plan_in, state_in}
+use Rattle.dbp_core.specs.declared.stepper.Stepper.{Stepper}
 use Rattle.instance_steps.specs.Releases.{HasReleased}
 use Rattle.rank_order.specs.Instances.{Instance}
 use Rattle.rank_order.specs.Queue.{IsAt}
@@ -28,7 +28,7 @@ last_of p b i = instance i (release_count p.batches b i)
 
 -- A run and a core of the plan have come to the same point: all processors to the time of the run, the core to the batches
 -- that the run has released. No further batch is due at this time.
-pub record StandTogether (p : Plan) (core : Core) (run : Run) : Type 0 where
+pub record StandTogether (p : Plan) (core : Stepper) (run : Run) : Type 0 where
   pub plan : plan_in core ≡ p
   pub released : HasReleased p (state_in core) run.released
   pub at : IsRun p (all_cpus_at p run.time) run

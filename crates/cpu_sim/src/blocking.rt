@@ -7,12 +7,12 @@ ghost use Rattle.cpu_sim.specs.Choices.{StandTogether, is_blocked_in, last_of, l
 ghost use Rattle.cpu_sim.specs.Processors.{served_on};
 ghost use Rattle.cpu_sim.specs.Services.{services};
 
-use dbp_core::Core;
+use dbp_core::Stepper;
 use dbp_plan::Plan;
 use virtual_time::Run;
 
 // Whether a read over the link that is due now waits for its writer.
-fn waits_for_writer(plan: &Plan, core: &Core, run: &Run, link: u32) -> bool
+fn waits_for_writer(plan: &Plan, core: &Stepper, run: &Run, link: u32) -> bool
     requires together { StandTogether plan.now core.now run.now }
     requires link { link < length plan.now.diagram.links }
     requires some { 0 < slice_index run.now.rest.items (link_at plan.now.diagram.links link).reader }
@@ -26,7 +26,7 @@ fn waits_for_writer(plan: &Plan, core: &Core, run: &Run, link: u32) -> bool
 }
 
 // Whether the task's last released instance, which hasn't ended, is blocked.
-pub(crate) fn is_blocked(plan: &Plan, core: &Core, run: &Run, task: u32) -> bool
+pub(crate) fn is_blocked(plan: &Plan, core: &Stepper, run: &Run, task: u32) -> bool
     requires together { StandTogether plan.now core.now run.now }
     requires task { task < length plan.now.diagram.tasks }
     requires some { 0 < slice_index run.now.rest.items task }

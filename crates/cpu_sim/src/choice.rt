@@ -3,7 +3,7 @@
 ghost use Rattle.cpu_sim.specs.Choices.{AreChoices, StandTogether};
 
 use crate::blocking::is_blocked;
-use dbp_core::Core;
+use dbp_core::Stepper;
 use dbp_plan::{MAX_CPU, Plan};
 use virtual_time::Run;
 
@@ -13,7 +13,7 @@ pub(crate) const CPUS: usize = 8;
 const _: () = prove!(MAX_CPU == 7);
 
 // For each processor the task whose instance it serves: the first one of its own in the queue that isn't blocked.
-pub(crate) fn choose(plan: &Plan, core: &Core, run: &Run) -> [Option<u32>; 8]
+pub(crate) fn choose(plan: &Plan, core: &Stepper, run: &Run) -> [Option<u32>; 8]
     requires together { StandTogether plan.now core.now run.now }
     ensures { AreChoices plan.now run.now result }
 {

@@ -2,6 +2,7 @@
 
 ghost use Rattle.std.specs.Prelude.{◌≡◌, ◌+◌, ◌<◌, ◌^◌, length};
 ghost use Rattle.dbp_rules.specs.PartyRules.{task_refusal};
+ghost use Rattle.dbp_rules.specs.Listing.{with_releases};
 ghost use Rattle.dbp_rules.specs.Lookups.{task, wired_task};
 ghost use Rattle.dbp_rules.specs.Rules as rule;
 ghost use Rattle.dbp_rules.specs.Rules.{IsNamed, IsStep};
@@ -111,6 +112,7 @@ pub(crate) fn advance(
     step: Step,
 ) -> Result<Heard, Illegal>
     requires named { IsNamed plan.now.diagram step }
+    requires listed { with_releases plan.now wiring.now ≡ wiring.now }
     requires shape { IsShape plan.now wiring.now state.old }
     requires ranks { HasUnfinished wiring.now state.old unfinished }
     ensures { IsStep plan.now wiring.now state.old step result state.new }

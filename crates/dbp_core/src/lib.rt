@@ -5,8 +5,9 @@
 //! and that numbers fit (`IsShape`), so no step tests for it. `conditions` tries the tasks that are ranked above,
 //! `releaser` and `steps` load, move the part and store, and `dispatch` joins both, step by step. The ranks that have an
 //! unfinished instance are bits of one number (`HasUnfinished`), so a step under `Ranked` looks over the tasks only if
-//! a higher rank is among them. Scripts and simulations use a core; a run has no whole state (`word_rule`). The crate
-//! hands on the types and laws of `dbp_rules`.
+//! a higher rank is among them. Scripts use a core, which tries each step; simulations use a `Stepper`, which makes
+//! steps that are known to be allowed. A run has no whole state (`word_rule`). The crate hands on the types and laws of
+//! `dbp_rules`.
 #![tactic(auto)]
 
 mod conditions;
@@ -16,6 +17,7 @@ mod machine;
 mod making;
 mod rank_mask;
 mod releaser;
+mod stepper;
 mod steps;
 
 pub use dbp_rules::{
@@ -29,3 +31,4 @@ pub use dbp_rules::{
     an_aim_spares_claimed_slots, soundness_has_ten_parts, the_start_is_sound,
 };
 pub use machine::Core;
+pub use stepper::Stepper;

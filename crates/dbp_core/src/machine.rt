@@ -9,7 +9,6 @@ ghost use Rattle.dbp_rules.specs.Wired.{wiring_of};
 ghost use Rattle.dbp_core.specs.Unfinished.{HasUnfinished};
 
 use crate::dispatch::advance;
-use crate::making::make;
 use crate::rank_mask::RankMask;
 use dbp_plan::{NoMemory, Plan, Row};
 use dbp_rules::{Count, Heard, Illegal, State, Step, Wiring, start_state, wire_plan};
@@ -32,7 +31,7 @@ pub struct Core {
 }
 
 impl Core {
-    ghost use Rattle.std.specs.Prelude.{◌≡◌, ◌<◌, length, slice_get, Some, None, Ok, IfOk};
+    ghost use Rattle.std.specs.Prelude.{◌≡◌, ◌<◌, length, slice_get, Some, IfOk};
     ghost use Rattle.dbp_plan.specs.declared.table.Table.{Table};
     ghost use Rattle.dbp_plan.specs.Table.{IsRow};
     ghost use Rattle.sync_meaning.specs.Meaning.{IsMeaning};
@@ -40,7 +39,7 @@ impl Core {
     ghost use Rattle.dbp_core.specs.Cores.{count_in, plan_in, state_in, wiring_in};
     ghost use Rattle.dbp_rules.specs.Lookups.{link_entry, task as state_of, task_entry};
     ghost use Rattle.dbp_rules.specs.Promises.{IsLeastAim};
-    ghost use Rattle.dbp_rules.specs.Rules.{IsNamed, IsStep, refusal};
+    ghost use Rattle.dbp_rules.specs.Rules.{IsNamed, IsStep};
     ghost use Rattle.dbp_rules.specs.SoundParts.{last_shut};
     ghost use Rattle.dbp_rules.specs.Start.{start_of};
 
@@ -91,21 +90,6 @@ impl Core {
         answer
     }
 
-    /// A step that is known to be allowed, which isn't tried again; otherwise as `step`. Returns what is heard.
-    #[inline(always)]
-    pub fn make(&mut self, step: Step) -> Heard
-        requires named { IsNamed (plan_in self.old).diagram step }
-        requires allowed { refusal (wiring_in self.old) (state_in self.old) step ≡ None }
-        ensures plan { plan_in self.new ≡ plan_in self.old }
-        ensures count { count_in self.new ≡ count_in self.old }
-        ensures step { IsStep (plan_in self.old) (wiring_of (plan_in self.old) (count_in self.old))
-            (state_in self.old) step (Ok result) (state_in self.new) }
-    {
-        let heard = make(&self.plan, &self.wiring, &mut self.state, step);
-        self.unfinished.recount(&self.wiring, &self.state, step);
-        heard
-    }
-
     /// The least slot that the task may be aimed at: the least that no counted claim needs and that doesn't stay kept.
     /// The task's aim is the releaser's next action, and its last instance is known to have ended. It takes no memory.
     pub fn least_aim(&self, task: u32) -> u32
@@ -129,13 +113,6 @@ impl Core {
     /// The plan.
     pub fn plan(&self) -> &Plan
         ensures { result.now ≡ plan_in self.now }
-    {
-        &self.plan
-    }
-
-    /// The plan, as others have it too. A copy of this pointer lets a caller look at the plan while steps are made.
-    pub fn shared_plan(&self) -> &Rc<Plan>
-        ensures { result.now.value ≡ plan_in self.now }
     {
         &self.plan
     }

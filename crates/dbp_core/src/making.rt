@@ -1,6 +1,8 @@
-// A step that is known to be allowed: what it makes of the state, and what is heard.
+// A step that is known to be allowed: what it makes of the state, and what is heard. It is allowed by the releaser's actions
+// of the plan, which aren't looked up: the wiring may have any list in their place.
 
 ghost use Rattle.std.specs.Prelude.{◌≡◌, ◌<◌, None, Ok, length};
+ghost use Rattle.dbp_rules.specs.Listing.{with_releases};
 ghost use Rattle.dbp_rules.specs.Rules as rule;
 ghost use Rattle.dbp_rules.specs.Rules.{IsNamed, IsStep};
 ghost use Rattle.dbp_rules.specs.Shapes.{IsShape};
@@ -13,9 +15,9 @@ use dbp_rules::{Heard, Place, State, Step, Wiring};
 
 fn make_open(plan: &Plan, wiring: &Wiring, state: &mut State, number: u32) -> Heard
     requires task { number < length wiring.now.tasks }
-    requires shape { IsShape plan.now wiring.now state.old }
-    requires allowed { rule.refusal wiring.now state.old (Step.OpenGate number) ≡ None }
-    ensures { IsStep plan.now wiring.now state.old (Step.OpenGate number) (Ok result) state.new }
+    requires shape { IsShape plan.now (with_releases plan.now wiring.now) state.old }
+    requires allowed { rule.refusal (with_releases plan.now wiring.now) state.old (Step.OpenGate number) ≡ None }
+    ensures { IsStep plan.now (with_releases plan.now wiring.now) state.old (Step.OpenGate number) (Ok result) state.new }
 {
     open(state, number);
     Heard::Stored
@@ -23,9 +25,9 @@ fn make_open(plan: &Plan, wiring: &Wiring, state: &mut State, number: u32) -> He
 
 fn make_aim(plan: &Plan, wiring: &Wiring, state: &mut State, number: u32, slot: u32) -> Heard
     requires task { number < length wiring.now.tasks }
-    requires shape { IsShape plan.now wiring.now state.old }
-    requires allowed { rule.refusal wiring.now state.old (Step.Aim number slot) ≡ None }
-    ensures { IsStep plan.now wiring.now state.old (Step.Aim number slot) (Ok result) state.new }
+    requires shape { IsShape plan.now (with_releases plan.now wiring.now) state.old }
+    requires allowed { rule.refusal (with_releases plan.now wiring.now) state.old (Step.Aim number slot) ≡ None }
+    ensures { IsStep plan.now (with_releases plan.now wiring.now) state.old (Step.Aim number slot) (Ok result) state.new }
 {
     aim(state, number, slot);
     Heard::Stored
@@ -33,9 +35,9 @@ fn make_aim(plan: &Plan, wiring: &Wiring, state: &mut State, number: u32, slot: 
 
 fn make_claim(plan: &Plan, wiring: &Wiring, state: &mut State, link_number: u32) -> Heard
     requires link { link_number < length wiring.now.links }
-    requires shape { IsShape plan.now wiring.now state.old }
-    requires allowed { rule.refusal wiring.now state.old (Step.Claim link_number) ≡ None }
-    ensures { IsStep plan.now wiring.now state.old (Step.Claim link_number) (Ok result) state.new }
+    requires shape { IsShape plan.now (with_releases plan.now wiring.now) state.old }
+    requires allowed { rule.refusal (with_releases plan.now wiring.now) state.old (Step.Claim link_number) ≡ None }
+    ensures { IsStep plan.now (with_releases plan.now wiring.now) state.old (Step.Claim link_number) (Ok result) state.new }
 {
     claim(wiring, state, link_number);
     Heard::Stored
@@ -43,9 +45,9 @@ fn make_claim(plan: &Plan, wiring: &Wiring, state: &mut State, link_number: u32)
 
 fn make_start(plan: &Plan, wiring: &Wiring, state: &mut State, number: u32) -> Heard
     requires task { number < length wiring.now.tasks }
-    requires shape { IsShape plan.now wiring.now state.old }
-    requires allowed { rule.refusal wiring.now state.old (Step.Start number) ≡ None }
-    ensures { IsStep plan.now wiring.now state.old (Step.Start number) (Ok result) state.new }
+    requires shape { IsShape plan.now (with_releases plan.now wiring.now) state.old }
+    requires allowed { rule.refusal (with_releases plan.now wiring.now) state.old (Step.Start number) ≡ None }
+    ensures { IsStep plan.now (with_releases plan.now wiring.now) state.old (Step.Start number) (Ok result) state.new }
 {
     if is_open(state, number) {
         start(state, number);
@@ -57,9 +59,9 @@ fn make_start(plan: &Plan, wiring: &Wiring, state: &mut State, number: u32) -> H
 
 fn make_hear(plan: &Plan, wiring: &Wiring, state: &mut State, number: u32) -> Heard
     requires task { number < length wiring.now.tasks }
-    requires shape { IsShape plan.now wiring.now state.old }
-    requires allowed { rule.refusal wiring.now state.old (Step.Hear number) ≡ None }
-    ensures { IsStep plan.now wiring.now state.old (Step.Hear number) (Ok result) state.new }
+    requires shape { IsShape plan.now (with_releases plan.now wiring.now) state.old }
+    requires allowed { rule.refusal (with_releases plan.now wiring.now) state.old (Step.Hear number) ≡ None }
+    ensures { IsStep plan.now (with_releases plan.now wiring.now) state.old (Step.Hear number) (Ok result) state.new }
 {
     let Place::Hear(turn) = task_at(state, number).part.place else {
         unreachable!()
@@ -73,9 +75,9 @@ fn make_hear(plan: &Plan, wiring: &Wiring, state: &mut State, number: u32) -> He
 
 fn make_look(plan: &Plan, wiring: &Wiring, state: &mut State, number: u32, read: u32) -> Heard
     requires task { number < length wiring.now.tasks }
-    requires shape { IsShape plan.now wiring.now state.old }
-    requires allowed { rule.refusal wiring.now state.old (Step.Look number read) ≡ None }
-    ensures { IsStep plan.now wiring.now state.old (Step.Look number read) (Ok result) state.new }
+    requires shape { IsShape plan.now (with_releases plan.now wiring.now) state.old }
+    requires allowed { rule.refusal (with_releases plan.now wiring.now) state.old (Step.Look number read) ≡ None }
+    ensures { IsStep plan.now (with_releases plan.now wiring.now) state.old (Step.Look number read) (Ok result) state.new }
 {
     let Place::Look(turn) = task_at(state, number).part.place else {
         unreachable!()
@@ -89,9 +91,9 @@ fn make_look(plan: &Plan, wiring: &Wiring, state: &mut State, number: u32, read:
 
 fn make_take(plan: &Plan, wiring: &Wiring, state: &mut State, number: u32, read: u32) -> Heard
     requires task { number < length wiring.now.tasks }
-    requires shape { IsShape plan.now wiring.now state.old }
-    requires allowed { rule.refusal wiring.now state.old (Step.Take number read) ≡ None }
-    ensures { IsStep plan.now wiring.now state.old (Step.Take number read) (Ok result) state.new }
+    requires shape { IsShape plan.now (with_releases plan.now wiring.now) state.old }
+    requires allowed { rule.refusal (with_releases plan.now wiring.now) state.old (Step.Take number read) ≡ None }
+    ensures { IsStep plan.now (with_releases plan.now wiring.now) state.old (Step.Take number read) (Ok result) state.new }
 {
     let Place::Take(turn) = task_at(state, number).part.place else {
         unreachable!()
@@ -105,9 +107,9 @@ fn make_take(plan: &Plan, wiring: &Wiring, state: &mut State, number: u32, read:
 
 fn make_shut(plan: &Plan, wiring: &Wiring, state: &mut State, number: u32) -> Heard
     requires task { number < length wiring.now.tasks }
-    requires shape { IsShape plan.now wiring.now state.old }
-    requires allowed { rule.refusal wiring.now state.old (Step.Shut number) ≡ None }
-    ensures { IsStep plan.now wiring.now state.old (Step.Shut number) (Ok result) state.new }
+    requires shape { IsShape plan.now (with_releases plan.now wiring.now) state.old }
+    requires allowed { rule.refusal (with_releases plan.now wiring.now) state.old (Step.Shut number) ≡ None }
+    ensures { IsStep plan.now (with_releases plan.now wiring.now) state.old (Step.Shut number) (Ok result) state.new }
 {
     shut(plan, wiring, state, number);
     Heard::Stored
@@ -115,9 +117,9 @@ fn make_shut(plan: &Plan, wiring: &Wiring, state: &mut State, number: u32) -> He
 
 fn make_put(plan: &Plan, wiring: &Wiring, state: &mut State, number: u32, port: u32) -> Heard
     requires task { number < length wiring.now.tasks }
-    requires shape { IsShape plan.now wiring.now state.old }
-    requires allowed { rule.refusal wiring.now state.old (Step.Put number port) ≡ None }
-    ensures { IsStep plan.now wiring.now state.old (Step.Put number port) (Ok result) state.new }
+    requires shape { IsShape plan.now (with_releases plan.now wiring.now) state.old }
+    requires allowed { rule.refusal (with_releases plan.now wiring.now) state.old (Step.Put number port) ≡ None }
+    ensures { IsStep plan.now (with_releases plan.now wiring.now) state.old (Step.Put number port) (Ok result) state.new }
 {
     put(wiring, state, number, port);
     Heard::Stored
@@ -125,9 +127,9 @@ fn make_put(plan: &Plan, wiring: &Wiring, state: &mut State, number: u32, port: 
 
 fn make_done(plan: &Plan, wiring: &Wiring, state: &mut State, number: u32) -> Heard
     requires task { number < length wiring.now.tasks }
-    requires shape { IsShape plan.now wiring.now state.old }
-    requires allowed { rule.refusal wiring.now state.old (Step.Done number) ≡ None }
-    ensures { IsStep plan.now wiring.now state.old (Step.Done number) (Ok result) state.new }
+    requires shape { IsShape plan.now (with_releases plan.now wiring.now) state.old }
+    requires allowed { rule.refusal (with_releases plan.now wiring.now) state.old (Step.Done number) ≡ None }
+    ensures { IsStep plan.now (with_releases plan.now wiring.now) state.old (Step.Done number) (Ok result) state.new }
 {
     finish(state, number);
     Heard::Stored
@@ -135,9 +137,9 @@ fn make_done(plan: &Plan, wiring: &Wiring, state: &mut State, number: u32) -> He
 
 fn make_end(plan: &Plan, wiring: &Wiring, state: &mut State, number: u32) -> Heard
     requires task { number < length wiring.now.tasks }
-    requires shape { IsShape plan.now wiring.now state.old }
-    requires allowed { rule.refusal wiring.now state.old (Step.End number) ≡ None }
-    ensures { IsStep plan.now wiring.now state.old (Step.End number) (Ok result) state.new }
+    requires shape { IsShape plan.now (with_releases plan.now wiring.now) state.old }
+    requires allowed { rule.refusal (with_releases plan.now wiring.now) state.old (Step.End number) ≡ None }
+    ensures { IsStep plan.now (with_releases plan.now wiring.now) state.old (Step.End number) (Ok result) state.new }
 {
     end(state, number);
     Heard::Stored
@@ -147,9 +149,9 @@ fn make_end(plan: &Plan, wiring: &Wiring, state: &mut State, number: u32) -> Hea
 #[inline(always)]
 pub(crate) fn make(plan: &Plan, wiring: &Wiring, state: &mut State, step: Step) -> Heard
     requires named { IsNamed plan.now.diagram step }
-    requires shape { IsShape plan.now wiring.now state.old }
-    requires allowed { rule.refusal wiring.now state.old step ≡ None }
-    ensures { IsStep plan.now wiring.now state.old step (Ok result) state.new }
+    requires shape { IsShape plan.now (with_releases plan.now wiring.now) state.old }
+    requires allowed { rule.refusal (with_releases plan.now wiring.now) state.old step ≡ None }
+    ensures { IsStep plan.now (with_releases plan.now wiring.now) state.old step (Ok result) state.new }
 {
     match step {
         Step::Seen { task } => Heard::Ended(see(state, task)),

@@ -10,7 +10,6 @@ use Rattle.dbp_plan.specs.declared.diagram.Link.{Link}
 use Rattle.dbp_plan.specs.declared.plan.Plan.{Plan}
 use Rattle.dbp_plan.specs.declared.schedule.Sample.{Sample}
 use Rattle.dbp_plan.specs.Occurrences.{occurrence_count}
-use Rattle.dbp_plan.specs.ListItems.{at_place}
 use Rattle.dbp_plan.specs.Lookups.{link_at, no_link, declared_task, no_declared_task}
 use Rattle.dbp_plan.specs.Samples.{own_samples}
 use Rattle.dbp_plan.proofs.OwnSamples.{range-place}
@@ -21,7 +20,7 @@ use Rattle.dbp_rules.specs.declared.step.Count.{Count}
 use Rattle.dbp_rules.specs.Lookups.{no_task_wiring, wired_task}
 use Rattle.dbp_rules.specs.Shapes.{HasSamples}
 use Rattle.dbp_rules.specs.Wired.{task_wiring, wiring_of}
-use Rattle.dbp_rules.proofs.Numbered.{length-made, made_or, made_place}
+use Rattle.dbp_rules.proofs.Numbered.{length-made, made_or}
 
 pub wired_tasks : (p : Plan) (count : Count) → length (wiring_of p count).tasks ≡ length p.diagram.tasks
 wired_tasks p count = length-made (task_wiring p count) p.diagram.tasks

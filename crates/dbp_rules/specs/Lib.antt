@@ -17,3 +17,4 @@ pub mod TenParts
 pub mod Wired
 pub mod WordRanges
 pub mod Work
+pub mod Listing

@@ -140,6 +140,20 @@ impl ReleaserPart {
         requires ended { (entry_in self.now task).aimed ≡ (entry_in self.now task).known }
         ensures { IsLeastAimIn wiring.now self.now task result }
     {
+        self.least_free(wiring, task)
+    }
+
+    /// The least slot of the task that no counted claim needs and that doesn't stay kept after an aim, whatever the next
+    /// action is. It takes no memory; its time grows with the number of the task's links and slots.
+    pub fn least_free(&self, wiring: &Wiring, task: u32) -> u32
+        requires task { task < length wiring.now.tasks }
+        requires links { LinksFit wiring.now }
+        requires few { length wiring.now.links ≤ MAX_READ_LINES }
+        requires claims { length self.now.links ≡ length wiring.now.links }
+        requires entries { length self.now.tasks ≡ length wiring.now.tasks }
+        requires room { HasFreeSlotIn wiring.now self.now task }
+        ensures { IsLeastFree (claimed_in wiring.now self.now task) (kept_after_aim (entry_in self.now task)) (wired_task wiring.now task).slots result }
+    {
         least_free(wiring, self, task)
     }
 }

@@ -36,7 +36,7 @@ pub use laws::{
     a_delayed_look_is_ready, a_ranked_look_is_ready, a_step_changes_no_claimed_row,
     a_take_hears_the_meaning, allowed_steps_lead_to_sound_states, an_aim_names_no_claimed_slot,
 };
-pub use make_wiring::wire_plan;
+pub use make_wiring::{wire_plan, wire_steps};
 pub use parts::{LinkEntry, MAX_ORDERS, Order, Place, ReleaserPart, TaskEntry, TaskPart};
 pub use party_laws::{
     a_party_keeps_its_part, a_releaser_has_a_free_slot, a_step_is_refused_by_its_party,

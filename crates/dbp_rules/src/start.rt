@@ -6,6 +6,7 @@ ghost use Rattle.dbp_plan.specs.Closed.{place_count};
 ghost use Rattle.dbp_plan.specs.declared.limits.TheConstants.{MAX_BODY, MAX_OUTS};
 ghost use Rattle.dbp_plan.specs.Lookups.{declared_task};
 ghost use Rattle.dbp_rules.specs.Lookups.{no_link_entry, no_order, wired_task};
+ghost use Rattle.dbp_rules.specs.Listing.{with_releases};
 ghost use Rattle.dbp_rules.specs.Shapes.{IsWired};
 ghost use Rattle.dbp_rules.specs.Start as start;
 
@@ -90,7 +91,7 @@ fn start_task(alloc: Global, wired: &TaskWiring, task: &Task) -> Result<TaskStat
 }
 
 fn start_tasks(alloc: Global, plan: &Plan, wiring: &Wiring) -> Result<List<TaskState>, NoMemory>
-    requires { IsWired plan.now wiring.now }
+    requires { IsWired plan.now (with_releases plan.now wiring.now) }
     ensures { IfOk result (λ tasks. tasks ≡ map (λ i. start.start_task (wired_task wiring.now i) (declared_task plan.now i)) (range_with_len 0 (length wiring.now.tasks))) }
 {
     let mut tasks = List::new(alloc);
@@ -121,9 +122,10 @@ impl ReleaserPart {
     }
 }
 
-/// The state before the first step: nothing is aimed, and slot 0 of each task holds its first values.
+/// The state before the first step: nothing is aimed, and slot 0 of each task holds its first values. The wiring may have
+/// any list in place of the releaser's actions.
 pub fn start_state(alloc: Global, plan: &Plan, wiring: &Wiring) -> Result<State, NoMemory>
-    requires { IsWired plan.now wiring.now }
+    requires { IsWired plan.now (with_releases plan.now wiring.now) }
     ensures { IfOk result (λ state. state ≡ start.start_of plan.now wiring.now) }
 {
     Ok(State {

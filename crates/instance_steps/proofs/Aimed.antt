@@ -1,5 +1,5 @@
 -- The aim of a task, step by step.
-use Rattle.std.proofs.Common.{◌≡◌, ◌≢◌, ℕ, ◌+◌, ◌<◌, ◌≤◌, List, [], ◌∷◌, length, slice_get, Some, refl, sym, ap, ◌∙◌, subst, arith, inl, inr}
+use Rattle.std.proofs.Common.{◌≡◌, ◌≢◌, ℕ, ◌+◌, ◌<◌, ◌≤◌, [], ◌∷◌, length, slice_get, Some, refl, sym, ap, ◌∙◌, subst, arith, inl, inr}
 use Rattle.std.specs.Prelude.{◌==◌}
 use Rattle.std.proofs.Math.Logic.{∥∥₁_elim}
 use Rattle.std.proofs.Props.{props}
@@ -7,12 +7,11 @@ use Rattle.std.proofs.lemmas.Bool.{cases_Bool, eq-eqb, ne_eqb}
 use Rattle.dbp_plan.specs.declared.plan.Plan.{Plan}
 use Rattle.dbp_plan.specs.Occurrences.{time_of, times_of}
 use Rattle.release_list.specs.declared.release.Release.TheVariants as release
-use Rattle.dbp_rules.specs.Lookups.{task, task_entry, wired_task}
+use Rattle.dbp_rules.specs.Lookups.{task, task_entry}
 use Rattle.dbp_rules.specs.Promises.{IsLeastAim}
 use Rattle.dbp_rules.specs.declared.parts.TaskEntry.{TaskEntry}
 use Rattle.dbp_rules.specs.declared.state.State.{State}
 use Rattle.dbp_rules.specs.declared.step.Step.TheVariants.{Seen, Aim}
-use Rattle.dbp_rules.specs.declared.wiring.TaskWiring.{TaskWiring}
 use Rattle.dbp_rules.specs.declared.wiring.Wiring.{Wiring}
 use Rattle.dbp_rules.proofs.Counted.{aims_same}
 use Rattle.instance_steps.specs.Events.{aim_events, aim_of, seen_events, step_of}
@@ -94,8 +93,3 @@ module _ (a : Recorder) (i : ℕ) (next_ : slice_get (wiring_in a).releases (sta
 
         pub aim_keeps : ((j : ℕ) → j ≢ i → task_entry (state_in b) j ≡ task_entry (state_in a) j) → (j : ℕ) → j ≢ i → task_entry (state_in c) j ≡ task_entry (state_in a) j
         aim_keeps before j other = ap (λ (s : State). task_entry s j) step.state ∙ aim_others (plan_in b) (wiring_in b) (state_in b) i slot j other ∙ before j other
-
--- the times that the code looks at
-pub times_are : (a : Recorder) (i : ℕ) (w : Wiring) (t : TaskWiring) (items : List ℕ) → i < length (plan_in a).diagram.tasks → w ≡ wiring_in a → t ≡ wired_task w i → items ≡ t.times → items ≡ times_of (plan_in a).batches i
-times_are a i w t items named same there list =
-    list ∙ ap (λ (x : TaskWiring). x.times) there ∙ ap (λ (x : Wiring). (wired_task x i).times) same ∙ ((own_in a).whole.each_task i (wired_there a i named)).times

@@ -18,7 +18,7 @@ use Rattle.instance_steps.specs.Recorders.{count_in, plan_in, state_in, wiring_i
 use Rattle.instance_steps.specs.Releases.{AddsRelease, HasEnded, HasReleased, batch_at}
 use Rattle.instance_steps.specs.declared.recorder.Recorder.{Recorder}
 use Rattle.instance_steps.proofs.Adding.{wired_there}
-use Rattle.instance_steps.proofs.BatchTasks.{aim_listed, batch_rises, batches_before, earlier_task, first_before, listed_more, names_task, task_named, unnamed_task}
+use Rattle.instance_steps.proofs.BatchTasks.{aim_listed, batch_rises, batches_before, earlier_task, first_before, first_here, listed_more, names_task, task_named, unnamed_task}
 use Rattle.instance_steps.proofs.ReleaserMoves.{release_as, release_none, release_on}
 
 -- the tasks of the batch, and its time
@@ -84,6 +84,12 @@ module _ (a : Recorder) (number : ℕ) (there : number < length (plan_in a).batc
           let same : time_of (plan_in b).batches (get_or (tasks_of a number) n 0) 1 ≡ time_of (plan_in a).batches (get_or (tasks_of a number) n 0) 1 = ap (λ (p : Plan). time_of p.batches (get_or (tasks_of a number) n 0) 1) adds.steps.plan in
           absurd (omega (arith, early, same, first))
     ]
+
+    pub next_unaimed : (task_entry (state_in b) (get_or (tasks_of a number) n 0)).aimed ≡ 0 → time_of (plan_in b).batches (get_or (tasks_of a number) n 0) 1 ≡ time_at a number
+    next_unaimed none =
+        ap (λ (p : Plan). time_of p.batches (get_or (tasks_of a number) n 0) 1) adds.steps.plan
+        ∙ first_here (plan_in a).batches number (get_or (tasks_of a number) n 0) there (names_task (batch_at (plan_in a) number) n below)
+        (sym aimed_before ∙ ap (λ (e : TaskEntry). e.aimed) (sym own_entry) ∙ none)
 
     module _ (c : Recorder) (one : AddsRelease b c (aim_events (plan_in b) (time_at a number) (get_or (tasks_of a number) n 0)) ((state_in b).releaser.place + 1)) where
       pub aimed_more : HasAimed a number c (n + 1)

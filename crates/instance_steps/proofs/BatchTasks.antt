@@ -67,6 +67,17 @@ first_before (b ∷ bs) (suc number) i time before some = elim (cases_Bool (name
       rw not_ rest
 ]
 
+-- a task that no batch before this one names occurs first in it, if it names the task
+pub first_here : (bs : List Batch) (number i : ℕ) → number < length bs → names i (get_or bs number no_batch) ≡ true → length (times_of (take number bs) i) ≡ 0 → time_of bs i 1 ≡ (get_or bs number no_batch).time
+first_here [] number i there named none = absurd (omega arith)
+first_here (b ∷ bs) zero i there named none = rw named refl
+first_here (b ∷ bs) (suc number) i there named none = elim (cases_Bool (names i b)) [
+  | inl also ↦ let some : suc (length (times_of (take number bs) i)) ≡ 0 = rw also at none in absurd (omega (arith, some))
+  | inr not_ ↦
+      let none_ : length (times_of (take number bs) i) ≡ 0 = rw not_ at none in
+      rw not_ (first_here bs number i (omega arith) named none_)
+]
+
 -- ---- the actions
 
 module _ (a : Recorder) (number : ℕ) (there : number < length (plan_in a).batches) where

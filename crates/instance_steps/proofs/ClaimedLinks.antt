@@ -28,8 +28,8 @@ abbrev pub HasClaimed : Recorder → ℕ → Recorder → ℕ → Type 0
 HasClaimed a i b n = AddsRelease a b (map (λ k. step_of (Claim k)) (take n (into_of a i))) ((state_in a).releaser.place + n)
 
 -- the links that the code goes over
-pub into_is : (a : Recorder) (i : ℕ) (w : Wiring) (t : TaskWiring) → i < length (plan_in a).diagram.tasks → w ≡ wiring_in a → t ≡ wired_task w i → t.links ≡ into_of a i
-into_is a i w t named same there = ap (λ (x : TaskWiring). x.links) there ∙ ap (λ (x : Wiring). (wired_task x i).links) same ∙ ap (λ (x : TaskWiring). x.links) (wired_in a i named)
+pub into_is : (a : Recorder) (i : ℕ) (t : TaskWiring) → i < length (plan_in a).diagram.tasks → t ≡ wired_task (wiring_in a) i → t.links ≡ into_of a i
+into_is a i t named there = ap (λ (x : TaskWiring). x.links) there ∙ ap (λ (x : TaskWiring). x.links) (wired_in a i named)
 
 module _ (a : Recorder) (i : ℕ) (named : i < length (plan_in a).diagram.tasks)
     (next_ : (n : ℕ) → n < length (into_of a i) → slice_get (wiring_in a).releases ((state_in a).releaser.place + n) ≡ Some (release.Claim (get_or (into_of a i) n 0))) where

@@ -8,7 +8,7 @@ use Rattle.dbp_plan.specs.declared.table.Table.{Table}
 use Rattle.dbp_plan.specs.Lookups.{declared_task}
 use Rattle.release_list.specs.Releases.{links_into}
 use Rattle.release_list.specs.declared.release.Release.{Release}
-use Rattle.dbp_core.specs.Cores as core
+use Rattle.dbp_core.specs.Steppers as core
 use Rattle.dbp_rules.specs.Lookups.{task, task_entry}
 use Rattle.dbp_rules.specs.Rules.{next}
 use Rattle.dbp_rules.specs.declared.parts.TaskEntry.{TaskEntry}

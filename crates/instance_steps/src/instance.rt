@@ -50,7 +50,7 @@ impl Recorder {
             (part_in self.old task).ended (place_after (plan_in self.old) task 0)) }
         ensures table { OnOk result (table_in self.new ≡ table_in self.old) }
     {
-        for _ in 0..self.core.wiring().task(task).links.len() + 1 {
+        for _ in 0..self.core.task_wiring(task).links.len() + 1 {
             self.make(Step::Hear { task })?;
         }
         Ok(())

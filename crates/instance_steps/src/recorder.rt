@@ -2,7 +2,7 @@
 
 ghost use Rattle.std.specs.Prelude.{◌≡◌, ◌+◌, ◌<◌, ◌^◌, IfOk, OnOk, length};
 
-use dbp_core::{Core, Count, Step};
+use dbp_core::{Count, Step, Stepper};
 use dbp_plan::{List, NoMemory, Plan, Table};
 use std::alloc::Global;
 use std::rc::Rc;
@@ -38,7 +38,7 @@ impl Keeping {
 /// of its steps.
 #[derive(Drop)]
 pub struct Recorder {
-    pub(crate) core: Core,
+    pub(crate) core: Stepper,
     pub(crate) steps: Option<List<Step>>,
     pub(crate) table: Table,
 }
@@ -68,7 +68,7 @@ impl Recorder {
         ensures rows { IfOk result (λ r. HasEndedRows plan.value (state_in r) (table_in r)) }
     {
         let table = first_table(alloc, plan.diagram.tasks.items())?;
-        let core = Core::of_shared(alloc, plan, count)?;
+        let core = Stepper::new(alloc, plan, count)?;
         Ok(Recorder {
             core,
             steps: keeping.first_record(alloc),
@@ -77,7 +77,7 @@ impl Recorder {
     }
 
     /// The core as the steps so far have left it.
-    pub fn core(&self) -> &Core
+    pub fn core(&self) -> &Stepper
         ensures { result.now ≡ self.now.core }
     {
         &self.core

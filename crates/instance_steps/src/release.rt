@@ -73,6 +73,8 @@ impl Recorder {
         requires ended { (part_in self.old task).ended ≡ (entry_in self.old task).aimed }
         requires first { time_of (plan_in self.old).batches task 1 ≡ time
             → (entry_in self.old task).aimed ≡ 0 }
+        requires unaimed { (entry_in self.old task).aimed ≡ 0
+            → time_of (plan_in self.old).batches task 1 ≡ time }
         requires room { length (steps_in self.old) + 2 < 2 ^ 32 }
         ensures adds { OnOk result (AddsRelease self.old self.new
             (aim_events (plan_in self.old) time task) (action_in self.old + 1)) }
@@ -92,6 +94,8 @@ impl Recorder {
         requires ended { (part_in self.old task).ended ≡ (entry_in self.old task).aimed }
         requires first { time_of (plan_in self.old).batches task 1 ≡ time
             → (entry_in self.old task).aimed ≡ 0 }
+        requires unaimed { (entry_in self.old task).aimed ≡ 0
+            → time_of (plan_in self.old).batches task 1 ≡ time }
         requires room { length (steps_in self.old) + 1 < 2 ^ 32 }
         ensures adds { OnOk result (AddsRelease self.old self.new
             (seen_events (plan_in self.old) time task) (action_in self.old)) }
@@ -101,7 +105,7 @@ impl Recorder {
             → entry_in self.new j ≡ entry_in self.old j) }
         ensures table { OnOk result (table_in self.new ≡ table_in self.old) }
     {
-        if self.core.wiring().task(task).times.items()[0] == time {
+        if self.core.aimed(task) == 0 {
             return Ok(());
         }
         self.make(Step::Seen { task })
@@ -144,8 +148,8 @@ impl Recorder {
         ensures entries { OnOk result (entries_in self.new ≡ entries_in self.old) }
         ensures table { OnOk result (table_in self.new ≡ table_in self.old) }
     {
-        for n in 0..self.core.wiring().task(task).links.len() {
-            let link = self.core.wiring().task(task).links.items()[n as usize];
+        for n in 0..self.core.task_wiring(task).links.len() {
+            let link = self.core.task_wiring(task).links.items()[n as usize];
             self.make(Step::Claim { link })?;
         }
         Ok(())

@@ -3,7 +3,7 @@ use Rattle.std.specs.Prelude.{nat_lt}
 use Rattle.std.proofs.lemmas.List.{get_or_read}
 use Rattle.dbp_plan.specs.declared.diagram.Link.{Link}
 use Rattle.dbp_plan.specs.Lookups.{link_at, no_link}
-use Rattle.dbp_core.specs.Cores.{state_in}
+use Rattle.dbp_core.specs.Steppers.{state_in}
 use Rattle.dbp_rules.specs.Lookups.{link_entry}
 use Rattle.cpu_sim.proofs.BlockingReads.{direct_blocks, ends-there, together}
 use Rattle.cpu_sim.proofs.blocking.waits_for_writer.Goals as goal

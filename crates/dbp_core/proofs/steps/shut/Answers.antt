@@ -1,4 +1,4 @@
-use Rattle.std.proofs.Common.{◌≡◌, ◌∙◌, List, ℤ, ap}
+use Rattle.std.proofs.Common.{◌∙◌, List, ℤ, ap}
 use Rattle.dbp_plan.specs.Lookups.{declared_task}
 use Rattle.dbp_rules.specs.Moves as move
 use Rattle.dbp_rules.specs.Lookups.{task}

@@ -8,7 +8,7 @@ use Rattle.instance_steps.specs.Recorders.{plan_in, state_in, wiring_in}
 use Rattle.instance_steps.specs.Releases.{AddsRelease}
 use Rattle.instance_steps.proofs.Adding.{steps_long}
 use Rattle.instance_steps.proofs.Aimed.{seen_few}
-use Rattle.instance_steps.proofs.AimedTasks.{aimed_all, aimed_more, aimed_none, entries_all, entries_more, next_aim, next_ended, next_first, tasks_of, time_at}
+use Rattle.instance_steps.proofs.AimedTasks.{aimed_all, aimed_more, aimed_none, entries_all, entries_more, next_aim, next_ended, next_first, next_unaimed, tasks_of, time_at}
 use Rattle.instance_steps.proofs.recorder.Recorder.aim_tasks.Goals as goal
 
 pub loop-n-init : goal.loop-n-init
@@ -49,6 +49,20 @@ aim_task-requires-clause-first c = λ first.
     ap (λ (l : List ℕ). time_of (plan_in c.loop-n.self).batches (get_or l c.loop-n.n 0) 1) (sym items) ∙ first ∙ time in
     ap (λ (l : List ℕ). (task_entry (state_in c.loop-n.self) (get_or l c.loop-n.n 0)).aimed) items
     ∙ next_first c.args.self.now c.args.number c.requires.batch c.requires.released c.requires.ended c.loop-n.self c.loop-n.n below c.loop-n.invariant.adds c.loop-n.invariant.keeps own
+
+pub aim_task-requires-clause-unaimed : goal.aim_task-requires-clause-unaimed
+aim_task-requires-clause-unaimed c = λ none.
+    let size : c.len-n-end.result ≡ length (tasks_of c.args.self.now c.args.number) = c.len-n-end.ensures ∙ ap (λ (b : Batch). length b.tasks) c.requires.same in
+    let below : c.loop-n.n < length (tasks_of c.args.self.now c.args.number) = omega (arith, size, c.loop-n-test.true) in
+    let items : c.items-tasks.result.now ≡ tasks_of c.args.self.now c.args.number =
+    c.items-tasks.ensures.value ∙ ap (λ (b : Batch). b.tasks) c.requires.same in
+    let time : c.args.batch.now.time ≡ time_at c.args.self.now c.args.number =
+    ap (λ (b : Batch). b.time) c.requires.same in
+    let own : (task_entry (state_in c.loop-n.self) (get_or (tasks_of c.args.self.now c.args.number) c.loop-n.n 0)).aimed ≡ 0 =
+    ap (λ (l : List ℕ). (task_entry (state_in c.loop-n.self) (get_or l c.loop-n.n 0)).aimed) (sym items) ∙ none in
+    ap (λ (l : List ℕ). time_of (plan_in c.loop-n.self).batches (get_or l c.loop-n.n 0) 1) items
+    ∙ next_unaimed c.args.self.now c.args.number c.requires.batch c.requires.released c.requires.ended c.loop-n.self c.loop-n.n below c.loop-n.invariant.adds c.loop-n.invariant.keeps own
+    ∙ sym time
 
 pub loop-n-preserved : goal.loop-n-preserved
 loop-n-preserved c =
