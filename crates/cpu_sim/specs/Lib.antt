@@ -3,7 +3,6 @@ pub mod Outcomes
 pub mod Processors
 pub mod Record
 pub mod Services
-pub mod SimRuns
 -- What private functions, the inside of types and proofs cite.
 pub mod Choices
 pub mod Simulations

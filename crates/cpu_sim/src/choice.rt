@@ -7,17 +7,15 @@ use dbp_core::Stepper;
 use dbp_plan::{MAX_CPU, Plan};
 use virtual_time::Run;
 
-/// How many processors there are.
-pub(crate) const CPUS: usize = 8;
-
-const _: () = prove!(MAX_CPU == 7);
+// How many processors there are.
+pub(crate) const CPUS: usize = MAX_CPU as usize + 1;
 
 // For each processor the task whose instance it serves: the first one of its own in the queue that isn't blocked.
-pub(crate) fn choose(plan: &Plan, core: &Stepper, run: &Run) -> [Option<u32>; 8]
+pub(crate) fn choose(plan: &Plan, core: &Stepper, run: &Run) -> [Option<u32>; CPUS]
     requires together { StandTogether plan.now core.now run.now }
     ensures { AreChoices plan.now run.now result }
 {
-    let mut chosen: [Option<u32>; 8] = [None; 8];
+    let mut chosen = [None; CPUS];
     for index in 0..plan.diagram.tasks.len() {
         let Some(task) = run.ready.nth(index) else {
             return chosen;

@@ -21,7 +21,6 @@
 mod blocking;
 mod choice;
 mod laws;
-mod outcome;
 mod simulation;
 
 pub use laws::{
@@ -29,5 +28,5 @@ pub use laws::{
     a_processor_passes_over_the_blocked, a_record_on_processors_is_lawful,
     one_processor_serves_as_before, some_processor_serves,
 };
-pub use outcome::{SimFail, SimRun};
 pub use simulation::{simulate_cpus, simulate_cpus_shared, simulate_cpus_table_shared};
+pub use virtual_time::{SimFail, SimRun};

@@ -1,17 +1,16 @@
 // A simulation on several processors, from one event to the next.
 
 ghost use Rattle.std.specs.Prelude.{◌≡◌, ◌+◌, ◌<◌, ◌≤◌, ℕ, length, slice_index, IfOk, OnOk, MatchResult};
-ghost use Rattle.cpu_sim.specs.SimRuns.{IsSimFail, IsSimRun, IsSimTable};
+ghost use Rattle.cpu_sim.specs.Outcomes.{IsSimFail, IsSimRun, IsSimTable};
 ghost use Rattle.cpu_sim.specs.Simulations.{IsFinished};
 
-use crate::choice::choose;
-use crate::outcome::{SimFail, SimRun};
+use crate::choice::{CPUS, choose};
 use dbp_core::Count;
 use dbp_plan::{NoMemory, Plan, Table};
 use instance_steps::{Keeping, Recorder};
 use std::alloc::Global;
 use std::rc::Rc;
-use virtual_time::{Run, ticks_to_event};
+use virtual_time::{Run, SimFail, SimRun, shared_copy, ticks_to_event};
 
 // Its time, and the protocol that is taken through it.
 #[derive(Drop)]
@@ -28,10 +27,10 @@ impl Simulation {
     ghost use Rattle.instance_steps.specs.Releases.{batch_at};
     ghost use Rattle.rank_order.specs.Queue.{Holds};
     ghost use Rattle.virtual_time.specs.State.{NoBatchBefore};
+    ghost use Rattle.virtual_time.specs.declared.outcome.SimFail.TheVariants.{NoMemory as OutOfMemory};
     ghost use Rattle.cpu_sim.specs.Record.{cpu_count};
     ghost use Rattle.cpu_sim.specs.Simulations.{HasBegun, HasServed, HasStepped, IsEvent, IsJump};
     ghost use Rattle.cpu_sim.specs.Simulations.{IsNext, IsSimulation, ServesNext, StepsNext, served_before};
-    ghost use Rattle.cpu_sim.specs.declared.outcome.SimFail.TheVariants.{NoMemory as OutOfMemory};
     ghost use Rattle.cpu_sim.specs.declared.simulation.Simulation.{Simulation};
 
     // Nothing is released yet.
@@ -77,11 +76,11 @@ impl Simulation {
     }
 
     // The steps on all processors, those of the lowest first.
-    fn make_all_steps(&mut self, plan: &Plan, chosen: &[Option<u32>; 8]) -> Result<(), NoMemory>
+    fn make_all_steps(&mut self, plan: &Plan, chosen: &[Option<u32>; CPUS]) -> Result<(), NoMemory>
         requires event { IsEvent plan.now self.old chosen.now }
         ensures stepped { OnOk result (HasStepped plan.now self.old chosen.now cpu_count self.new) }
     {
-        for cpu in 0..8 {
+        for cpu in 0..CPUS {
             if let Some(task) = chosen[cpu] {
                 self.make_steps(plan, task)?;
             }
@@ -109,7 +108,7 @@ impl Simulation {
     fn serve_all(
         &mut self,
         plan: &Plan,
-        chosen: &[Option<u32>; 8],
+        chosen: &[Option<u32>; CPUS],
         ticks: u64,
     ) -> Result<(), NoMemory>
         requires stepped { (first : Simulation) × HasStepped plan.now first chosen.now cpu_count self.old
@@ -118,7 +117,7 @@ impl Simulation {
             → HasStepped plan.now first chosen.now cpu_count self.old → IsJump plan.now first.run chosen.now ticks
             → HasServed plan.now first chosen.now ticks cpu_count self.new) }
     {
-        for cpu in 0..8 {
+        for cpu in 0..CPUS {
             if let Some(task) = chosen[cpu] {
                 self.serve_task(plan, task, ticks)?;
             }
@@ -127,7 +126,7 @@ impl Simulation {
     }
 
     // Whom the processors serve.
-    fn choices(&self, plan: &Plan) -> [Option<u32>; 8]
+    fn choices(&self, plan: &Plan) -> [Option<u32>; CPUS]
         requires simulation { IsSimulation plan.now self.now }
         requires until { NoBatchBefore plan.now self.now.run.released (self.now.run.time + 1) }
         ensures { IsEvent plan.now self.now result }
@@ -136,7 +135,7 @@ impl Simulation {
     }
 
     // After how many ticks, at most so many, the next of the chosen instances makes its reads or ends.
-    fn ticks_to_next(&self, plan: &Plan, chosen: &[Option<u32>; 8], most: u64) -> u64
+    fn ticks_to_next(&self, plan: &Plan, chosen: &[Option<u32>; CPUS], most: u64) -> u64
         requires event { IsEvent plan.now self.now chosen.now }
         requires some { 0 < most }
         requires until { NoBatchBefore plan.now self.now.run.released (self.now.run.time + most) }
@@ -144,7 +143,7 @@ impl Simulation {
         ensures most { result ≤ most }
     {
         let mut ticks = most;
-        for cpu in 0..8 {
+        for cpu in 0..CPUS {
             if let Some(task) = chosen[cpu] {
                 let body = &plan.diagram.tasks.items()[task as usize];
                 let served = body.cost - self.run.rest[task as usize];
@@ -228,12 +227,8 @@ impl Simulation {
             → is_in (batch_at plan.now self.old.run.released).tasks i ≡ true
             → slice_index self.old.run.rest.items i ≡ 0 }
     {
-        if let Some(task) = self.run.late_task(plan) {
-            return Err(SimFail::Overrun {
-                task,
-                instance: self.run.ends.items()[task as usize].len() + 2,
-                time: self.run.time,
-            });
+        if let Some(overrun) = self.run.overrun(plan) {
+            return Err(overrun);
         }
         let Ok(()) = self.recorder.release_batch(self.run.released) else {
             return Err(SimFail::NoMemory);
@@ -276,10 +271,7 @@ fn finished_simulation(
 pub fn simulate_cpus(alloc: Global, plan: &Plan) -> Result<SimRun, SimFail>
     ensures { MatchResult result (λ run. IsSimRun plan.now run) (λ why. IsSimFail plan.now why) }
 {
-    let Ok(copy) = plan.copy() else {
-        return Err(SimFail::NoMemory);
-    };
-    let Ok(shared) = Rc::new(alloc, copy) else {
+    let Ok(shared) = shared_copy(alloc, plan) else {
         return Err(SimFail::NoMemory);
     };
     simulate_cpus_shared(alloc, &shared)

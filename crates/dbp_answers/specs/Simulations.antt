@@ -10,6 +10,8 @@ use Rattle.rank_order.specs.Instances.{Instance}
 use Rattle.rank_order.specs.Service.{left_of}
 use Rattle.rank_order.specs.ServiceOf.{service}
 use Rattle.virtual_sim.specs.Record.{IsRecord}
+use Rattle.virtual_time.specs.Outcomes.{IsFailBy}
+use Rattle.virtual_time.specs.declared.outcome.SimFail.{SimFail}
 use Rattle.dbp_answers.specs.declared.processors.Processors.{Processors}
 use Rattle.dbp_answers.specs.declared.processors.Processors.TheVariants.{One, Declared}
 
@@ -21,6 +23,10 @@ left_in plan Declared = left_on plan (services plan)
 -- no release of the plan meets an unfinished instance
 abbrev pub IsInTime : Plan → Processors → Type 0
 IsInTime plan processors = NoOverrun plan (left_in plan processors)
+
+-- the overrun, or that memory ran out
+abbrev pub IsFailOn : Plan → Processors → SimFail → Type 0
+IsFailOn plan processors why = IsFailBy plan (left_in plan processors) why
 
 -- the steps are the recorded ones
 abbrev pub IsRecordIn : Plan → Processors → List Step → Type 0

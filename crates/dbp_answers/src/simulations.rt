@@ -1,20 +1,17 @@
 // What simulations write.
 
 ghost use Rattle.std.specs.Prelude.{◌≡◌, ◌<◌, ◌≤◌, ℕ, Bool, List as Items, length, IfErr, IfOk};
-ghost use Rattle.cpu_sim.specs.SimRuns.{IsSimFail as IsCpuFail};
 ghost use Rattle.dbp_plan.specs.Lookups.{declared_task};
 ghost use Rattle.dbp_plan.specs.declared.limits.TheConstants.{MAX_TEXT};
 ghost use Rattle.dia_read.specs.declared.document.Doc.{Doc as Document};
 ghost use Rattle.sync_meaning.specs.SomeMeaning.{meaning_of};
 ghost use Rattle.trace_io.specs.Texts.{Accepts};
-ghost use Rattle.virtual_sim.specs.Outcomes.{IsSimFail};
 ghost use Rattle.dbp_answers.specs.Answer.{IsOverrunLine, Makes, PlanText};
 ghost use Rattle.dbp_answers.specs.Commands.{a_simulation, at_plan, looks};
 ghost use Rattle.dbp_answers.specs.OverrunLines.{overrun_line};
-ghost use Rattle.dbp_answers.specs.Simulations.{IsInTime, IsRecordIn};
+ghost use Rattle.dbp_answers.specs.Simulations.{IsFailOn, IsInTime, IsRecordIn};
 ghost use Rattle.dbp_answers.specs.Stops.{IsStopOf};
 ghost use Rattle.dbp_answers.specs.declared.command.Command.{Command as Named};
-ghost use Rattle.dbp_answers.specs.declared.processors.Processors.TheVariants.{One, Declared};
 
 use crate::overrun_line::overrun_after;
 use crate::plan::plan_of;
@@ -27,7 +24,7 @@ use dbp_replay::print_script;
 use std::alloc::Global;
 use std::rc::Rc;
 use trace_io::lines;
-use virtual_sim::{simulate_shared, simulate_table_shared};
+use virtual_sim::{SimFail, simulate_shared, simulate_table_shared};
 
 // What the simulation of the input's plan writes.
 pub(crate) fn simulation_of(
@@ -90,11 +87,11 @@ fn recorded_steps(
     match processors {
         Processors::One => match simulate_shared(alloc, shared) {
             Ok(run) => Ok(run.script),
-            Err(fail) => Err(stop_on_one(alloc, shared, fail)),
+            Err(fail) => Err(stop_on(alloc, shared, Processors::One, fail)),
         },
         Processors::Declared => match simulate_cpus_shared(alloc, shared) {
             Ok(run) => Ok(run.script),
-            Err(fail) => Err(stop_on_declared(alloc, shared, fail)),
+            Err(fail) => Err(stop_on(alloc, shared, Processors::Declared, fail)),
         },
     }
 }
@@ -109,44 +106,28 @@ fn simulated_table(alloc: Global, processors: Processors, shared: &Rc<Plan>) -> 
     match processors {
         Processors::One => match simulate_table_shared(alloc, shared) {
             Ok(table) => Ok(table),
-            Err(fail) => Err(stop_on_one(alloc, shared, fail)),
+            Err(fail) => Err(stop_on(alloc, shared, Processors::One, fail)),
         },
         Processors::Declared => match simulate_cpus_table_shared(alloc, shared) {
             Ok(table) => Ok(table),
-            Err(fail) => Err(stop_on_declared(alloc, shared, fail)),
+            Err(fail) => Err(stop_on(alloc, shared, Processors::Declared, fail)),
         },
     }
 }
 
-// Why the simulation of the plan on one processor gives nothing.
-fn stop_on_one(alloc: Global, plan: &Plan, fail: virtual_sim::SimFail) -> Stop
-    requires { IsSimFail plan.now fail }
+// Why the simulation of the plan gives nothing.
+fn stop_on(alloc: Global, plan: &Plan, processors: Processors, fail: SimFail) -> Stop
+    requires { IsFailOn plan.now processors fail }
     ensures { (input : Items ℕ) (command : Named) (record_it : Bool) → Accepts input plan.now
-        → looks command ≡ at_plan (a_simulation One record_it) → IsStopOf input command result }
+        → looks command ≡ at_plan (a_simulation processors record_it) → IsStopOf input command result }
 {
     match fail {
-        virtual_sim::SimFail::Overrun {
+        SimFail::Overrun {
             task,
             instance,
             time,
         } => overrun_stop(alloc, plan, task, instance, time),
-        virtual_sim::SimFail::NoMemory => Stop::NoMemory,
-    }
-}
-
-// Why the simulation of the plan on its processors gives nothing.
-fn stop_on_declared(alloc: Global, plan: &Plan, fail: cpu_sim::SimFail) -> Stop
-    requires { IsCpuFail plan.now fail }
-    ensures { (input : Items ℕ) (command : Named) (record_it : Bool) → Accepts input plan.now
-        → looks command ≡ at_plan (a_simulation Declared record_it) → IsStopOf input command result }
-{
-    match fail {
-        cpu_sim::SimFail::Overrun {
-            task,
-            instance,
-            time,
-        } => overrun_stop(alloc, plan, task, instance, time),
-        cpu_sim::SimFail::NoMemory => Stop::NoMemory,
+        SimFail::NoMemory => Stop::NoMemory,
     }
 }
 

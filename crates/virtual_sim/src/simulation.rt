@@ -4,13 +4,12 @@ ghost use Rattle.std.specs.Prelude.{◌≡◌, ◌+◌, ◌<◌, ◌≤◌, ◌+
 ghost use Rattle.virtual_sim.specs.Outcomes.{IsSimFail, IsSimRun, IsSimTable};
 ghost use Rattle.virtual_sim.specs.Simulations.{IsFinished};
 
-use crate::outcome::{SimFail, SimRun};
 use dbp_core::Count;
 use dbp_plan::{NoMemory, Plan, Table};
 use instance_steps::{Keeping, Recorder};
 use std::alloc::Global;
 use std::rc::Rc;
-use virtual_time::{Run, ticks_to_event};
+use virtual_time::{Run, SimFail, SimRun, shared_copy, ticks_to_event};
 
 // Its time, and the protocol that is taken through it.
 #[derive(Drop)]
@@ -35,7 +34,7 @@ impl Simulation {
     ghost use Rattle.dbp_plan.specs.Numbers.{is_in};
     ghost use Rattle.virtual_sim.specs.Simulations.{IsSimulation};
     ghost use Rattle.virtual_time.specs.State.{NoBatchBefore};
-    ghost use Rattle.virtual_sim.specs.declared.outcome.SimFail.TheVariants.{NoMemory as OutOfMemory};
+    ghost use Rattle.virtual_time.specs.declared.outcome.SimFail.TheVariants.{NoMemory as OutOfMemory};
 
     // Nothing is released yet.
     fn new(alloc: Global, plan: &Rc<Plan>, keeping: Keeping) -> Result<Simulation, NoMemory>
@@ -179,12 +178,8 @@ impl Simulation {
             → is_in (batch_at plan.now self.old.run.released).tasks i ≡ true
             → slice_index self.old.run.rest.items i ≡ 0 }
     {
-        if let Some(task) = self.run.late_task(plan) {
-            return Err(SimFail::Overrun {
-                task,
-                instance: self.run.ends.items()[task as usize].len() + 2,
-                time: self.run.time,
-            });
+        if let Some(overrun) = self.run.overrun(plan) {
+            return Err(overrun);
         }
         let Ok(()) = self.recorder.release_batch(self.run.released) else {
             return Err(SimFail::NoMemory);
@@ -217,13 +212,6 @@ fn finished_simulation(
         return Err(SimFail::NoMemory);
     };
     Ok(simulation)
-}
-
-// A copy of the plan that can be shared.
-fn shared_copy(alloc: Global, plan: &Plan) -> Result<Rc<Plan>, NoMemory>
-    ensures { IfOk result (λ shared. shared.value ≡ plan.now) }
-{
-    Ok(Rc::new(alloc, plan.copy()?)?)
 }
 
 /// The simulation of the plan in virtual time: on one processor tasks are served by their policy, by ticks, and their

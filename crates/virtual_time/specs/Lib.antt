@@ -1,5 +1,6 @@
 -- Definitions that public clauses cite.
 pub mod Events
+pub mod Outcomes
 pub mod Runs
 pub mod State
 -- What crates above keep of the protocol, and what proofs cite.

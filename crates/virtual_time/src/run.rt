@@ -137,9 +137,9 @@ impl Run {
         self.time = plan.batches.items()[self.released as usize].time;
     }
 
-    /// The highest-ranked task of the next batch whose last instance hasn't ended.
+    // The highest-ranked task of the next batch whose last instance hasn't ended.
     #[inline(always)]
-    pub fn late_task(&self, plan: &Plan) -> Option<u32>
+    pub(crate) fn late_task(&self, plan: &Plan) -> Option<u32>
         ghost cpus: { Processors }
         requires run { IsRun plan.now cpus self.now }
         requires more { self.now.released < length plan.now.batches }

@@ -8,7 +8,7 @@ returns c =
     let s = c.in_ok-run.field-0 in
     let e = c.in_ok-run.ensures in
     record {
-      meant = c.finish-steps.ensures.table ∙ is_meaning p s e.simulation e.released e.idle;
-      recorded = kept_record p s e.simulation e.released e.idle c.in-Some.script (sym c.finish-steps.ensures.steps ∙ c.in-Some.is);
-      ended = are_ends p s e.simulation e.released e.idle;
+      table = c.finish-steps.ensures.table ∙ is_meaning p s e.simulation e.released e.idle;
+      script = kept_record p s e.simulation e.released e.idle c.in-Some.script (sym c.finish-steps.ensures.steps ∙ c.in-Some.is);
+      ends = are_ends p s e.simulation e.released e.idle;
     }

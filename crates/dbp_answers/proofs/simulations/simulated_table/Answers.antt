@@ -2,7 +2,7 @@ use Rattle.std.proofs.Common.{sym}
 use Rattle.dbp_answers.proofs.simulations.simulated_table.Goals as goal
 
 pub returns-in-Err-clause-stop : goal.returns-in-Err-clause-stop
-returns-in-Err-clause-stop c = λ input command record_it accepted looked. c.stop_on_one.ensures input command record_it (rw (sym c.deref.ensures) at accepted) (rw c.in-One.is at looked)
+returns-in-Err-clause-stop c = λ input command record_it accepted looked. c.stop_on.ensures input command record_it (rw (sym c.deref.ensures) at accepted) (rw c.in-One.is at looked)
 
 pub returns-in-Err-simulate_cpus_table_shared-clause-stop : goal.returns-in-Err-simulate_cpus_table_shared-clause-stop
-returns-in-Err-simulate_cpus_table_shared-clause-stop c = λ input command record_it accepted looked. c.stop_on_declared.ensures input command record_it (rw (sym c.deref-in-Err-simulate_cpus_table_shared.ensures) at accepted) (rw c.in-Declared.is at looked)
+returns-in-Err-simulate_cpus_table_shared-clause-stop c = λ input command record_it accepted looked. c.stop_on-in-Err-simulate_cpus_table_shared.ensures input command record_it (rw (sym c.deref-in-Err-simulate_cpus_table_shared.ensures) at accepted) (rw c.in-Declared.is at looked)
