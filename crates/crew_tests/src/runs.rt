@@ -13,7 +13,7 @@ use std::thread::Threads;
 use sync_meaning::mean;
 use word_rule::SlotWords;
 
-/// A meter, a controller that it reads through a delay, and a log.
+// A meter, a controller that it reads through a delay, and a log.
 pub(crate) const METER: &str = "dbp 1
 policy fp
 until 1000

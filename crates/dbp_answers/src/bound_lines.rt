@@ -8,7 +8,7 @@ use itoa::Buffer;
 use rta_check::{Bound, period_of};
 use std::alloc::Global;
 
-/// A line `TASK,R,PERIOD` or `TASK,beyond,PERIOD` for each task, in order of declaration, in ticks.
+// A line `TASK,R,PERIOD` or `TASK,beyond,PERIOD` for each task, in order of declaration, in ticks.
 pub(crate) fn bound_lines(
     alloc: Global,
     diagram: &Diagram,

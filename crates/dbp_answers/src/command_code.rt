@@ -69,7 +69,7 @@ impl CommandCode {
         }
     }
 
-    /// The names of tasks that are printed after it.
+    // The names of tasks that are printed after it.
     pub(crate) fn tasks(&self) -> &[Name]
         ensures { result.now ≡ tasks_in self.now }
     {

@@ -7,7 +7,7 @@ use dbp_plan::NoMemory;
 use itoa::Buffer;
 use std::alloc::Global;
 
-/// These words, then `TASK N at T`. Instances are counted from 1, and times are ticks.
+// These words, then `TASK N at T`. Instances are counted from 1, and times are ticks.
 pub(crate) fn overrun_after(
     alloc: Global,
     words: &[u8],

@@ -13,7 +13,7 @@ use dia_read::{Doc, read_doc};
 use std::alloc::Global;
 use trace_io::read_trace;
 
-/// The document of the input and its plan, or why it has none.
+// The document of the input and its plan, or why it has none.
 pub(crate) fn accepted(alloc: Global, input: &[u8]) -> Result<(Doc, Plan), Stop>
     requires { length input.now ≤ MAX_TEXT }
     ensures plan { IfOk result (λ (doc, plan). (a : Accepts input.now plan) × (a.doc ≡ doc)) }

@@ -24,7 +24,7 @@ use rank_find::{find, ranked_body};
 use std::alloc::Global;
 use trace_io::read_trace;
 
-/// The canonical text of the input's document with priorities from its links.
+// The canonical text of the input's document with priorities from its links.
 pub(crate) fn ranked_text_of(alloc: Global, input: &[u8]) -> Result<Vec<u8>, Stop>
     requires { length input.now ≤ MAX_TEXT }
     ensures text { IfOk result (λ text. Makes input.now Rank text.items) }

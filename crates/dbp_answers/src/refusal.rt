@@ -42,8 +42,8 @@ pub enum Refusal {
     OfCommand(CommandCode),
 }
 
-/// The line `refused: line L: CODE NAME`, with the limit's word after a passed limit, `illegal step K: TEXT`, or
-/// `refused: CODE NAME` with the words after it.
+// The line `refused: line L: CODE NAME`, with the limit's word after a passed limit, `illegal step K: TEXT`, or
+// `refused: CODE NAME` with the words after it.
 pub(crate) fn refusal_line(alloc: Global, refusal: &Refusal) -> Result<Vec<u8>, NoMemory>
     ensures { IfOk result (λ text. text.items ≡ refusal_line refusal.now) }
 {

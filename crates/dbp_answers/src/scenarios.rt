@@ -22,7 +22,7 @@ use dia_read::{Doc, print_doc};
 use slot_need::{NeedFail, need};
 use std::alloc::Global;
 
-/// The canonical text of the scenario of the task of this name, in the input's diagram.
+// The canonical text of the scenario of the task of this name, in the input's diagram.
 pub(crate) fn scenario_of(alloc: Global, name: &Name, input: &[u8]) -> Result<Vec<u8>, Stop>
     requires { length input.now ≤ MAX_TEXT }
     ensures text { IfOk result (λ text. Makes input.now (Need name.now) text.items) }

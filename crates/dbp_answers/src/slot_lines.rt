@@ -9,7 +9,7 @@ use dbp_slots::{Counts, counts};
 use itoa::Buffer;
 use std::alloc::Global;
 
-/// A line `task,lower,higher,delayed,sim,run` for each task, in the order of declaration.
+// A line `task,lower,higher,delayed,sim,run` for each task, in the order of declaration.
 pub(crate) fn slot_lines(alloc: Global, diagram: &Diagram) -> Result<Vec<u8>, NoMemory>
     requires { IsRanked diagram.now }
     ensures { IfOk result (λ text. text.items ≡ slot_lines diagram.now) }

@@ -103,7 +103,7 @@ fn refusal(
     }
 }
 
-/// One step: what is heard and the next state, or the first broken condition and the same state.
+// One step: what is heard and the next state, or the first broken condition and the same state.
 pub(crate) fn advance(
     plan: &Plan,
     wiring: &Wiring,

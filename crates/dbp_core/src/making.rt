@@ -145,7 +145,7 @@ fn make_end(plan: &Plan, wiring: &Wiring, state: &mut State, number: u32) -> Hea
     Heard::Stored
 }
 
-/// A step that is allowed: what is heard, and the next state.
+// A step that is allowed: what is heard, and the next state.
 #[inline(always)]
 pub(crate) fn make(plan: &Plan, wiring: &Wiring, state: &mut State, step: Step) -> Heard
     requires named { IsNamed plan.now.diagram step }

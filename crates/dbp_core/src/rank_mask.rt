@@ -7,7 +7,7 @@ ghost use Rattle.dbp_core.specs.Unfinished.{is_unfinished, recounted_task};
 use crate::look_up::{entry_at, task_at, wired_at};
 use dbp_rules::{State, Step, Wiring};
 
-/// Ranks, as bits of a number.
+// Ranks, as bits of a number.
 #[derive(Clone, Copy)]
 pub(crate) struct RankMask {
     bits: u32,
@@ -18,14 +18,14 @@ impl RankMask {
     ghost use Rattle.dbp_rules.specs.Lookups.{wired_task};
     ghost use Rattle.dbp_core.specs.Unfinished.{HasRanks, HasUnfinished, has_rank, is_unfinished, recounted_task};
 
-    /// No rank.
+    // No rank.
     pub(crate) fn empty() -> RankMask
         ensures { (other : ℕ) → has_rank result other ≡ false }
     {
         RankMask { bits: 0 }
     }
 
-    /// Whether it has a rank above this one.
+    // Whether it has a rank above this one.
     pub(crate) fn has_above(self, rank: u32) -> bool
         ensures none { result ≡ false → (other : ℕ) → other < rank → has_rank self other ≡ false }
         ensures some { rank ≤ 32 → result ≡ true → (other : ℕ) × (other < rank) × (has_rank self other ≡ true) }
@@ -48,7 +48,7 @@ impl RankMask {
         }
     }
 
-    /// After a step, however it was answered: counts the task anew that it aims or ends.
+    // After a step, however it was answered: counts the task anew that it aims or ends.
     #[inline(always)]
     pub(crate) fn recount(&mut self, wiring: &Wiring, state: &State, step: Step)
         requires ranks { HasRanks wiring.now }

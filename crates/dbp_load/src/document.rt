@@ -16,7 +16,7 @@ use dbp_plan::{List, NoMemory, Policy};
 use dia_read::{Body, Decl, print_doc};
 use std::alloc::Global;
 
-/// The declarations: one input.
+// The declarations: one input.
 fn generated_decls(alloc: Global) -> Result<List<Decl>, NoMemory>
     ensures { IfOk result (λ decls. decls ≡ Input (codes "g") (pos 1) ∷ []) }
 {
@@ -25,7 +25,7 @@ fn generated_decls(alloc: Global) -> Result<List<Decl>, NoMemory>
     Ok(decls)
 }
 
-/// What the document says.
+// What the document says.
 fn generated_body(alloc: Global, seed: u64, size: u32) -> Result<Body, NoMemory>
     requires { size ≤ 32 }
     ensures { IfOk result (λ body. body ≡ generated_body seed size) }

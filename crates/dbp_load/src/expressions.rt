@@ -8,7 +8,7 @@ use crate::names::name;
 use dbp_plan::{BinOp, Expr, Name, NoMemory};
 use std::alloc::Global;
 
-/// `s + 1`
+// `s + 1`
 pub(crate) fn next_value(alloc: Global) -> Result<Expr<Name>, NoMemory>
     ensures { IfOk result (λ e. e ≡ next_expr) }
 {
@@ -17,7 +17,7 @@ pub(crate) fn next_value(alloc: Global) -> Result<Expr<Name>, NoMemory>
     Expr::binary(BinOp::Add, state, &one)
 }
 
-/// `(s * 3) + g0`
+// `(s * 3) + g0`
 fn first_sum(alloc: Global) -> Result<Expr<Name>, NoMemory>
     ensures { IfOk result (λ e. IsExprOf e first_sum) }
 {
@@ -28,7 +28,7 @@ fn first_sum(alloc: Global) -> Result<Expr<Name>, NoMemory>
     Expr::binary(BinOp::Add, product, &input)
 }
 
-/// `((s * 3) + g0) % 1000`, with each read added on the right inside the parentheses.
+// `((s * 3) + g0) % 1000`, with each read added on the right inside the parentheses.
 pub(crate) fn out_value(alloc: Global, reads: &[Name]) -> Result<Expr<Name>, NoMemory>
     requires { length reads.now ≤ 4 }
     ensures { IfOk result (λ e. IsExprOf e (out_tree reads.now)) }

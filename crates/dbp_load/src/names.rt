@@ -6,7 +6,7 @@ ghost use Rattle.dbp_load.specs.Bodies.{task_name, read_name};
 
 use dbp_plan::Name;
 
-/// The name with these bytes.
+// The name with these bytes.
 pub(crate) fn name(bytes: &[u8]) -> Name
     requires { IsName bytes.now }
     ensures { result ≡ bytes.now }
@@ -17,7 +17,7 @@ pub(crate) fn name(bytes: &[u8]) -> Name
     }
 }
 
-/// The letter, and the number after it.
+// The letter, and the number after it.
 fn numbered(letter: u8, number: u32) -> Name
     requires name { IsName (letter ∷ decimal number) }
     requires number { number < 100 }
@@ -31,7 +31,7 @@ fn numbered(letter: u8, number: u32) -> Name
     }
 }
 
-/// The name of the task with the number.
+// The name of the task with the number.
 pub(crate) fn task_name(number: u32) -> Name
     requires { number < 100 }
     ensures { result ≡ task_name number }
@@ -39,7 +39,7 @@ pub(crate) fn task_name(number: u32) -> Name
     numbered(b't', number)
 }
 
-/// The name of the read with the number, of a task before its reader.
+// The name of the read with the number, of a task before its reader.
 pub(crate) fn read_name(number: u32) -> Name
     requires { number < 10 }
     ensures { result ≡ read_name number }

@@ -12,14 +12,14 @@ use drawn_numbers::draw;
 use rand_xoshiro::SplitMix64;
 use std::alloc::Global;
 
-/// How many tasks before it the task with the number reads.
+// How many tasks before it the task with the number reads.
 fn early_count(number: u32) -> u32
     ensures { result ≡ early_count number }
 {
     number.min(3)
 }
 
-/// The names of the reads of a task.
+// The names of the reads of a task.
 pub(crate) fn names_of_reads(alloc: Global, size: u32, number: u32) -> Result<List<Name>, NoMemory>
     requires number { number < size }
     requires size { size ≤ 32 }
@@ -36,7 +36,7 @@ pub(crate) fn names_of_reads(alloc: Global, size: u32, number: u32) -> Result<Li
     Ok(names)
 }
 
-/// A read of a task's out, at the start of its reader's service.
+// A read of a task's out, at the start of its reader's service.
 fn read_of(name_of_read: Name, delay: u32, writer: u32) -> Part
     requires { writer < 32 }
     ensures { result ≡ read_of name_of_read delay writer }
@@ -50,7 +50,7 @@ fn read_of(name_of_read: Name, delay: u32, writer: u32) -> Part
     }
 }
 
-/// Adds the reads of tasks before this one.
+// Adds the reads of tasks before this one.
 pub(crate) fn push_early_reads(
     parts: &mut List<Part>,
     draws: &mut SplitMix64,
@@ -68,7 +68,7 @@ pub(crate) fn push_early_reads(
     Ok(())
 }
 
-/// Adds the read of a task after this one, if there is one.
+// Adds the read of a task after this one, if there is one.
 pub(crate) fn push_late_read(
     parts: &mut List<Part>,
     draws: &mut SplitMix64,

@@ -8,7 +8,7 @@ use dbp_plan::{List, NoMemory};
 use itoa::Buffer;
 use std::alloc::Global;
 
-/// Adds the number in decimal.
+// Adds the number in decimal.
 fn push_number(text: &mut List<u8>, number: u32) -> Result<(), NoMemory>
     requires { length text.old ≤ 10000 }
     ensures text { OnOk result (text.new ≡ text.old ++ decimal number) }
@@ -17,7 +17,7 @@ fn push_number(text: &mut List<u8>, number: u32) -> Result<(), NoMemory>
     text.extend_from_slice(Buffer::new().format(number).as_bytes())
 }
 
-/// Adds the row with the number.
+// Adds the row with the number.
 fn push_row(text: &mut List<u8>, size: u32, number: u32) -> Result<(), NoMemory>
     requires room { length text.old ≤ 2000 }
     requires size { size ≤ 32 }
@@ -32,7 +32,7 @@ fn push_row(text: &mut List<u8>, size: u32, number: u32) -> Result<(), NoMemory>
     Ok(())
 }
 
-/// The section: ten rows of the input's value.
+// The section: ten rows of the input's value.
 pub(crate) fn trace_text(alloc: Global, size: u32) -> Result<List<u8>, NoMemory>
     requires { size ≤ 32 }
     ensures { IfOk result (λ text. text ≡ trace_text size) }

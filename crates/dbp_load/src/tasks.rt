@@ -15,14 +15,14 @@ use rand_core::SeedableRng;
 use rand_xoshiro::SplitMix64;
 use std::alloc::Global;
 
-/// The out of the task with the number.
+// The out of the task with the number.
 fn out_part(number: u32, value: Expr<Name>) -> Part
     ensures { result ≡ Out (codes "y") (pos number) value }
 {
     Part::Out(name(b"y"), i64::from(number), value)
 }
 
-/// The body of the task with the number.
+// The body of the task with the number.
 fn body_of_task(
     alloc: Global,
     draws: &mut SplitMix64,
@@ -47,7 +47,7 @@ fn body_of_task(
     Ok(parts)
 }
 
-/// The task with the number.
+// The task with the number.
 fn generated_task(
     alloc: Global,
     draws: &mut SplitMix64,
@@ -76,7 +76,7 @@ fn generated_task(
     })
 }
 
-/// All tasks.
+// All tasks.
 pub(crate) fn generated_tasks(
     alloc: Global,
     seed: u64,

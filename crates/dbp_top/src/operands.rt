@@ -6,19 +6,19 @@ ghost use Rattle.dbp_top.specs.Commands.{made};
 use dbp_answers::Command;
 use dbp_plan::Name;
 
-/// The operands among the arguments of a command.
+// The operands among the arguments of a command.
 #[derive(Clone, Copy, Debug, PartialEq, Eq)]
 pub(crate) struct Operands {
-    /// A number below 2 ^ 64.
+    // A number below 2 ^ 64.
     pub(crate) number: u64,
-    /// The size of a document.
+    // The size of a document.
     pub(crate) size: u32,
-    /// The name of a task, if one is given.
+    // The name of a task, if one is given.
     pub(crate) name: Option<Name>,
 }
 
-/// What makes a command of the operands among its arguments. The table of commands is a static, which can hold no command that
-/// names a task.
+// What makes a command of the operands among its arguments. The table of commands is a static, which can hold no command that
+// names a task.
 #[derive(Clone, Copy, Debug, PartialEq, Eq)]
 pub(crate) enum Maker {
     Mean,
@@ -27,24 +27,24 @@ pub(crate) enum Maker {
     Cpus,
     CpusRecord,
     Run,
-    /// By the number.
+    // By the number.
     RunTurns,
     Form,
     Upgrade,
     Rank,
     Plan,
     Rta,
-    /// Of the name.
+    // Of the name.
     Need,
     Replay,
     ReplayRanked,
-    /// By the number and the size.
+    // By the number and the size.
     Gen,
-    /// By the number and the size.
+    // By the number and the size.
     Soak,
 }
 
-/// The command that is made of the operands: none if it wants a name that isn't given.
+// The command that is made of the operands: none if it wants a name that isn't given.
 pub(crate) fn made(maker: Maker, given: Operands) -> Option<Command>
     ensures { result ≡ made maker given }
 {

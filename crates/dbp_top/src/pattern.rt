@@ -8,19 +8,19 @@ ghost use Rattle.dbp_top.specs.declared.operands.Operands.{Operands as Given};
 use crate::operands::Operands;
 use dbp_plan::Name;
 
-/// What may stand where a command has an argument.
+// What may stand where a command has an argument.
 pub(crate) enum Pattern {
-    /// This argument.
+    // This argument.
     Exact(&'static str),
-    /// A number after these bytes.
+    // A number after these bytes.
     Number(&'static str),
-    /// A size.
+    // A size.
     Size,
-    /// The name of a task.
+    // The name of a task.
     Name,
 }
 
-/// The operands that are known after the argument, if it fits the pattern.
+// The operands that are known after the argument, if it fits the pattern.
 pub(crate) fn after_argument(
     pattern: &Pattern,
     argument: &str,

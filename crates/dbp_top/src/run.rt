@@ -18,7 +18,7 @@ use std::sync::Wait;
 use std::thread::Threads;
 use trace_io::lines;
 
-/// The status and the text that a run gives to an input that isn't too large. The parties are run by this crew.
+// The status and the text that a run gives to an input that isn't too large. The parties are run by this crew.
 pub(crate) fn run_answer<R: Threads + Wait + Sync, C: Crew>(
     rt: &R,
     alloc: Global,
@@ -60,7 +60,7 @@ fn run_text<R: Threads + Wait + Sync, C: Crew>(
     Ok(lines(alloc, &plan, &table)?)
 }
 
-/// The table that the parties of the plan make. All memory of the run is taken before their first step.
+// The table that the parties of the plan make. All memory of the run is taken before their first step.
 pub(crate) fn run_table<R: Threads + Wait + Sync, C: Crew>(
     rt: &R,
     alloc: Global,

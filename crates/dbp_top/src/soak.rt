@@ -18,7 +18,7 @@ use std::sync::Wait;
 use std::thread::Threads;
 use sync_meaning::mean;
 
-/// The six lines of the generated document. Its tasks are run by this crew.
+// The six lines of the generated document. Its tasks are run by this crew.
 pub(crate) fn soak_text<R: Threads + Wait + Sync, C: Crew>(
     rt: &R,
     alloc: Global,

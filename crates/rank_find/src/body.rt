@@ -9,7 +9,7 @@ ghost use Rattle.rank_find.specs.Orders.{HoldsEachOnce};
 use dbp_plan::{List, Policy};
 use dia_read::{Body, RawTask};
 
-/// The place of the task in the order, from 0.
+// The place of the task in the order, from 0.
 fn place_in(order: &[u32], task: u32) -> u32
     requires { length order.now < 2 ^ 32 }
     ensures { result ≡ place_in order.now task }
@@ -17,7 +17,7 @@ fn place_in(order: &[u32], task: u32) -> u32
     order.iter().take_while(|other| **other != task).count() as u32
 }
 
-/// Gives the tasks priorities that fall along the order.
+// Gives the tasks priorities that fall along the order.
 fn rank_tasks(tasks: &mut [RawTask], order: &[u32])
     requires each { HoldsEachOnce (length tasks.old) order.now }
     requires few { length order.now < 2 ^ 32 }

@@ -12,7 +12,7 @@ use crate::links::is_among;
 use dbp_plan::{List, MAX_TASKS, NoMemory};
 use std::alloc::Global;
 
-/// Of the tasks that the task writes directly to, the one at the least distance, and of these the first.
+// Of the tasks that the task writes directly to, the one at the least distance, and of these the first.
 fn nearest(writers: &[List<u32>], distances: &[u32], task: u32) -> Option<u32>
     requires few { length writers.now ≤ max_tasks }
     requires size { length writers.now ≤ length distances.now }
@@ -31,7 +31,7 @@ fn nearest(writers: &[List<u32>], distances: &[u32], task: u32) -> Option<u32>
     nearest
 }
 
-/// From the start each time to the nearest task, until it is the start again.
+// From the start each time to the nearest task, until it is the start again.
 fn descend(
     alloc: Global,
     writers: &[List<u32>],
@@ -58,7 +58,7 @@ fn descend(
     Ok(None)
 }
 
-/// The first of the shortest cycles from the start.
+// The first of the shortest cycles from the start.
 fn first_cycle_from(
     alloc: Global,
     writers: &[List<u32>],
@@ -76,7 +76,7 @@ fn first_cycle_from(
     descend(alloc, writers, &distances, start)
 }
 
-/// The first cycle, if there is one.
+// The first cycle, if there is one.
 pub(crate) fn first_cycle(
     alloc: Global,
     writers: &[List<u32>],

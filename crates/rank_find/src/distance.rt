@@ -8,12 +8,12 @@ ghost use Rattle.rank_find.specs.declared.distance.TheConstants.{FAR as far};
 
 use dbp_plan::List;
 
-/// Farther than any distance.
+// Farther than any distance.
 pub(crate) const FAR: u32 = u32::MAX;
 
 const _: () = prove!(FAR == 4_294_967_295);
 
-/// Brings these tasks to the distance, if they are farther.
+// Brings these tasks to the distance, if they are farther.
 fn lower(distances: &mut [u32], tasks: &[u32], distance: u32)
     requires { All (λ j. j < length distances.old) tasks.now }
     ensures { AreLowered tasks.now distance distances.old distances.new }
@@ -26,7 +26,7 @@ fn lower(distances: &mut [u32], tasks: &[u32], distance: u32)
     }
 }
 
-/// Brings the writers of all tasks at the distance to one step more, if they are farther.
+// Brings the writers of all tasks at the distance to one step more, if they are farther.
 fn reach(writers: &[List<u32>], distances: &mut [u32], distance: u32)
     requires named { AreNamed writers.now }
     requires size { length writers.now ≤ length distances.old }
@@ -40,7 +40,7 @@ fn reach(writers: &[List<u32>], distances: &mut [u32], distance: u32)
     }
 }
 
-/// How many direct links lead from each task to the start at least. At first the start is at 0, and all else is far.
+// How many direct links lead from each task to the start at least. At first the start is at 0, and all else is far.
 pub(crate) fn measure(writers: &[List<u32>], distances: &mut [u32])
     requires named { AreNamed writers.now }
     requires size { length writers.now ≤ length distances.old }

@@ -15,7 +15,7 @@ use dbp_plan::{Diagram, List, Name, NoMemory};
 use dia_check::Shaped;
 use std::alloc::Global;
 
-/// The names of these tasks.
+// The names of these tasks.
 fn names_of(alloc: Global, diagram: &Diagram, tasks: &[u32]) -> Result<List<Name>, NoMemory>
     requires named { All (λ i. i < length diagram.now.tasks) tasks.now }
     requires few { length tasks.now ≤ MAX_TASKS }

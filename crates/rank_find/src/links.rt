@@ -8,14 +8,14 @@ ghost use Rattle.rank_find.specs.Links.{AreWriters, direct_writers};
 use dbp_plan::{Diagram, Link, List, NoMemory};
 use std::alloc::Global;
 
-/// Whether the number is one of these.
+// Whether the number is one of these.
 pub(crate) fn is_among(number: u32, numbers: &[u32]) -> bool
     ensures { IsTrue result ↔ Contains numbers.now number }
 {
     numbers.contains(&number)
 }
 
-/// The tasks that write directly to the reader.
+// The tasks that write directly to the reader.
 fn direct_writers(alloc: Global, links: &[Link], reader: u32) -> Result<List<u32>, NoMemory>
     requires { length links.now ≤ MAX_READ_LINES }
     ensures { IfOk result (λ writers. writers ≡ direct_writers links.now reader) }
@@ -29,7 +29,7 @@ fn direct_writers(alloc: Global, links: &[Link], reader: u32) -> Result<List<u32
     Ok(writers)
 }
 
-/// For each task those that write directly to it.
+// For each task those that write directly to it.
 pub(crate) fn writers_by_task(alloc: Global, diagram: &Diagram) -> Result<List<List<u32>>, NoMemory>
     requires { IsClosed diagram.now }
     ensures { IfOk result (λ writers. AreWriters diagram.now writers) }

@@ -10,7 +10,7 @@ use crate::links::is_among;
 use dbp_plan::{Clock, Diagram, List, NoMemory};
 use std::alloc::Global;
 
-/// Whether the one clock is of the shorter period; an event is longer than all periods.
+// Whether the one clock is of the shorter period; an event is longer than all periods.
 fn is_shorter(clock: Clock, other: Clock) -> bool
     ensures { result ≡ is_shorter clock other }
 {
@@ -21,7 +21,7 @@ fn is_shorter(clock: Clock, other: Clock) -> bool
     }
 }
 
-/// Whether the one task is before the other.
+// Whether the one task is before the other.
 fn is_first_of(diagram: &Diagram, task: u32, other: u32) -> bool
     requires { (task < length diagram.now.tasks) × (other < length diagram.now.tasks) }
     ensures { result ≡ is_first_of diagram.now task other }
@@ -32,7 +32,7 @@ fn is_first_of(diagram: &Diagram, task: u32, other: u32) -> bool
     is_shorter(clock, another) || (!is_shorter(another, clock) && task < other)
 }
 
-/// Whether the task is before the other, if there is another.
+// Whether the task is before the other, if there is another.
 fn is_before(diagram: &Diagram, task: u32, other: Option<u32>) -> bool
     requires task { task < length diagram.now.tasks }
     requires other { IfSome other (λ other. other < length diagram.now.tasks) }
@@ -44,7 +44,7 @@ fn is_before(diagram: &Diagram, task: u32, other: Option<u32>) -> bool
     }
 }
 
-/// Whether all of these writers are placed.
+// Whether all of these writers are placed.
 fn is_ready(writers: &[u32], placed: &[u32]) -> bool
     ensures { MatchBool result (IsReady writers.now placed.now) (IsUnready writers.now placed.now) }
 {
@@ -56,7 +56,7 @@ fn is_ready(writers: &[u32], placed: &[u32]) -> bool
     true
 }
 
-/// Whether the task isn't placed, and all that write directly to it are.
+// Whether the task isn't placed, and all that write directly to it are.
 fn is_free(diagram: &Diagram, writers: &[List<u32>], placed: &[u32], task: u32) -> bool
     requires writers { AreWriters diagram.now writers.now }
     requires task { task < length diagram.now.tasks }
@@ -66,7 +66,7 @@ fn is_free(diagram: &Diagram, writers: &[List<u32>], placed: &[u32], task: u32) 
     !is_among(task, placed) && is_ready(writers[task as usize].items(), placed)
 }
 
-/// The first of the free tasks.
+// The first of the free tasks.
 fn first_free(diagram: &Diagram, writers: &[List<u32>], placed: &[u32]) -> Option<u32>
     requires { AreWriters diagram.now writers.now }
     ensures { MatchOption result (AllWait diagram.now placed.now) (IsFirstFree diagram.now placed.now) }
@@ -80,7 +80,7 @@ fn first_free(diagram: &Diagram, writers: &[List<u32>], placed: &[u32]) -> Optio
     first
 }
 
-/// The order of the tasks, as far as it goes: each time the first of the free tasks.
+// The order of the tasks, as far as it goes: each time the first of the free tasks.
 pub(crate) fn front_of_order(
     alloc: Global,
     diagram: &Diagram,

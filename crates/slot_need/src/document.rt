@@ -21,7 +21,7 @@ use dia_read::{Body, canonical_text_spells, each_item_has_a_line};
 use rank_order::each_plan_has_one_service;
 use std::alloc::Global;
 
-/// The body with the scenario of the task.
+// The body with the scenario of the task.
 fn scenario_body(alloc: Global, body: Body, diagram: &Diagram, task: u32) -> Result<Body, NeedFail>
     requires ranked { IsRanked diagram.now }
     requires task { task < length diagram.now.tasks }

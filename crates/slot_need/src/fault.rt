@@ -9,14 +9,14 @@ use crate::NeedFail;
 use crate::firings::scenario_end;
 use dbp_plan::{Clock, Diagram, MAX_TIME, ServedBy, Task};
 
-/// Whether the task is periodic, or occurs only where an input isn't 0.
+// Whether the task is periodic, or occurs only where an input isn't 0.
 fn is_off_events(task: &Task) -> bool
     ensures { result ≡ is_off_events task.now }
 {
     matches!(task.clock, Clock::Every { .. }) || task.when.is_some()
 }
 
-/// Whether both clocks are the same event.
+// Whether both clocks are the same event.
 fn is_same_event(a: Clock, b: Clock) -> bool
     ensures { result ≡ is_same_event a b }
 {
@@ -26,14 +26,14 @@ fn is_same_event(a: Clock, b: Clock) -> bool
     }
 }
 
-/// Whether one of the tasks is on this event.
+// Whether one of the tasks is on this event.
 fn is_taken(tasks: &[Task], clock: Clock) -> bool
     ensures { result ≡ list_any (λ t. is_same_event t.clock clock) tasks.now }
 {
     tasks.iter().any(|task| is_same_event(task.clock, clock))
 }
 
-/// Whether the task is on the event of an earlier one.
+// Whether the task is on the event of an earlier one.
 fn is_sharing(diagram: &Diagram, task: u32) -> bool
     requires { task < length diagram.now.tasks }
     ensures { result ≡ is_sharing diagram.now task }
@@ -43,7 +43,7 @@ fn is_sharing(diagram: &Diagram, task: u32) -> bool
     is_taken(&tasks[..task], tasks[task].clock)
 }
 
-/// The first task that is on the event of an earlier one.
+// The first task that is on the event of an earlier one.
 fn first_sharing(diagram: &Diagram) -> Option<u32>
     ensures { result ≡ find (is_sharing diagram.now) (range_with_len 0 (length diagram.now.tasks)) }
 {
@@ -55,14 +55,14 @@ fn first_sharing(diagram: &Diagram) -> Option<u32>
     None
 }
 
-/// The first task that is periodic, or occurs only where an input isn't 0.
+// The first task that is periodic, or occurs only where an input isn't 0.
 fn first_off_events(tasks: &[Task]) -> Option<usize>
     ensures { result ≡ position is_off_events tasks.now }
 {
     tasks.iter().position(|task| is_off_events(task))
 }
 
-/// Why the task has no scenario, if it has none.
+// Why the task has no scenario, if it has none.
 pub(crate) fn fault(diagram: &Diagram, task: u32) -> Option<NeedFail>
     requires ranked { IsRanked diagram.now }
     requires task { task < length diagram.now.tasks }

@@ -10,12 +10,12 @@ use arrayvec::ArrayVec;
 use dbp_plan::{Clock, Diagram, Link, MAX_TASKS, Task};
 use dbp_slots::counts;
 
-/// Readers of a task, at most.
+// Readers of a task, at most.
 const MAX_READERS: usize = MAX_TASKS as usize;
 
 const _: () = prove!(MAX_READERS == 32);
 
-/// Whether some link leads from the task to the reader.
+// Whether some link leads from the task to the reader.
 fn is_linked(links: &[Link], task: u32, reader: u32) -> bool
     ensures { result ≡ list_any (λ l. (l.writer == task) && (l.reader == reader)) links.now }
 {
@@ -24,7 +24,7 @@ fn is_linked(links: &[Link], task: u32, reader: u32) -> bool
         .any(|link| link.writer == task && link.reader == reader)
 }
 
-/// Whether the other task reads the task and is ranked below it.
+// Whether the other task reads the task and is ranked below it.
 fn is_lower_reader(diagram: &Diagram, task: u32, other: u32) -> bool
     requires ranked { IsRanked diagram.now }
     requires task { task < length diagram.now.tasks }
@@ -35,7 +35,7 @@ fn is_lower_reader(diagram: &Diagram, task: u32, other: u32) -> bool
     ranks[task as usize] < ranks[other as usize] && is_linked(diagram.links.items(), task, other)
 }
 
-/// The readers that are ranked below the task, each once, by number.
+// The readers that are ranked below the task, each once, by number.
 pub(crate) fn lower_readers(diagram: &Diagram, task: u32) -> ArrayVec<u32, MAX_READERS>
     requires ranked { IsRanked diagram.now }
     requires task { task < length diagram.now.tasks }
@@ -50,7 +50,7 @@ pub(crate) fn lower_readers(diagram: &Diagram, task: u32) -> ArrayVec<u32, MAX_R
     readers
 }
 
-/// How many firings are a group.
+// How many firings are a group.
 fn group_size(diagram: &Diagram, task: u32) -> u32
     requires ranked { IsRanked diagram.now }
     requires task { task < length diagram.now.tasks }
@@ -61,7 +61,7 @@ fn group_size(diagram: &Diagram, task: u32) -> u32
     counts(diagram, task).delayed + 1
 }
 
-/// How often the task fires.
+// How often the task fires.
 pub(crate) fn firing_count(diagram: &Diagram, task: u32) -> u32
     requires ranked { IsRanked diagram.now }
     requires task { task < length diagram.now.tasks }
@@ -73,7 +73,7 @@ pub(crate) fn firing_count(diagram: &Diagram, task: u32) -> u32
     (readers + 1) * group_size(diagram, task)
 }
 
-/// The tick after the last firing.
+// The tick after the last firing.
 pub(crate) fn scenario_end(diagram: &Diagram, task: u32) -> u64
     requires ranked { IsRanked diagram.now }
     requires task { task < length diagram.now.tasks }
@@ -83,14 +83,14 @@ pub(crate) fn scenario_end(diagram: &Diagram, task: u32) -> u64
     u64::from(firing_count(diagram, task) - 1) * cost + 1
 }
 
-/// The place of the task among the readers.
+// The place of the task among the readers.
 fn place_of(readers: &[u32], task: u32) -> Option<usize>
     ensures { result ≡ position (λ r. r == task) readers.now }
 {
     readers.iter().position(|reader| *reader == task)
 }
 
-/// At which firings of the task the other task fires, if these are the readers below it.
+// At which firings of the task the other task fires, if these are the readers below it.
 fn firing_of_task(diagram: &Diagram, task: u32, readers: &[u32], other: u32) -> Firing
     requires ranked { IsRanked diagram.now }
     requires task { task < length diagram.now.tasks }
@@ -108,7 +108,7 @@ fn firing_of_task(diagram: &Diagram, task: u32, readers: &[u32], other: u32) -> 
     }
 }
 
-/// Whether the clock is the event.
+// Whether the clock is the event.
 fn is_on(event: u32, clock: Clock) -> bool
     ensures { result ≡ is_on event clock }
 {
@@ -118,14 +118,14 @@ fn is_on(event: u32, clock: Clock) -> bool
     }
 }
 
-/// The first of the tasks that is on the event.
+// The first of the tasks that is on the event.
 fn first_on(tasks: &[Task], event: u32) -> Option<usize>
     ensures { result ≡ position (λ t. is_on event t.clock) tasks.now }
 {
     tasks.iter().position(|task| is_on(event, task.clock))
 }
 
-/// At which firings of the task the event occurs, if these are the readers below the task.
+// At which firings of the task the event occurs, if these are the readers below the task.
 pub(crate) fn firing_of_event(diagram: &Diagram, task: u32, readers: &[u32], event: u32) -> Firing
     requires ranked { IsRanked diagram.now }
     requires task { task < length diagram.now.tasks }

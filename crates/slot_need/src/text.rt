@@ -12,7 +12,7 @@ use dbp_plan::{Diagram, List, Name, NoMemory};
 use itoa::Buffer;
 use std::alloc::Global;
 
-/// Adds the names of the columns, each after a comma.
+// Adds the names of the columns, each after a comma.
 fn push_names(text: &mut List<u8>, events: &[Name], columns: &[Column]) -> Result<(), NoMemory>
     requires named { All (λ c. c.event < length events.now) columns.now }
     requires few { length columns.now ≤ 16 }
@@ -27,7 +27,7 @@ fn push_names(text: &mut List<u8>, events: &[Name], columns: &[Column]) -> Resul
     Ok(())
 }
 
-/// Adds the header, and ends the line.
+// Adds the header, and ends the line.
 fn push_header(text: &mut List<u8>, events: &[Name], columns: &[Column]) -> Result<(), NoMemory>
     requires named { All (λ c. c.event < length events.now) columns.now }
     requires few { length columns.now ≤ 16 }
@@ -40,7 +40,7 @@ fn push_header(text: &mut List<u8>, events: &[Name], columns: &[Column]) -> Resu
     text.push(b'\n')
 }
 
-/// Adds the cells of the firing's row, each after a comma.
+// Adds the cells of the firing's row, each after a comma.
 fn push_cells(text: &mut List<u8>, columns: &[Column], firing: u32) -> Result<(), NoMemory>
     requires few { length columns.now ≤ 16 }
     requires room { length text.old ≤ 100000 }
@@ -56,7 +56,7 @@ fn push_cells(text: &mut List<u8>, columns: &[Column], firing: u32) -> Result<()
     Ok(())
 }
 
-/// Adds the row of the firing at this time, and ends the line.
+// Adds the row of the firing at this time, and ends the line.
 fn push_row(text: &mut List<u8>, columns: &[Column], time: u64, firing: u32) -> Result<(), NoMemory>
     requires few { length columns.now ≤ 16 }
     requires room { length text.old ≤ 90000 }
@@ -68,7 +68,7 @@ fn push_row(text: &mut List<u8>, columns: &[Column], time: u64, firing: u32) -> 
     text.push(b'\n')
 }
 
-/// The trace section of the task's scenario: a row for each firing.
+// The trace section of the task's scenario: a row for each firing.
 pub(crate) fn scenario_trace(
     alloc: Global,
     diagram: &Diagram,
