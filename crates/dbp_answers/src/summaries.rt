@@ -10,8 +10,7 @@ use dbp_plan::{NoMemory, Plan, Table, TaskRows};
 use dbp_rules::value_to_word;
 use itoa::Buffer;
 use std::alloc::Global;
-use std::rc::Rc;
-use virtual_sim::{SimFail, simulate_table_shared};
+use virtual_sim::{SimFail, simulate_table};
 
 /// The six lines of the plan, its meaning's table, and the line of its simulation. The last one says that the table of
 /// its run is the same, which the caller has proved.
@@ -87,10 +86,10 @@ fn with_values(total: u64, values: &[i64]) -> u64
 }
 
 /// What the simulation of the plan comes to: its table is the meaning's, or a release overruns.
-pub fn simulation_line(alloc: Global, plan: &Rc<Plan>) -> Result<Vec<u8>, NoMemory>
-    ensures { IfOk result (λ line. IsSimulationLine plan.now.value line.items) }
+pub fn simulation_line(alloc: Global, plan: &Plan) -> Result<Vec<u8>, NoMemory>
+    ensures { IfOk result (λ line. IsSimulationLine plan.now line.items) }
 {
-    let Err(fail) = simulate_table_shared(alloc, plan) else {
+    let Err(fail) = simulate_table(alloc, plan) else {
         return same_line(alloc);
     };
     late_line(alloc, plan, fail)

@@ -13,7 +13,6 @@ use dbp_answers::{generated_plan, simulation_line, summary};
 use dbp_plan::{NoMemory, Plan};
 use party_exec::Crew;
 use std::alloc::Global;
-use std::rc::Rc;
 use std::sync::Wait;
 use std::thread::Threads;
 use sync_meaning::mean;
@@ -34,19 +33,18 @@ pub(crate) fn soak_text<R: Threads + Wait + Sync, C: Crew>(
         (λ _. RunsAfter OutOfMemory (Some (generated_text seed size)) (C.runs crew.old) (C.runs crew.new)) }
 {
     let plan = generated_plan(alloc, seed, size)?;
-    let shared = Rc::new(alloc, plan)?;
-    plan_summary(rt, alloc, &shared, crew)
+    plan_summary(rt, alloc, &plan, crew)
 }
 
 // The six lines of the plan. The table of its run is the meaning's, so nothing is left to compare.
 fn plan_summary<R: Threads + Wait + Sync, C: Crew>(
     rt: &R,
     alloc: Global,
-    plan: &Rc<Plan>,
+    plan: &Plan,
     crew: &mut C,
 ) -> Result<Vec<u8>, NoMemory>
-    ensures text { IfOk result (λ text. IsSummary plan.now.value text.items) }
-    ensures runs { RanOnce plan.now.value (C.runs crew.old) (C.runs crew.new) result }
+    ensures text { IfOk result (λ text. IsSummary plan.now text.items) }
+    ensures runs { RanOnce plan.now (C.runs crew.old) (C.runs crew.new) result }
 {
     let table = mean(alloc, plan)?;
     let simulation = simulation_line(alloc, plan)?;
