@@ -5,7 +5,7 @@ ghost use Rattle.party_turns.specs.Parties.{Belongs};
 ghost use Rattle.party_exec.specs.Jobs.{IsCountedTurn, IsJob, IsNextJob, MakesJobs, idle_after, number_of};
 
 use crate::bell::Bell;
-use crate::concern::{awaited, concerned, instances_done, releaser_number};
+use crate::concern::{concerned, instances_done, releaser_number};
 use crate::pace::Pace;
 use crate::round::Round;
 use crate::waiting::Waiting;
@@ -38,24 +38,26 @@ pub(crate) fn jobs<R: Wait, P: Pace>(
     let bell = round.bell(number_in(words, party));
     bell.say_done(instances_done(party));
     let waiting = round.begin(rt);
-    make_jobs(rt, pace, words, round, waiting, party);
+    make_jobs(rt, pace, words, round, waiting, MOST_JOBS, party);
     if !party.has_finished(words) {
         round.end();
     }
 }
 
-fn make_jobs<R: Wait, P: Pace>(
+// The party's next jobs, so many in a row.
+pub(crate) fn make_jobs<R: Wait, P: Pace>(
     rt: &R,
     pace: &P,
     words: &SlotWords,
     round: &Round,
     waiting: Waiting,
+    count: u32,
     party: &mut Party,
 )
     requires { Belongs words.now party.old }
-    ensures { MakesJobs words.now party.old 64 party.new }
+    ensures { MakesJobs words.now party.old count party.new }
 {
-    for _ in 0..MOST_JOBS {
+    for _ in 0..count {
         next_job(rt, pace, words, round, waiting, party);
     }
 }
@@ -121,7 +123,7 @@ fn make_turns<R: Wait, P: Pace>(
         waiting = match idle {
             0 => waiting.ended(bell),
             idle if idle < IDLE_BEFORE_WAIT => waiting,
-            _ => waiting.going_on(rt, round, bell, awaited(words, party)),
+            _ => waiting.going_on(rt, round, bell, words, party),
         };
     }
 }

@@ -16,8 +16,7 @@ const MOST_PARTIES: usize = MAX_TASKS as usize + 1;
 
 const _: () = prove!(MOST_PARTIES == 33);
 
-// So many loads are shared among the pairs of jobs: the more jobs there are, the sooner another one needs the processor. On one
-// processor nobody rings while a job watches, so there it sleeps at once.
+// So many loads are shared among the pairs of threads: the more there are, the sooner another one needs the processor.
 const LOADS: usize = 16384;
 
 // Their meeting, if they hold one, a bell for each party, by the party's number, and whether a thread has made its last job
@@ -32,22 +31,18 @@ pub(crate) struct Round {
 }
 
 impl Round {
-    pub(crate) fn new(jobs: usize, is_met: bool, is_on_one_processor: bool) -> Round
-        requires { 0 < jobs }
+    pub(crate) fn new(threads: usize, is_met: bool) -> Round
+        requires { 0 < threads }
     {
         Round {
             meeting: if is_met {
-                Some(Meeting::new(jobs))
+                Some(Meeting::new(threads))
             } else {
                 None
             },
             bells: array::from_fn(|_: usize| Bell::new()),
             is_ending: AtomicBool::new(false),
-            loads: if is_on_one_processor {
-                0
-            } else {
-                LOADS / jobs / jobs
-            },
+            loads: LOADS / threads / threads,
         }
     }
 

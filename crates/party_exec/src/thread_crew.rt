@@ -11,11 +11,12 @@ ghost use Rattle.party_exec.specs.Jobs.{HaveRounds, MakeJobs, MakesJobs};
 use crate::all_parties::have_finished;
 use crate::crew::Crew;
 use crate::crew_entry::CrewEntry;
-use crate::job::jobs;
+use crate::job::{jobs, make_jobs};
 use crate::meetings::Meetings;
 use crate::pace::{FreePace, Pace};
 use crate::round::Round;
 use crate::runs::Runs;
+use crate::waiting::Waiting;
 use dbp_plan::{NoMemory, Plan};
 use party_turns::Party;
 use std::alloc::Global;
@@ -25,7 +26,8 @@ use std::thread::Threads;
 use word_rule::SlotWords;
 
 /// A crew with a thread for each party. It works in rounds, in each of which every party is a job. That each job has a thread of
-/// its own, no clause says.
+/// its own, no clause says. A run without a pace where the threads would have one processor alone makes all jobs on one thread,
+/// in turn.
 #[derive(Drop)]
 pub struct ThreadCrew<P: Pace> {
     pace: P,
@@ -108,7 +110,12 @@ impl Crew for ThreadCrew<FreePace> {
         ensures seed { no_seed self.new ≡ no_seed self.old }
         ensures last_seed { no_seed self.new ≡ no_seed self.old }
     {
-        self.run_paced(rt, words, parties)
+        if is_on_one_processor(rt) {
+            run_rounds_in_turn(rt, words, parties);
+            self.runs.close(words, parties);
+        } else {
+            self.run_paced(rt, words, parties);
+        }
     }
 }
 
@@ -159,7 +166,7 @@ fn rounds<R: Threads + Wait + Sync, P: Pace>(
         return false;
     }
     let threads = parties.len();
-    let round = Round::new(threads, is_met, is_on_one_processor(rt));
+    let round = Round::new(threads, is_met);
     thread::for_each_mut(
         rt,
         parties,
@@ -170,4 +177,42 @@ fn rounds<R: Threads + Wait + Sync, P: Pace>(
         { jobs(rt, pace, words, &round, party) },
     );
     round.was_given_up()
+}
+
+// Rounds until all parties have finished, on this thread: on one processor the others would only wait for each other.
+fn run_rounds_in_turn<R: Threads + Wait + Sync>(rt: &R, words: &SlotWords, parties: &mut [Party])
+    requires { AreFresh words.now parties.old }
+    ensures rounds { HaveRounds words.now parties.old parties.new }
+    ensures same { AreSameParties parties.old parties.new }
+    ensures finished { HaveFinished words.now parties.new }
+{
+    let round = Round::new(1, false);
+    for _ in rt.forever() {
+        if have_finished(words, parties) {
+            return;
+        }
+        round_in_turn(rt, words, &round, parties);
+    }
+    unreachable!()
+}
+
+// A round: a job of each party in turn, on this thread. None waits.
+fn round_in_turn<R: Threads + Wait + Sync>(
+    rt: &R,
+    words: &SlotWords,
+    round: &Round,
+    parties: &mut [Party],
+)
+    requires { All (Belongs words.now) parties.old }
+    ensures { MakeJobs words.now parties.old 1 parties.new }
+{
+    thread::for_each_mut(
+        rt,
+        parties,
+        1,
+        &|_: usize, party: &mut Party|
+            requires { Belongs words.now party.now }
+            ensures { MakesJobs words.entry.now party.entry.now 1 party.exit.now }
+        { make_jobs(rt, &FreePace, words, round, Waiting::Never, 1, party) },
+    );
 }

@@ -52,9 +52,14 @@
 // a look, or left to a writer at its gate, waits for a writer that is ranked above it. So of the tasks whose aimed instance
 // hasn't ended the highest one waits for nobody; and if there is none, the releaser doesn't wait.
 
+ghost use Rattle.party_turns.specs.Parties.{Belongs};
+
 use crate::bell::Bell;
+use crate::concern::awaited;
 use crate::round::Round;
+use party_turns::Party;
 use std::sync::Wait;
+use word_rule::SlotWords;
 
 // What a job has said of its waiting.
 #[derive(Clone, Copy)]
@@ -81,17 +86,20 @@ impl Waiting {
         }
     }
 
-    // After a turn that was idle; the job waits for a step of the awaited party. Its next turn looks once more.
+    // After a turn of the party that was idle. The next turn of the job looks once more.
     pub(crate) fn going_on<R: Wait>(
         self,
         rt: &R,
         round: &Round,
         bell: &Bell,
-        awaited: Option<u32>,
-    ) -> Waiting {
+        words: &SlotWords,
+        party: &Party,
+    ) -> Waiting
+        requires { Belongs words.now party.now }
+    {
         match self {
             Waiting::Never => self,
-            Waiting::No => begun(round, bell, awaited),
+            Waiting::No => begun(round, bell, awaited(words, party)),
             Waiting::Watching { rings } => watched(round, bell, rings),
             Waiting::Sleeping { rings } => {
                 bell.sleep(rt, rings);
