@@ -99,8 +99,8 @@ CHANGES = {
             "    let turn = paced_turn(pace, words, party);\n",
     }),
     "no_look": Change("a job that has said that it waits and sleeps doesn't look again", "waiting.rt", {
-        "Waiting::No => begun(round, bell, awaited),":
-            "Waiting::No => match begun(round, bell, awaited) {\n"
+        "Waiting::No => begun(round, bell, awaited(words, party)),":
+            "Waiting::No => match begun(round, bell, awaited(words, party)) {\n"
             "                Waiting::Watching { rings } => match watched(round, bell, rings) {\n"
             "                    Waiting::Sleeping { rings } => " + SLEEP + "\n"
             "                    other => other,\n"

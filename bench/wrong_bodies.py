@@ -1,12 +1,12 @@
 #!/usr/bin/env python3
 """Plants a wrong body in each of many functions of a crate at once, and says which of them are still proved.
 
-  bench/wrong_bodies.py [--most N] [--from N] [--keep FOLDER] CRATE ..
+  bench/wrong_bodies.py [--form N] [--most N] [--from N] [--keep FOLDER] CRATE ..
 
 bench/wrong_bodies/CRATE.txt has a line for each wrong body: the file and the function (`codes.rt::name#2` is the second
 `name` of that file), a text that its body has once, what is put in its place, and what is wrong with that, with tabs between.
-The first wrong body of at most so many functions (12, from the N-th) is planted in a copy of what is committed, and `rt check
---allow-holes` proves that copy. Each function is proved against the contracts of those that it calls, so it doesn't matter
+The first wrong body (or the one that --form tells) of at most so many functions (12, from the N-th) is planted in a copy of
+what is committed, and `rt check --allow-holes` proves that copy. Each function is proved against the contracts of those that it calls, so it doesn't matter
 that these are wrong too. Of each wrong body a line says
 
   refused    its contract, or that it is safe, isn't proved by a search any more
@@ -30,7 +30,7 @@ from pathlib import Path
 TOP = Path(__file__).resolve().parent.parent
 LISTS = TOP / "bench" / "wrong_bodies"
 FUNCTION = re.compile(r"^(\s*)(?:pub(?:\([a-z]+\))? )?(?:const )?fn (\w+)")
-IMPL = re.compile(r"impl(?:<[^{]*?>)? (?:(?P<trait>[\w:]+)(?:<(?P<from>\w+)>)? for )?(?P<type>\w+)")
+IMPL = re.compile(r"impl(?P<params><[^{]*?>)? (?:(?P<trait>[\w:]+)(?:<(?P<from>\w+)>)? for )?(?P<type>\w+)(?:<(?P<of>\w+)>)?")
 NOT_PROVED = re.compile(r"did not prove")
 NAME_IS_GONE = re.compile(r"that can be named|is not in scope|has no field|is no name|was not admitted|were not admitted")
 
@@ -62,21 +62,24 @@ class Body:
     end: int
 
 
-def listed(crate):
-    """Returns the wrong bodies of a crate, one of each function."""
+def listed(crate, form):
+    """Returns the wrong bodies of a crate: of each function the one with this number, if it has so many."""
     lines = (LISTS / f"{crate}.txt").read_text(encoding="utf-8").splitlines()
-    first = {}
+    bodies = {}
     for line in lines:
         wrong = Wrong(*line.split("\t")[:4])
-        first.setdefault(wrong.place, wrong)
-    return [*first.values()]
+        bodies.setdefault(wrong.place, []).append(wrong)
+    return [it[form - 1] for it in bodies.values() if len(it) >= form]
 
 
 def type_of(head):
     """Returns how the check names the type of an `impl`, with the trait if there is one."""
     found = IMPL.match(head)
     trait = (found["trait"] or "").rpartition("::")[2] if found else ""
-    return found["type"] + trait + (found["from"] or "" if trait == "From" else "") if found else ""
+    if not found:
+        return ""
+    of = "" if found["params"] else found["of"] or ""
+    return found["type"] + of + trait + (found["from"] or "" if trait == "From" else "")
 
 
 def bodies_of(text, module):
@@ -144,14 +147,39 @@ def checked(folder, crate):
     return ran.stdout.decode(errors="replace")
 
 
+def named_in(path, lines):
+    """Returns the name under which a check speaks of a function: a method stands in its type's module, wherever its `impl` is."""
+    crate, *module, name = path.split("::")
+    if not module or not module[-1][0].isupper():
+        return path
+    method = re.compile(rf"fn ({crate}::(?:\w+::)+{re.escape(module[-1])}::{name}): ")
+    others = {it[1] for it in map(method.match, lines) if it}
+    return others.pop() if len(others) == 1 else path
+
+
+def answers_of(path):
+    """Returns a pattern of the errors in what is written of a function's proof. Functions that call each other share a file, where
+    each answer begins with its function's name."""
+    *module, name = map(re.escape, path.split("::")[1:])
+    place = "".join(f"{it}/" for it in module)
+    return re.compile(rf"(\./)?proofs/{place}({name}/.*: error|\+\w+/.*: error: `{name}-)")
+
+
+def closures_of(path):
+    """Returns how the lines of a function's closures begin."""
+    module, _, name = path.rpartition("::")
+    return f"fn {module}::fn::{name}::"
+
+
 def verdict_of(path, said):
     """Returns what a check said of a function."""
     if not path:
         return "no place"
-    lines = said.splitlines()
-    own = [it for it in lines if it.startswith(f"fn {path}: ")]
-    answers = "proofs/" + "/".join(path.split("::")[1:]) + "/"
-    errors = [it for it in lines if it.removeprefix("./").startswith(answers) and ": error" in it]
+    # an error goes on in lines that are indented
+    lines = re.sub("\n {2,}", " ", said).splitlines()
+    path = named_in(path, lines)
+    own = [it for it in lines if it.startswith((f"fn {path}: ", closures_of(path)))]
+    errors = [it for it in lines if answers_of(path).match(it)]
     if any(NOT_PROVED.search(it) for it in own):
         return "refused"
     if errors:
@@ -161,7 +189,7 @@ def verdict_of(path, said):
 
 def tried(crate, options):
     """Yields the wrong bodies of a crate with their verdicts."""
-    wrongs = listed(crate)[options.first : options.first + options.most]
+    wrongs = listed(crate, options.form)[options.first : options.first + options.most]
     with tempfile.TemporaryDirectory() as room:
         folder = Path(room, "copy")
         subprocess.run(["git", "clone", "--quiet", TOP, folder], check=True)
@@ -173,9 +201,17 @@ def tried(crate, options):
     yield from ((wrong, verdict_of(names[wrong], said)) for wrong in wrongs)
 
 
+def positive(text):
+    """Returns the number from 1 on that the text is."""
+    if not re.fullmatch("[1-9][0-9]*", text):
+        raise argparse.ArgumentTypeError(f"{text} is no number from 1 on")
+    return int(text)
+
+
 def read_options():
     parser = argparse.ArgumentParser(description=__doc__, formatter_class=argparse.RawDescriptionHelpFormatter)
     parser.add_argument("crates", nargs="+", metavar="CRATE", choices=sorted(it.stem for it in LISTS.glob("*.txt")))
+    parser.add_argument("--form", type=positive, default=1, metavar="N", help="the N-th wrong body of each function (1)")
     parser.add_argument("--most", type=int, default=12, help="so many functions of each crate (12)")
     parser.add_argument("--from", dest="first", type=int, default=0, metavar="N", help="from this one on (0)")
     parser.add_argument("--keep", type=Path, help="a folder for what the checks print")
