@@ -27,6 +27,7 @@ from language_client import SECONDS, SERVER, Client, Hangs, framed, parsed  # no
 from program import run_program  # noqa: E402
 from serving import server as serving  # noqa: E402
 from serving.framing import BadMessage, read_message  # noqa: E402
+from serving.judge import Asked, Judge  # noqa: E402
 from serving.texts import Text, bytes_of, lines_with_ends  # noqa: E402
 
 EXAMPLES = TOP / "examples"
@@ -400,6 +401,24 @@ def closed_output(program):
     finally:
         os.close(sink)
     must(ran.returncode == 5 and not ran.stderr, f"the status is {ran.returncode}; it said {ran.stderr[-300:]!r}")
+
+
+class StoppedAsItBegins(Judge):
+    """A judge that another thread stops right after its process has begun."""
+
+    def begin(self):
+        """Returns the process, which has ended."""
+        process = super().begin()
+        self.stop()
+        return process
+
+
+def ended_while_judging(program):
+    """Compares what is said of a document when the server ends while it is judged: a failure, and nothing is raised."""
+    judge = StoppedAsItBegins(str(program), None)
+    verdict = judge.verdict_on(Asked(URI, 1, text_of(ALARM).encode()))
+    must(verdict.messages is None and verdict.failure, f"the verdict is {verdict}")
+    must(judge.process is None, "its process isn't ended")
 
 
 def stopped(program, number):
@@ -856,7 +875,8 @@ def steps_of(text):
 def trials(program):
     """Yields the trials: a name, and a call that returns what differs, or nothing."""
     for trial in (examples_asked, typed, texts_by_ranges, changed_by_ranges, large, no_messages, odd_messages, closed_output,
-                  no_program, out_of_date, renamed, laid_out, hovered, places_of_names, completed, fixed, heard):
+                  ended_while_judging, no_program, out_of_date, renamed, laid_out, hovered, places_of_names, completed,
+                  fixed, heard):
         yield trial.__name__.replace("_", " "), partial(fault_of, trial, program)
     for name in ("no header", "a text that is no JSON", "a list"):
         yield name, partial(fault_of, no_message, program, NO_MESSAGES[name])

@@ -9,7 +9,7 @@ from contextlib import suppress
 from pathlib import Path
 from typing import NamedTuple, Optional
 
-from ending import Ended, reason_of, running_programs
+from ending import Ended, Status, reason_of, running_programs
 from program import BUILT, LAUNCHER, CannotRun, run_program
 
 SCRIPT = Path(__file__).resolve().parent.parent / "language_server"
@@ -34,7 +34,10 @@ class Verdict(NamedTuple):
 
 
 class Judge:
-    """Judges the newest version of each document, in a thread of its own, and hands the verdicts on."""
+    """Judges the newest version of each document, in a thread of its own, and hands the verdicts on.
+
+    That thread alone starts the process, speaks with it and closes its streams; other threads only terminate it.
+    """
 
     def __init__(self, program, take):
         self.program = program
@@ -42,6 +45,7 @@ class Judge:
         self.wanted = {}
         self.changed = threading.Condition()
         self.process = None
+        self.is_stopped = False
         self.current, self.since = None, 0.0
         self.ready = threading.Event()  # set when the program is there
 
@@ -63,6 +67,15 @@ class Judge:
         is_old = self.current is not None and self.current.uri == uri
         if is_old and time.monotonic() - self.since > PATIENCE and self.process is not None:
             self.process.terminate()
+
+    def stop(self):
+        """Ends the process, and lets no other one begin."""
+        with self.changed:
+            self.is_stopped = True
+            process = self.process
+        if process is not None:
+            process.terminate()
+            process.wait()
 
     def serve(self):
         """Judges what is wanted, for ever."""
@@ -106,35 +119,39 @@ class Judge:
 
     def answer(self, text):
         """Returns what the process says of a text, or nothing if it ends."""
-        self.begin()
+        process = self.begin()
         with suppress(OSError):
-            self.process.stdin.write(b"%d\n" % len(text))
-            self.process.stdin.write(text)
-            self.process.stdin.flush()
-            line = self.process.stdout.readline()
+            process.stdin.write(b"%d\n" % len(text))
+            process.stdin.write(text)
+            process.stdin.flush()
+            line = process.stdout.readline()
             if line.endswith(b"\n"):
                 return line
         self.end()
         return None
 
     def begin(self):
-        """Starts the process if it doesn't run."""
-        if self.process is None:
-            pipe = subprocess.PIPE
-            words = [sys.executable, "-S", str(SCRIPT), "--judge", "--program", self.program]
-            try:
-                self.process = subprocess.Popen(words, stdin=pipe, stdout=pipe)
-            except OSError as error:
-                raise CannotRun(f"{sys.executable}: {reason_of(error)}") from error
-            running_programs.add(self.process)
+        """Returns the process, which is started if it doesn't run."""
+        with self.changed:
+            if self.is_stopped:
+                raise Ended(Status.DONE, "the server ends")
+            if self.process is None:
+                pipe = subprocess.PIPE
+                words = [sys.executable, "-S", str(SCRIPT), "--judge", "--program", self.program]
+                try:
+                    self.process = subprocess.Popen(words, stdin=pipe, stdout=pipe)
+                except OSError as error:
+                    raise CannotRun(f"{sys.executable}: {reason_of(error)}") from error
+                running_programs.add(self.process)
+            return self.process
 
     def end(self):
-        """Ends the process."""
-        process, self.process = self.process, None
-        if process is not None:
-            process.terminate()
-            running_programs.discard(process)
-            for stream in (process.stdin, process.stdout):
-                with suppress(OSError):
-                    stream.close()
-            process.wait()
+        """Ends the process, which runs no more for other threads either."""
+        with self.changed:
+            process, self.process = self.process, None
+        process.terminate()
+        running_programs.discard(process)
+        for stream in (process.stdin, process.stdout):
+            with suppress(OSError):
+                stream.close()
+        process.wait()

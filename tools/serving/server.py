@@ -71,7 +71,7 @@ class Server:
         except OSError:
             return Status.WRITE_FAILED
         finally:
-            self.judge.end()
+            self.judge.stop()
         return self.status
 
     def read(self):
