@@ -3,7 +3,7 @@
 
   bench/scenarios.py [--program PROGRAM] [--count N] [--seed N] [--planted FAULT]
 
-The documents of crates/analysis_tests/src/scenarios.rt are tried first, then the one with the most slots, and then
+The documents of crates/document_tests/src/analysis/scenarios.rt are tried first, then the one with the most slots, and then
 2,000 that are drawn: a task at any place among up to 15 others, most of which read it. A plain formula writes the
 task's scenario (`scenario_of`), and so must `need`. It must be canonical and have no overrun. Then the steps of its
 record are read, with
@@ -37,7 +37,7 @@ from program import read_as_answer  # noqa: E402
 from running import parser_of  # noqa: E402
 from scenario_texts import LATE, SHORT, drawn_document, scenario_of, with_the_most_slots  # noqa: E402
 
-BY_HAND = TOP / "crates" / "analysis_tests" / "src" / "scenarios.rt"
+BY_HAND = TOP / "crates" / "document_tests" / "src" / "analysis" / "scenarios.rt"
 ROW = re.compile(r'\(\s*"([^"]*)",\s*([0-9]+),\s*"([^"]*)",\s*\)')  # a document, a task's place, and the scenario
 
 

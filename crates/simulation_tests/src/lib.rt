@@ -1,9 +1,7 @@
-//! Tests of simulation in virtual time.
+//! Tests of simulation in virtual time, on one processor and on several.
 #![tactic(auto)]
 
 #[cfg(test)]
-mod next_event;
+mod one_processor;
 #[cfg(test)]
-mod ready;
-#[cfg(test)]
-mod simulation;
+mod processors;

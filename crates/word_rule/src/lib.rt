@@ -9,7 +9,7 @@
 //! call for both. That the body makes no other access to the table is read off the source. Plays are private: a reader
 //! of public clauses knows that a `Started`, a `Ready` and the number of `seen` are never ahead of the words, and that
 //! the number in a `Closed` or a `NotYet` isn't the one that is waited for. That it is the one that was loaded is
-//! tested (`word_tests`).
+//! tested (`run_tests`).
 #![tactic(auto)]
 
 mod asking;

@@ -1,5 +1,0 @@
-//! Tests of simulation on several processors.
-#![tactic(auto)]
-
-#[cfg(test)]
-mod simulation;

@@ -1,0 +1,5 @@
+// Tests of the crates that read and print documents.
+
+mod documents;
+mod lines;
+mod printing;

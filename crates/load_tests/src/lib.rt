@@ -1,5 +1,0 @@
-//! Tests of generated documents.
-#![tactic(auto)]
-
-#[cfg(test)]
-mod documents;

@@ -1,5 +1,0 @@
-use Rattle.party_turns.specs.Parties.{AreParties}
-use Rattle.party_tests.proofs.runs.ask_all.Given as goal
-
-abbrev pub invariant-loop-asked : goal.invariant-loop-asked
-invariant-loop-asked g l = AreParties l.words l.parties

@@ -1,0 +1,5 @@
+// Tests of the releaser's book.
+
+mod runs;
+mod steps;
+mod turns;

@@ -1,5 +1,0 @@
-//! Tests of scripts.
-#![tactic(auto)]
-
-#[cfg(test)]
-mod scripts;

@@ -1,0 +1,6 @@
+// Tests of crews.
+
+mod crews;
+mod gates;
+mod paces;
+mod runs;

@@ -1,0 +1,5 @@
+// Tests of the parties of a run.
+
+mod rounds;
+mod runs;
+mod turns;
