@@ -1,8 +1,6 @@
-//! Tests of documents: their lines, checks, traces and plans, and of what is told of them.
+//! Tests of documents: their lines, checks, traces and plans, and of generated ones.
 #![tactic(auto)]
 
-#[cfg(test)]
-mod analysis;
 #[cfg(test)]
 mod checking;
 #[cfg(test)]

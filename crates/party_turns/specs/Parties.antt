@@ -60,6 +60,11 @@ pub record AreFresh (w : SlotWords) (ps : List Party) : Type 0 where
   pub size : length ps ≡ length w.plan.diagram.tasks + 1
   pub each : (k : ℕ) (p : Party) → slice_get ps k ≡ Some p → IsFresh w k p
 
+-- the releaser's party before its first step, and no other
+pub record IsReleaserAlone (w : SlotWords) (ps : List Party) : Type 0 where
+  pub size : length ps ≡ 1
+  pub each : (k : ℕ) (p : Party) → slice_get ps k ≡ Some p → IsFresh w k p
+
 -- the party at the place k
 abbrev pub IsPartyAt : SlotWords → ℕ → Party → Type 0
 IsPartyAt w zero (Releaser s) = ReleaserSits w s.seat

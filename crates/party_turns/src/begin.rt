@@ -1,8 +1,8 @@
 // The parties of a plan before the first step.
 
-ghost use Rattle.std.specs.Prelude.{◌≡◌, IfOk};
-ghost use Rattle.word_rule.specs.FirstSeats.{IsFirstTask};
-ghost use Rattle.party_turns.specs.Parties.{AreFresh, IsFreshTask};
+ghost use Rattle.std.specs.Prelude.{◌≡◌, IfOk, OnOk};
+ghost use Rattle.word_rule.specs.FirstSeats.{AreFirstTasks, IsFirstReleaser, IsFirstTask};
+ghost use Rattle.party_turns.specs.Parties.{AreFresh, IsFreshTask, IsReleaserAlone};
 
 use crate::look_up::{declared_of, wired_of};
 use crate::party::Party;
@@ -13,7 +13,7 @@ use dbp_plan::{List, NoMemory, Plan};
 use dbp_rules::Work;
 use release_book::Book;
 use std::alloc::Global;
-use word_rule::{SlotWords, TaskSeat};
+use word_rule::{ReleaserSeat, SlotWords, TaskSeat};
 
 /// The shared words of the plan and their parties, before the first step: the releaser's first, and then one of each
 /// task, in order.
@@ -22,18 +22,65 @@ pub fn parties(alloc: Global, plan: &Plan) -> Result<(SlotWords, List<Party>), N
     ensures fresh { IfOk result (λ made. AreFresh made.0 made.1) }
 {
     let (words, releaser, tasks) = SlotWords::new(alloc, plan.copy()?)?;
+    let parties = parties_of(alloc, plan, &words, releaser, tasks)?;
+    Ok((words, parties))
+}
+
+// The parties whose seats these are.
+fn parties_of(
+    alloc: Global,
+    plan: &Plan,
+    words: &SlotWords,
+    releaser: ReleaserSeat,
+    tasks: List<TaskSeat>,
+) -> Result<List<Party>, NoMemory>
+    requires plan { words.now.plan ≡ plan.now }
+    requires releaser { IsFirstReleaser words.now releaser }
+    requires tasks { AreFirstTasks words.now tasks }
+    ensures { IfOk result (AreFresh words.now) }
+{
+    let mut parties = releaser_alone(alloc, plan, words, releaser)?;
+    push_tasks(alloc, words, tasks, &mut parties)?;
+    Ok(parties)
+}
+
+// The releaser's party.
+fn releaser_alone(
+    alloc: Global,
+    plan: &Plan,
+    words: &SlotWords,
+    seat: ReleaserSeat,
+) -> Result<List<Party>, NoMemory>
+    requires plan { words.now.plan ≡ plan.now }
+    requires first { IsFirstReleaser words.now seat }
+    ensures { IfOk result (IsReleaserAlone words.now) }
+{
     let book = Book::new(alloc, plan)?;
     let mut parties = List::new(alloc);
     parties.push(Party::Releaser(ReleaserParty {
-        seat: releaser,
+        seat,
         book,
         turns: 0,
     }))?;
-    for seat in tasks.into_items() {
-        let party = task_party(alloc, &words, seat)?;
+    Ok(parties)
+}
+
+// Adds the parties of the tasks after the releaser's.
+fn push_tasks(
+    alloc: Global,
+    words: &SlotWords,
+    seats: List<TaskSeat>,
+    parties: &mut List<Party>,
+) -> Result<(), NoMemory>
+    requires seats { AreFirstTasks words.now seats }
+    requires releaser { IsReleaserAlone words.now parties.old }
+    ensures { OnOk result (AreFresh words.now parties.new) }
+{
+    for seat in seats.into_items() {
+        let party = task_party(alloc, words, seat)?;
         parties.push(Party::Task(party))?;
     }
-    Ok((words, parties))
+    Ok(())
 }
 
 // The party of the task whose seat it is.

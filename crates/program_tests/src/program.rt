@@ -5,6 +5,7 @@ use dbp_plan::{MemSink, MemSource, ReadSource, WriteSink};
 use dbp_top::{Status, command_lines, dbp_main, plain_main};
 use party_exec::{CrewEntry, FreePace, TaskEnd, ThreadCrew, TurnCrew};
 use std::alloc::Global;
+use std::process::Abort;
 use std::sync::Wait;
 use std::test::Fail;
 use std::thread::Threads;
@@ -36,51 +37,105 @@ fn sink_of(alloc: Global, (piece, fails): (usize, u32)) -> Result<MemSink, Fail>
     Ok(MemSink::new(store, room, piece.max(1), failing))
 }
 
-// How the call ends, and what it wrote. The crews have run nothing before.
-fn ended<R: Threads + Wait + Sync>(
+// The words and the input of a call, the size of a read and which one fails, and the same of writes.
+#[derive(Clone, Copy)]
+struct Call {
+    words: &'static [&'static str],
+    input: &'static str,
+    reads: (usize, u32),
+    writes: (usize, u32),
+}
+
+impl Call {
+    // Of `mean` on a document, in reads of 16 bytes.
+    fn of_mean(input: &'static str, fails: u32, writes: (usize, u32)) -> Call {
+        Call {
+            words: &["mean"],
+            input,
+            reads: (16, fails),
+            writes,
+        }
+    }
+}
+
+// How the call ends. The crews have run nothing before.
+fn status_of<R: Threads + Wait + Sync>(
+    rt: &R,
+    alloc: Global,
+    line: &[String],
+    source: &mut MemSource,
+    sink: &mut MemSink,
+) -> Status {
+    let mut crew = ThreadCrew::new(alloc, FreePace);
+    let mut turns = TurnCrew::new(alloc, 0);
+    dbp_main(rt, alloc, line, source, sink, &mut crew, &mut turns)
+}
+
+// How it ends, and what it writes.
+fn written_by<R: Threads + Wait + Sync>(
     rt: &R,
     alloc: Global,
     line: &[String],
     source: &mut MemSource,
     sink: &mut MemSink,
 ) -> Result<(Status, Vec<u8>), Fail> {
-    let mut crew = ThreadCrew::new(alloc, FreePace);
-    let mut turns = TurnCrew::new(alloc, 0);
-    let status = dbp_main(rt, alloc, line, source, sink, &mut crew, &mut turns);
+    let status = status_of(rt, alloc, line, source, sink);
     Ok((status, sink.bytes().to_vec(alloc)?))
 }
 
-// The same of these words, with the sizes and the failing calls of the source and the sink.
-fn call<R: Threads + Wait + Sync>(
+fn written_from<R: Threads + Wait + Sync>(
     rt: &R,
     alloc: Global,
-    words: &[&str],
-    input: &str,
-    reads: (usize, u32),
+    line: &[String],
+    source: &mut MemSource,
     writes: (usize, u32),
 ) -> Result<(Status, Vec<u8>), Fail> {
-    let line = line_of(alloc, words)?;
-    let mut source = source_of(alloc, input, reads)?;
     let mut sink = sink_of(alloc, writes)?;
-    ended(rt, alloc, &line, &mut source, &mut sink)
+    written_by(rt, alloc, line, source, &mut sink)
 }
 
-// The size of a read and which one fails, the same of writes, the status and what was written.
-static FAULTS: [((usize, u32), (usize, u32), Status, &str); 6] = [
-    ((16, 3), (8, 0), Status::ReadFault, ""),
-    ((16, 1), (8, 0), Status::ReadFault, ""),
-    ((16, 0), (8, 1), Status::WriteFault, ""),
-    ((16, 0), (8, 2), Status::WriteFault, "0,a,1,1\n"),
-    ((16, 0), (9, 2), Status::WriteFault, "0,a,1,1\n0"),
-    ((16, 3), (8, 1), Status::ReadFault, ""),
+fn written_at<R: Threads + Wait + Sync>(
+    rt: &R,
+    alloc: Global,
+    line: &[String],
+    call: &Call,
+) -> Result<(Status, Vec<u8>), Fail> {
+    let mut source = source_of(alloc, call.input, call.reads)?;
+    written_from(rt, alloc, line, &mut source, call.writes)
+}
+
+// Compares how the call ends, and what it writes.
+fn compare<R: Abort + Threads + Wait + Sync>(
+    rt: &R,
+    alloc: Global,
+    call: &Call,
+    (status, text): (Status, &[u8]),
+) -> Result<(), Fail> {
+    let line = line_of(alloc, call.words)?;
+    let ended = written_at(rt, alloc, &line, call)?;
+    assert!(rt;
+        ended.0 == status && ended.1.as_slice() == text,
+        "{:?}",
+        call.words
+    );
+    Ok(())
+}
+
+// Which read fails, the size of a write and which one fails, the status and what is written.
+static FAULTS: [(u32, (usize, u32), Status, &str); 6] = [
+    (3, (8, 0), Status::ReadFault, ""),
+    (1, (8, 0), Status::ReadFault, ""),
+    (0, (8, 1), Status::WriteFault, ""),
+    (0, (8, 2), Status::WriteFault, "0,a,1,1\n"),
+    (0, (9, 2), Status::WriteFault, "0,a,1,1\n0"),
+    (3, (8, 1), Status::ReadFault, ""),
 ];
 
 #[test]
 fn faults_end_the_call(rt: HostRuntime) -> Result<(), Fail> {
-    for (reads, writes, status, lines) in &FAULTS {
-        let ended = call(&rt, rt.alloc(), &["mean"], TWO_RATES, *reads, *writes)?;
-        assert_eq!(rt; ended.0, *status);
-        assert_eq!(rt; ended.1.as_slice(), lines.as_bytes());
+    for (fails, writes, status, text) in &FAULTS {
+        let call = Call::of_mean(TWO_RATES, *fails, *writes);
+        compare(&rt, rt.alloc(), &call, (*status, text.as_bytes()))?;
     }
     Ok(())
 }
@@ -89,23 +144,22 @@ fn faults_end_the_call(rt: HostRuntime) -> Result<(), Fail> {
 fn each_failing_read_ends_the_call(rt: HostRuntime) -> Result<(), Fail> {
     // the document is 13 pieces of 16 bytes, and one more read finds its end
     for failing in 1..=14 {
-        let ended = call(&rt, rt.alloc(), &["mean"], TWO_RATES, (16, failing), (8, 0))?;
-        assert_eq!(rt; ended.0, Status::ReadFault, "read {failing}");
-        assert!(rt; ended.1.is_empty(), "read {failing}");
+        let call = Call::of_mean(TWO_RATES, failing, (8, 0));
+        compare(&rt, rt.alloc(), &call, (Status::ReadFault, b""))?;
     }
     Ok(())
 }
 
 #[test]
 fn each_failing_write_ends_the_call(rt: HostRuntime) -> Result<(), Fail> {
-    let whole = TWO_RATES_LINES.as_bytes();
     // the lines are six pieces of 8 bytes
     for failing in 1..=6 {
-        let ended = call(&rt, rt.alloc(), &["mean"], TWO_RATES, (16, 0), (8, failing))?;
-        assert_eq!(rt; ended.0, Status::WriteFault, "write {failing}");
-        let written = ended.1.as_slice();
-        assert!(rt; whole.starts_with(written), "write {failing}");
-        assert!(rt; written.len() < whole.len(), "write {failing}");
+        let call = Call::of_mean(TWO_RATES, 0, (8, failing));
+        let written = TWO_RATES_LINES
+            .as_bytes()
+            .get(..8 * (failing as usize - 1))
+            .unwrap_or(b"more");
+        compare(&rt, rt.alloc(), &call, (Status::WriteFault, written))?;
     }
     Ok(())
 }
@@ -125,16 +179,8 @@ static LAST: [(&str, u32, u32, Status, &str); 2] = [
 #[test]
 fn there_are_no_more_reads_and_writes(rt: HostRuntime) -> Result<(), Fail> {
     for (document, read, write, status, text) in &LAST {
-        let ended = call(
-            &rt,
-            rt.alloc(),
-            &["mean"],
-            document,
-            (16, *read),
-            (8, *write),
-        )?;
-        assert_eq!(rt; ended.0, *status, "on {document}");
-        assert_eq!(rt; ended.1.as_slice(), text.as_bytes(), "on {document}");
+        let call = Call::of_mean(*document, *read, (8, *write));
+        compare(&rt, rt.alloc(), &call, (*status, text.as_bytes()))?;
     }
     Ok(())
 }
@@ -156,10 +202,14 @@ static NO_COMMANDS: [&[&str]; 11] = [
 
 #[test]
 fn words_that_are_no_command_read_and_write_nothing(rt: HostRuntime) -> Result<(), Fail> {
-    for words in &NO_COMMANDS {
-        let ended = call(&rt, rt.alloc(), words, TWO_RATES, (16, 1), (8, 1))?;
-        assert_eq!(rt; ended.0, Status::Usage);
-        assert_eq!(rt; ended.1.len(), 0);
+    for words in NO_COMMANDS {
+        let call = Call {
+            words,
+            input: TWO_RATES,
+            reads: (16, 1),
+            writes: (8, 1),
+        };
+        compare(&rt, rt.alloc(), &call, (Status::Usage, b""))?;
     }
     Ok(())
 }
@@ -170,217 +220,6 @@ fn commands_are_listed(rt: HostRuntime) -> Result<(), Fail> {
         command_lines(rt.alloc())?.as_str(),
         "  mean\n  sim\n  sim --record\n  cpus\n  cpus --record\n  run\n  run --turns N\n  run --turns=N\n  form\n  upgrade\n  rank\n  plan\n  rta\n  need TASK\n  replay\n  replay --ranked\n  gen N\n  gen N SIZE\n  soak N\n  soak N SIZE\n"
     );
-    Ok(())
-}
-
-// The canonical text of the document in version 2.
-const TWO_RATES_UPGRADED: &str = "dbp 2
-policy fp
-until 6
-task a every 2 from 0 prio 2 cost 1 cpu 0
-  state n = 0
-  next n = n + 1
-  out y = 0 then n + 1
-task b every 3 from 0 prio 1 cost 2 cpu 0
-  read x = a.y at 0
-  out z = 0 then x * 10
-done
-";
-
-#[test]
-fn a_document_is_upgraded(rt: HostRuntime) -> Result<(), Fail> {
-    for document in [TWO_RATES, TWO_RATES_UPGRADED] {
-        let ended = call(&rt, rt.alloc(), &["upgrade"], document, (64, 0), (512, 0))?;
-        assert_eq!(rt; ended.0, Status::Ok);
-        assert_eq!(rt; ended.1.as_slice(), TWO_RATES_UPGRADED.as_bytes());
-    }
-    Ok(())
-}
-
-const ON_EVENTS: &str = "dbp 1
-policy fp
-until 5
-event e
-event f
-task w on e prio 2 cost 3
-out y = 0 then 1
-task r on f prio 1 cost 1
-read x = w.y
-out z = 0 then x
-done
-";
-
-// The scenario of the document's first task.
-const SCENARIO: &str = "dbp 1
-policy fp
-until 4
-event e
-event f
-task w on e prio 2 cost 3
-  out y = 0 then 1
-task r on f prio 1 cost 1
-  read x = w.y at 0
-  out z = 0 then x
-trace
-time,e,f
-0,1,1
-3,1,
-done
-";
-
-// The name of a task, the document, and what `need` answers.
-static NEEDS: [(&str, &str, Status, &str); 4] = [
-    ("w", ON_EVENTS, Status::Ok, SCENARIO),
-    ("w", SCENARIO, Status::Ok, SCENARIO),
-    ("x", ON_EVENTS, Status::Refused, "refused: 35 NoTask\n"),
-    (
-        "a",
-        TWO_RATES,
-        Status::Refused,
-        "refused: 33 NotOnEvents a\n",
-    ),
-];
-
-#[test]
-fn a_scenario_is_written(rt: HostRuntime) -> Result<(), Fail> {
-    for (task, document, status, text) in &NEEDS {
-        let ended = call(
-            &rt,
-            rt.alloc(),
-            &["need", task],
-            document,
-            (64, 0),
-            (512, 0),
-        )?;
-        assert_eq!(rt; ended.0, *status);
-        assert_eq!(rt; ended.1.as_slice(), text.as_bytes());
-    }
-    Ok(())
-}
-
-// A document under the policy `edf`, whose tasks lack priorities, and whose last task writes to the first.
-const UNRANKED: &str = "dbp 2
-policy edf
-until 4
-event e
-task slow every 4 deadline 3 cost 1
-read x = fast.y
-read w = alarm.y
-out y = 0 then x + w
-task alarm on e cost 1
-read x = pre slow.y
-out y = 0 then x
-task fast every 2 deadline 2 cost 1
-out y = 0 then 1
-trace
-time,e
-1,1
-script
-done
-";
-
-// What `rank` writes of it: `alarm` waits for nothing, but goes behind `fast` by its clock.
-const RANKED: &str = "dbp 2
-policy fp
-until 4
-event e
-task slow every 4 from 0 prio 0 deadline 3 cost 1 cpu 0
-  read x = fast.y at 0
-  read w = alarm.y at 0
-  out y = 0 then x + w
-task alarm on e prio 1 cost 1 cpu 0
-  read x = pre slow.y at 0
-  out y = 0 then x
-task fast every 2 from 0 prio 2 deadline 2 cost 1 cpu 0
-  out y = 0 then 1
-trace
-time,e
-1,1
-script
-done
-";
-
-// Two direct cycles from `a`, and a trace section without a header.
-const TWO_CYCLES: &str = "dbp 1
-policy fp
-until 1
-task a every 1 cost 1
-read x = b.y
-read z = c.y
-out y = 0 then x + z
-task b every 1 cost 1
-read x = a.y
-out y = 0 then x
-task c every 1 cost 1
-read x = a.y
-out y = 0 then x
-trace
-done
-";
-
-// A fault of shape after a cycle of direct links.
-const CYCLE_AND_NAME: &str = "dbp 1
-policy fp
-until 1
-task a every 1 cost 1
-read x = b.y
-out y = 0 then x
-task b every 1 cost 1
-read x = a.y
-out y = 0 then c
-done
-";
-
-// No priorities, and a bad trace.
-const UNTRACED: &str = "dbp 1
-policy fp
-until 1
-task a every 1 cost 1
-out y = 0 then 1
-trace
-time,a
-done
-";
-
-// No priorities, and too many occurrences.
-const ENDLESS: &str = "dbp 1
-policy fp
-until 100001
-task a every 1 cost 1
-out y = 0 then 1
-done
-";
-
-// The document, and what `rank` answers.
-static RANKS: [(&str, Status, &str); 7] = [
-    (UNRANKED, Status::Ok, RANKED),
-    (RANKED, Status::Ok, RANKED),
-    (TWO_CYCLES, Status::Refused, "refused: 37 Cycle a b\n"),
-    (
-        CYCLE_AND_NAME,
-        Status::Refused,
-        "refused: line 9: 11 Unknown\n",
-    ),
-    (UNTRACED, Status::Refused, "refused: line 7: 20 BadHeader\n"),
-    (
-        ENDLESS,
-        Status::Refused,
-        "refused: line 3: 25 TooManyOccurrences\n",
-    ),
-    (
-        "dbp 1\n",
-        Status::Refused,
-        "refused: line 2: 7 MissingDone\n",
-    ),
-];
-
-#[test]
-fn tasks_are_ranked_by_their_links(rt: HostRuntime) -> Result<(), Fail> {
-    for (document, status, text) in &RANKS {
-        let ended = call(&rt, rt.alloc(), &["rank"], document, (64, 0), (512, 0))?;
-        assert_eq!(rt; ended.0, *status);
-        assert_eq!(rt; ended.1.as_slice(), text.as_bytes());
-    }
     Ok(())
 }
 
@@ -406,8 +245,7 @@ fn a_run_is_no_command_of_the_plain_call(rt: HostRuntime) -> Result<(), Fail> {
     let mut source = source_of(rt.alloc(), TWO_RATES, (16, 1))?;
     let mut sink = sink_of(rt.alloc(), (8, 1))?;
     let status = plain_main(rt.alloc(), &line, &mut source, &mut sink);
-    assert_eq!(rt; status, Status::Usage);
-    assert_eq!(rt; sink.bytes().len(), 0);
+    assert!(rt; status == Status::Usage && sink.bytes().is_empty());
     Ok(())
 }
 
@@ -439,32 +277,53 @@ fn are_runs(runs: &[CrewEntry], count: usize) -> bool {
             .all(|entry| entry.tasks.items() == TWO_RATES_ENDS.as_slice())
 }
 
-// Whether a call with these words prints the document's lines, and the crews then have so many runs.
+// Whether a call with these crews ends well, and they then have so many runs.
+fn has_kept_in<R: Threads + Wait + Sync>(
+    rt: &R,
+    alloc: Global,
+    line: &[String],
+    (source, sink): (&mut MemSource, &mut MemSink),
+    (crew, turns): (&mut ThreadCrew<FreePace>, &mut TurnCrew),
+    (threads, drawn): (usize, usize),
+) -> bool {
+    let status = dbp_main(rt, alloc, line, source, sink, crew, turns);
+    status == Status::Ok && are_runs(crew.runs(), threads) && are_runs(turns.runs(), drawn)
+}
+
+// The same of new crews.
+fn has_kept<R: Threads + Wait + Sync>(
+    rt: &R,
+    alloc: Global,
+    line: &[String],
+    streams: (&mut MemSource, &mut MemSink),
+    counts: (usize, usize),
+) -> bool {
+    let mut crew = ThreadCrew::new(alloc, FreePace);
+    let mut turns = TurnCrew::new(alloc, 0);
+    has_kept_in(rt, alloc, line, streams, (&mut crew, &mut turns), counts)
+}
+
+// Whether it prints the document's lines too.
+fn has_run_line<R: Threads + Wait + Sync>(
+    rt: &R,
+    alloc: Global,
+    line: &[String],
+    counts: (usize, usize),
+) -> Result<bool, Fail> {
+    let mut source = source_of(alloc, TWO_RATES, (16, 0))?;
+    let mut sink = sink_of(alloc, (8, 0))?;
+    let has_kept = has_kept(rt, alloc, line, (&mut source, &mut sink), counts);
+    Ok(has_kept && sink.bytes() == TWO_RATES_LINES.as_bytes())
+}
+
+// The same of a call with these words.
 fn has_run<R: Threads + Wait + Sync>(
     rt: &R,
     alloc: Global,
     (words, threads, drawn): (&[&str], usize, usize),
 ) -> Result<bool, Fail> {
     let line = line_of(alloc, words)?;
-    let mut source = source_of(alloc, TWO_RATES, (16, 0))?;
-    let mut sink = sink_of(alloc, (8, 0))?;
-    let mut crew = ThreadCrew::new(alloc, FreePace);
-    let mut turns = TurnCrew::new(alloc, 0);
-    let status = dbp_main(
-        rt,
-        alloc,
-        &line,
-        &mut source,
-        &mut sink,
-        &mut crew,
-        &mut turns,
-    );
-    Ok(
-        status == Status::Ok
-            && sink.bytes() == TWO_RATES_LINES.as_bytes()
-            && are_runs(crew.runs(), threads)
-            && are_runs(turns.runs(), drawn),
-    )
+    has_run_line(rt, alloc, &line, (threads, drawn))
 }
 
 #[test]

@@ -5,3 +5,5 @@
 mod one_processor;
 #[cfg(test)]
 mod processors;
+#[cfg(test)]
+mod shown;

@@ -30,40 +30,48 @@ fn has_one_run(runs: &[CrewEntry], ends: &[TaskEnd]) -> bool {
     }
 }
 
-// A crew of threads runs the plan once.
-fn run_threads<R: Abort + Threads + Wait + Sync>(
+// Whether this crew of threads makes the meaning of the plan, and keeps one run, which ended so.
+fn threads_run_once<R: Threads + Wait + Sync>(
     rt: &R,
     alloc: Global,
+    crew: &mut ThreadCrew<FreePace>,
     plan: &Plan,
-) -> Result<(), Fail> {
+) -> Result<bool, Fail> {
+    Ok(makes_meaning(rt, alloc, crew, plan)? && has_one_run(crew.runs(), ENDS))
+}
+
+fn threads_run<R: Threads + Wait + Sync>(rt: &R, alloc: Global, plan: &Plan) -> Result<bool, Fail> {
     let mut crew = ThreadCrew::new(alloc, FreePace);
-    assert!(rt; makes_meaning(rt, alloc, &mut crew, plan)?);
-    assert!(rt; has_one_run(crew.runs(), ENDS));
-    Ok(())
+    threads_run_once(rt, alloc, &mut crew, plan)
 }
 
 #[test]
 fn threads_run_two_rates(rt: HostRuntime) -> Result<(), Fail> {
     let plan = plan_in(rt.alloc(), TWO_RATES)?;
-    run_threads(&rt, rt.alloc(), &plan)
+    assert!(rt; threads_run(&rt, rt.alloc(), &plan)?);
+    Ok(())
 }
 
-// A crew that draws its turns does.
-fn run_turns<R: Abort + Threads + Wait + Sync>(
+// Whether this crew, which draws its turns, does so.
+fn turns_run_once<R: Threads + Wait + Sync>(
     rt: &R,
     alloc: Global,
+    crew: &mut TurnCrew,
     plan: &Plan,
-) -> Result<(), Fail> {
+) -> Result<bool, Fail> {
+    Ok(makes_meaning(rt, alloc, crew, plan)? && has_one_run(crew.runs(), ENDS))
+}
+
+fn turns_run<R: Threads + Wait + Sync>(rt: &R, alloc: Global, plan: &Plan) -> Result<bool, Fail> {
     let mut crew = TurnCrew::new(alloc, 7);
-    assert!(rt; makes_meaning(rt, alloc, &mut crew, plan)?);
-    assert!(rt; has_one_run(crew.runs(), ENDS));
-    Ok(())
+    turns_run_once(rt, alloc, &mut crew, plan)
 }
 
 #[test]
 fn drawn_turns_run_two_rates(rt: HostRuntime) -> Result<(), Fail> {
     let plan = plan_in(rt.alloc(), TWO_RATES)?;
-    run_turns(&rt, rt.alloc(), &plan)
+    assert!(rt; turns_run(&rt, rt.alloc(), &plan)?);
+    Ok(())
 }
 
 // The crew runs the plan from each of these seeds.
@@ -91,11 +99,24 @@ fn try_document<R: Abort + Threads + Wait + Sync>(
     try_seeds(rt, alloc, crew, &plan)
 }
 
+// The crew runs two documents from each seed. Returns how many runs it has kept.
+fn try_documents<R: Abort + Threads + Wait + Sync>(
+    rt: &R,
+    alloc: Global,
+    crew: &mut TurnCrew,
+) -> Result<usize, Fail> {
+    try_document(rt, alloc, crew, THREE_RATES)?;
+    try_document(rt, alloc, crew, METER)?;
+    Ok(crew.runs().len())
+}
+
+fn try_crew<R: Abort + Threads + Wait + Sync>(rt: &R, alloc: Global) -> Result<usize, Fail> {
+    let mut crew = TurnCrew::new(alloc, 0);
+    try_documents(rt, alloc, &mut crew)
+}
+
 #[test]
 fn every_seed_gives_the_meaning(rt: HostRuntime) -> Result<(), Fail> {
-    let mut crew = TurnCrew::new(rt.alloc(), 0);
-    try_document(&rt, rt.alloc(), &mut crew, THREE_RATES)?;
-    try_document(&rt, rt.alloc(), &mut crew, METER)?;
-    assert_eq!(rt; crew.runs().len(), 42);
+    assert_eq!(rt; try_crew(&rt, rt.alloc())?, 42);
     Ok(())
 }

@@ -10,7 +10,7 @@ ghost use Rattle.word_rule.specs.FirstSeats.{AreFirstTasks};
 ghost use Rattle.word_rule.specs.Seats.{ReleaserSits, TaskSits};
 
 use crate::word::calls::{done, end, hear, look, put, release, seen, shut, start, take};
-use dbp_plan::Table;
+use dbp_plan::{Plan, Table};
 use dbp_rules::{Order, Step};
 use std::alloc::Global;
 use std::process::Abort;
@@ -209,12 +209,25 @@ fn share(
     take_from_a_again(rt, words, b, read[1])
 }
 
-// The plan that the text spells, played so.
+// The plan, played so by its words. The table is what it means.
+fn play_plan(
+    rt: &impl Abort,
+    alloc: Global,
+    plan: Plan,
+    table: &Table,
+    read: [i64; 2],
+) -> Result<(), Fail>
+    requires { table.now ≡ meaning_of plan }
+{
+    let (words, mut releaser, mut seats) = SlotWords::new(alloc, plan)?;
+    share(rt, &words, table, &mut releaser, seats.items_mut(), read)
+}
+
+// The plan that the text spells.
 fn play(rt: &impl Abort, alloc: Global, text: &str, read: [i64; 2]) -> Result<(), Fail> {
     let plan = plan_in(alloc, text)?;
     let table = mean(alloc, &plan)?;
-    let (words, mut releaser, mut seats) = SlotWords::new(alloc, plan)?;
-    share(rt, &words, &table, &mut releaser, seats.items_mut(), read)
+    play_plan(rt, alloc, plan, &table, read)
 }
 
 #[test]

@@ -1,10 +1,11 @@
 // Simulations: the ends, the table, the steps, and the overrun.
 
+use crate::shown::{ends_shown, meant, words_shown};
 use dbp_core::Step;
+use dbp_plan::Plan;
 use std::alloc::Global;
 use std::fmt::Write;
 use std::test::Fail;
-use sync_meaning::mean;
 use test_inputs::{THREE_RATES, TWO_RATES, plan_in};
 use virtual_sim::{simulate, simulate_table};
 
@@ -76,22 +77,17 @@ time,speed,target
 done
 ";
 
-// The ends of each task's instances, a task a group; or why there are none.
+// The ends of each task's instances; or why there are none.
+fn ends_in(alloc: Global, plan: &Plan) -> Result<String, Fail> {
+    match simulate(alloc, plan) {
+        Ok(run) => ends_shown(alloc, run.ends.items()),
+        Err(why) => Ok(format!(in alloc; "{why:?}")?),
+    }
+}
+
 fn ends_of(alloc: Global, text: &str) -> Result<String, Fail> {
     let plan = plan_in(alloc, text)?;
-    let mut shown = String::new(alloc);
-    match simulate(alloc, &plan) {
-        Ok(run) => {
-            for ends in run.ends.items() {
-                for end in ends.items() {
-                    write!(shown, "{end} ")?;
-                }
-                shown.push('/')?;
-            }
-        }
-        Err(why) => write!(shown, "{why:?}")?,
-    }
-    Ok(shown)
+    ends_in(alloc, &plan)
 }
 
 static ENDS: &[(&str, &str)] = &[
@@ -112,38 +108,43 @@ fn instances_end_or_come_too_early(rt: HostRuntime) -> Result<(), Fail> {
     Ok(())
 }
 
+// The words of the rows of a simulation; or why there is none.
+fn simulated(alloc: Global, plan: &Plan) -> Result<String, Fail> {
+    match simulate(alloc, plan) {
+        Ok(run) => words_shown(alloc, &run.table),
+        Err(why) => Ok(format!(in alloc; "{why:?}")?),
+    }
+}
+
+// Whether they are those of the meaning.
+fn is_meant(alloc: Global, plan: &Plan) -> Result<bool, Fail> {
+    Ok(simulated(alloc, plan)?.as_str() == meant(alloc, plan)?.as_str())
+}
+
+fn is_meant_by(alloc: Global, text: &str) -> Result<bool, Fail> {
+    let plan = plan_in(alloc, text)?;
+    is_meant(alloc, &plan)
+}
+
 #[test]
 fn a_simulation_has_the_table_of_the_meaning(rt: HostRuntime) -> Result<(), Fail> {
     for text in [TWO_TASKS, JUST_IN_TIME, BY_DEADLINE, CONTROL] {
-        let plan = plan_in(rt.alloc(), text)?;
-        let table = mean(rt.alloc(), &plan)?;
-        let Ok(run) = simulate(rt.alloc(), &plan) else {
-            return Err(Fail::new("no simulation"));
-        };
-        assert_eq!(rt; run.table.tasks.len(), table.tasks.len(), "{text}");
-        for (rows, meant) in run.table.tasks.items().iter().zip(table.tasks.items()) {
-            assert_eq!(rt; rows.words.items(), meant.words.items(), "{text}");
-        }
+        assert!(rt; is_meant_by(rt.alloc(), text)?, "{text}");
     }
     Ok(())
 }
 
-// The words of each task's rows, a task a group; or why there are none.
+// The words of the rows of a simulation that records nothing; or why there is none.
+fn words_in(alloc: Global, plan: &Plan) -> Result<String, Fail> {
+    match simulate_table(alloc, plan) {
+        Ok(table) => words_shown(alloc, &table),
+        Err(why) => Ok(format!(in alloc; "{why:?}")?),
+    }
+}
+
 fn words_of(alloc: Global, text: &str) -> Result<String, Fail> {
     let plan = plan_in(alloc, text)?;
-    let mut shown = String::new(alloc);
-    match simulate_table(alloc, &plan) {
-        Ok(table) => {
-            for rows in table.tasks.items() {
-                for word in rows.words.items() {
-                    write!(shown, "{word} ")?;
-                }
-                shown.push('/')?;
-            }
-        }
-        Err(why) => write!(shown, "{why:?}")?,
-    }
-    Ok(shown)
+    words_in(alloc, &plan)
 }
 
 static WORDS: &[(&str, &str)] = &[
@@ -183,13 +184,18 @@ static STEPS: &[Step] = &[
     Step::End { task: 1 },
 ];
 
+// Whether a simulation makes these steps.
+fn makes_steps(alloc: Global, plan: &Plan, steps: &[Step]) -> Result<bool, Fail> {
+    match simulate(alloc, plan) {
+        Ok(run) => Ok(run.script.items() == steps),
+        Err(_) => Err(Fail::new("no simulation")),
+    }
+}
+
 #[test]
 fn the_steps_are_recorded(rt: HostRuntime) -> Result<(), Fail> {
     let plan = plan_in(rt.alloc(), BY_DEADLINE)?;
-    let Ok(run) = simulate(rt.alloc(), &plan) else {
-        return Err(Fail::new("no simulation"));
-    };
-    assert_eq!(rt; run.script.items(), STEPS);
+    assert!(rt; makes_steps(rt.alloc(), &plan, STEPS)?);
     Ok(())
 }
 
@@ -209,11 +215,7 @@ fn long_tasks(alloc: Global) -> Result<String, Fail> {
 #[test]
 fn long_services_are_passed_over(rt: HostRuntime) -> Result<(), Fail> {
     let text = long_tasks(rt.alloc())?;
-    let plan = plan_in(rt.alloc(), text.as_str())?;
-    let Ok(run) = simulate(rt.alloc(), &plan) else {
-        return Err(Fail::new("no simulation"));
-    };
-    let last = run.ends.items().last().ok_or("no task")?;
-    assert_eq!(rt; last.items(), [32_000_000_000].as_slice());
+    let ends = ends_of(rt.alloc(), text.as_str())?;
+    assert!(rt; ends.ends_with("/32000000000 /"));
     Ok(())
 }
