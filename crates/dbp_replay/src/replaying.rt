@@ -73,7 +73,31 @@ pub fn replay_in(
         → result ≡ Err (replay_fail.Illegal number why) }
 {
     let mut core = core;
-    let all_heard = walk(&mut core, steps, room)?;
+    replay_on(alloc, &mut core, steps, room)
+}
+
+// The same on the core of another.
+fn replay_on(
+    alloc: Global,
+    core: &mut Core,
+    steps: &[Step],
+    room: Vec<Heard>,
+) -> Result<Vec<u8>, ReplayFail>
+    requires there { All (IsThere (plan_in core.old).diagram) steps.now }
+    requires few { length steps.now < 2 ^ 32 }
+    requires start { state_in core.old ≡ first (plan_in core.old) (count_in core.old) }
+    requires empty { room.items ≡ [] }
+    requires none { vec_len room ≡ 0 }
+    requires room { length steps.now ≤ vec_capacity room }
+    ensures text { IfOk result
+        (λ text. IsReplay (plan_in core.old) (count_in core.old) steps.now text.items) }
+    ensures illegal { IfErr result
+        (λ fail. IsReplayRefusal (plan_in core.old) (count_in core.old) steps.now fail) }
+    ensures refused { (number : ℕ) (why : Refusal)
+        → IsIllegal (plan_in core.old) (count_in core.old) steps.now number why
+        → result ≡ Err (replay_fail.Illegal number why) }
+{
+    let all_heard = walk(core, steps, room)?;
     Ok(transcript(alloc, &core.plan().diagram, steps, &all_heard)?)
 }
 

@@ -58,17 +58,51 @@ impl Call {
     }
 }
 
-// How the call ends. The crews have run nothing before.
-fn status_of<R: Threads + Wait + Sync>(
+// How a call ends, and how many runs the crew of threads and that of drawn turns then have.
+type Ended = (Status, usize, usize);
+
+// How the tasks of the document stand after a run.
+static TWO_RATES_ENDS: [TaskEnd; 2] = [
+    TaskEnd {
+        ended: 3,
+        occurrences: 3,
+    },
+    TaskEnd {
+        ended: 2,
+        occurrences: 2,
+    },
+];
+
+// How many runs of the document these are; if one is of another, more than there are.
+fn run_count(runs: &[CrewEntry]) -> usize {
+    let are_whole = runs
+        .iter()
+        .all(|entry| entry.tasks.items() == TWO_RATES_ENDS.as_slice());
+    if are_whole { runs.len() } else { usize::MAX }
+}
+
+fn ended_with<R: Threads + Wait + Sync>(
+    rt: &R,
+    alloc: Global,
+    line: &[String],
+    (source, sink): (&mut MemSource, &mut MemSink),
+    (crew, turns): (&mut ThreadCrew<FreePace>, &mut TurnCrew),
+) -> Ended {
+    let status = dbp_main(rt, alloc, line, source, sink, crew, turns);
+    (status, run_count(crew.runs()), run_count(turns.runs()))
+}
+
+// How a call ends whose crews have run nothing before.
+fn ended<R: Threads + Wait + Sync>(
     rt: &R,
     alloc: Global,
     line: &[String],
     source: &mut MemSource,
     sink: &mut MemSink,
-) -> Status {
+) -> Ended {
     let mut crew = ThreadCrew::new(alloc, FreePace);
     let mut turns = TurnCrew::new(alloc, 0);
-    dbp_main(rt, alloc, line, source, sink, &mut crew, &mut turns)
+    ended_with(rt, alloc, line, (source, sink), (&mut crew, &mut turns))
 }
 
 // How it ends, and what it writes.
@@ -78,9 +112,9 @@ fn written_by<R: Threads + Wait + Sync>(
     line: &[String],
     source: &mut MemSource,
     sink: &mut MemSink,
-) -> Result<(Status, Vec<u8>), Fail> {
-    let status = status_of(rt, alloc, line, source, sink);
-    Ok((status, sink.bytes().to_vec(alloc)?))
+) -> Result<(Ended, Vec<u8>), Fail> {
+    let ended = ended(rt, alloc, line, source, sink);
+    Ok((ended, sink.bytes().to_vec(alloc)?))
 }
 
 fn written_from<R: Threads + Wait + Sync>(
@@ -89,7 +123,7 @@ fn written_from<R: Threads + Wait + Sync>(
     line: &[String],
     source: &mut MemSource,
     writes: (usize, u32),
-) -> Result<(Status, Vec<u8>), Fail> {
+) -> Result<(Ended, Vec<u8>), Fail> {
     let mut sink = sink_of(alloc, writes)?;
     written_by(rt, alloc, line, source, &mut sink)
 }
@@ -99,7 +133,7 @@ fn written_at<R: Threads + Wait + Sync>(
     alloc: Global,
     line: &[String],
     call: &Call,
-) -> Result<(Status, Vec<u8>), Fail> {
+) -> Result<(Ended, Vec<u8>), Fail> {
     let mut source = source_of(alloc, call.input, call.reads)?;
     written_from(rt, alloc, line, &mut source, call.writes)
 }
@@ -109,12 +143,13 @@ fn compare<R: Abort + Threads + Wait + Sync>(
     rt: &R,
     alloc: Global,
     call: &Call,
-    (status, text): (Status, &[u8]),
+    wanted: Ended,
+    text: &[u8],
 ) -> Result<(), Fail> {
     let line = line_of(alloc, call.words)?;
-    let ended = written_at(rt, alloc, &line, call)?;
+    let (ended, written) = written_at(rt, alloc, &line, call)?;
     assert!(rt;
-        ended.0 == status && ended.1.as_slice() == text,
+        ended == wanted && written.as_slice() == text,
         "{:?}",
         call.words
     );
@@ -135,7 +170,7 @@ static FAULTS: [(u32, (usize, u32), Status, &str); 6] = [
 fn faults_end_the_call(rt: HostRuntime) -> Result<(), Fail> {
     for (fails, writes, status, text) in &FAULTS {
         let call = Call::of_mean(TWO_RATES, *fails, *writes);
-        compare(&rt, rt.alloc(), &call, (*status, text.as_bytes()))?;
+        compare(&rt, rt.alloc(), &call, (*status, 0, 0), text.as_bytes())?;
     }
     Ok(())
 }
@@ -145,7 +180,7 @@ fn each_failing_read_ends_the_call(rt: HostRuntime) -> Result<(), Fail> {
     // the document is 13 pieces of 16 bytes, and one more read finds its end
     for failing in 1..=14 {
         let call = Call::of_mean(TWO_RATES, failing, (8, 0));
-        compare(&rt, rt.alloc(), &call, (Status::ReadFault, b""))?;
+        compare(&rt, rt.alloc(), &call, (Status::ReadFault, 0, 0), b"")?;
     }
     Ok(())
 }
@@ -159,7 +194,7 @@ fn each_failing_write_ends_the_call(rt: HostRuntime) -> Result<(), Fail> {
             .as_bytes()
             .get(..8 * (failing as usize - 1))
             .unwrap_or(b"more");
-        compare(&rt, rt.alloc(), &call, (Status::WriteFault, written))?;
+        compare(&rt, rt.alloc(), &call, (Status::WriteFault, 0, 0), written)?;
     }
     Ok(())
 }
@@ -180,7 +215,7 @@ static LAST: [(&str, u32, u32, Status, &str); 2] = [
 fn there_are_no_more_reads_and_writes(rt: HostRuntime) -> Result<(), Fail> {
     for (document, read, write, status, text) in &LAST {
         let call = Call::of_mean(*document, *read, (8, *write));
-        compare(&rt, rt.alloc(), &call, (*status, text.as_bytes()))?;
+        compare(&rt, rt.alloc(), &call, (*status, 0, 0), text.as_bytes())?;
     }
     Ok(())
 }
@@ -209,7 +244,7 @@ fn words_that_are_no_command_read_and_write_nothing(rt: HostRuntime) -> Result<(
             reads: (16, 1),
             writes: (8, 1),
         };
-        compare(&rt, rt.alloc(), &call, (Status::Usage, b""))?;
+        compare(&rt, rt.alloc(), &call, (Status::Usage, 0, 0), b"")?;
     }
     Ok(())
 }
@@ -249,19 +284,7 @@ fn a_run_is_no_command_of_the_plain_call(rt: HostRuntime) -> Result<(), Fail> {
     Ok(())
 }
 
-// How the tasks of the document stand after a run.
-static TWO_RATES_ENDS: [TaskEnd; 2] = [
-    TaskEnd {
-        ended: 3,
-        occurrences: 3,
-    },
-    TaskEnd {
-        ended: 2,
-        occurrences: 2,
-    },
-];
-
-// Words of a run, and how many runs the crew of threads and that of drawn turns then have.
+// Words of a run, and how many runs the crews then have.
 static RUNS: [(&[&str], usize, usize); 4] = [
     (&["run"], 1, 0),
     (&["run", "--turns", "9"], 0, 1),
@@ -269,67 +292,17 @@ static RUNS: [(&[&str], usize, usize); 4] = [
     (&["mean"], 0, 0),
 ];
 
-// Whether these are so many runs of the document.
-fn are_runs(runs: &[CrewEntry], count: usize) -> bool {
-    runs.len() == count
-        && runs
-            .iter()
-            .all(|entry| entry.tasks.items() == TWO_RATES_ENDS.as_slice())
-}
-
-// Whether a call with these crews ends well, and they then have so many runs.
-fn has_kept_in<R: Threads + Wait + Sync>(
-    rt: &R,
-    alloc: Global,
-    line: &[String],
-    (source, sink): (&mut MemSource, &mut MemSink),
-    (crew, turns): (&mut ThreadCrew<FreePace>, &mut TurnCrew),
-    (threads, drawn): (usize, usize),
-) -> bool {
-    let status = dbp_main(rt, alloc, line, source, sink, crew, turns);
-    status == Status::Ok && are_runs(crew.runs(), threads) && are_runs(turns.runs(), drawn)
-}
-
-// The same of new crews.
-fn has_kept<R: Threads + Wait + Sync>(
-    rt: &R,
-    alloc: Global,
-    line: &[String],
-    streams: (&mut MemSource, &mut MemSink),
-    counts: (usize, usize),
-) -> bool {
-    let mut crew = ThreadCrew::new(alloc, FreePace);
-    let mut turns = TurnCrew::new(alloc, 0);
-    has_kept_in(rt, alloc, line, streams, (&mut crew, &mut turns), counts)
-}
-
-// Whether it prints the document's lines too.
-fn has_run_line<R: Threads + Wait + Sync>(
-    rt: &R,
-    alloc: Global,
-    line: &[String],
-    counts: (usize, usize),
-) -> Result<bool, Fail> {
-    let mut source = source_of(alloc, TWO_RATES, (16, 0))?;
-    let mut sink = sink_of(alloc, (8, 0))?;
-    let has_kept = has_kept(rt, alloc, line, (&mut source, &mut sink), counts);
-    Ok(has_kept && sink.bytes() == TWO_RATES_LINES.as_bytes())
-}
-
-// The same of a call with these words.
-fn has_run<R: Threads + Wait + Sync>(
-    rt: &R,
-    alloc: Global,
-    (words, threads, drawn): (&[&str], usize, usize),
-) -> Result<bool, Fail> {
-    let line = line_of(alloc, words)?;
-    has_run_line(rt, alloc, &line, (threads, drawn))
-}
-
 #[test]
 fn a_run_is_kept_by_its_crew(rt: HostRuntime) -> Result<(), Fail> {
-    for row in &RUNS {
-        assert!(rt; has_run(&rt, rt.alloc(), *row)?);
+    for (words, threads, drawn) in RUNS {
+        let call = Call {
+            words,
+            input: TWO_RATES,
+            reads: (16, 0),
+            writes: (8, 0),
+        };
+        let ended = (Status::Ok, threads, drawn);
+        compare(&rt, rt.alloc(), &call, ended, TWO_RATES_LINES.as_bytes())?;
     }
     Ok(())
 }
