@@ -2,10 +2,10 @@
 
 ghost use Rattle.std.specs.Prelude.{◌≡◌, ◌+◌, ◌*◌, ◌<◌, ◌≤◌, ◌^◌, ◌++◌, length, IfOk, OnOk};
 ghost use Rattle.std.specs.Option.{option_to_list, IfSome as ForSome};
-ghost use Rattle.dia_read.specs.Drafts.{begun, added, kept_line, drafted, text_of_line, HasRoom, empty_section, empty_draft, section_text, finished};
+ghost use Rattle.dia_read.specs.Drafts.{begun, added, kept_line, drafted, text_of_line, HasRoom, empty_section, empty_draft, section_text};
 
 use crate::draft::{Draft, Section, Tasks};
-use crate::{Body, Doc, DocLines, RawTask};
+use crate::{DocLines, RawTask};
 use dbp_plan::{List, NoMemory, Policy};
 use dia_lines::{Line, Part, TaskLine};
 use std::alloc::Global;
@@ -35,7 +35,7 @@ impl Tasks {
     }
 
     // All tasks.
-    fn all(self) -> Result<List<RawTask>, NoMemory>
+    pub(crate) fn all(self) -> Result<List<RawTask>, NoMemory>
         requires { length self.earlier + 1 < 2 ^ 32 }
         ensures { IfOk result (λ tasks. tasks ≡ self.earlier ++ option_to_list self.latest) }
     {
@@ -61,7 +61,7 @@ impl Section {
     }
 
     // The section's text, if it is there.
-    fn into_text(self) -> Option<List<u8>>
+    pub(crate) fn into_text(self) -> Option<List<u8>>
         ensures { result ≡ section_text self }
     {
         if self.begun { Some(self.text) } else { None }
@@ -104,25 +104,6 @@ impl Draft {
                 script: List::new(alloc),
             },
         }
-    }
-
-    // The document that the draft has come to.
-    pub(crate) fn finish(self) -> Result<Doc, NoMemory>
-        requires { length self.tasks.earlier + 1 < 2 ^ 32 }
-        ensures { IfOk result (λ doc. doc ≡ finished self) }
-    {
-        Ok(Doc {
-            body: Body {
-                version: self.version,
-                policy: self.policy,
-                until: self.until,
-                decls: self.decls,
-                tasks: self.tasks.all()?,
-                trace: self.trace.into_text(),
-                script: self.script.into_text(),
-            },
-            lines: self.lines,
-        })
     }
 
     // Adds what is held of a line, which has the number and these bytes.

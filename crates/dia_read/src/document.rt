@@ -59,7 +59,6 @@ impl RawTask {
 }
 
 /// All that a document says.
-#[derive(Drop)]
 pub struct Body {
     /// The version of the language, 1 or 2.
     pub version: u32,
@@ -76,8 +75,22 @@ pub struct Body {
     pub script: Option<List<u8>>,
 }
 
+// By hand, as the prover then takes one step where a body is dropped, and not one for each part.
+impl Drop for Body {
+    fn drop(self) {
+        let Body {
+            version: _,
+            policy: _,
+            until: _,
+            decls: _,
+            tasks: _,
+            trace: _,
+            script: _,
+        } = self;
+    }
+}
+
 /// The line of each item of a document, counted from 1.
-#[derive(Drop)]
 pub struct DocLines {
     pub until_at: u32,
     pub done_at: u32,
@@ -89,6 +102,22 @@ pub struct DocLines {
     pub parts: List<u32>,
     pub trace: List<u32>,
     pub script: List<u32>,
+}
+
+// By hand for the same reason.
+impl Drop for DocLines {
+    fn drop(self) {
+        let DocLines {
+            until_at: _,
+            done_at: _,
+            trace_at: _,
+            decls: _,
+            tasks: _,
+            parts: _,
+            trace: _,
+            script: _,
+        } = self;
+    }
 }
 
 /// A document: what it says, and where.

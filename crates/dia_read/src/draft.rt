@@ -1,7 +1,10 @@
 // What the lines of a document say so far.
 
-use crate::{DocLines, RawTask};
-use dbp_plan::{List, Policy};
+ghost use Rattle.std.specs.Prelude.{◌≡◌, ◌+◌, ◌<◌, ◌^◌, length, IfOk};
+ghost use Rattle.dia_read.specs.Drafts.{finished};
+
+use crate::{Body, Doc, DocLines, RawTask};
+use dbp_plan::{List, NoMemory, Policy};
 use dia_lines::Decl;
 
 // The tasks so far: the latest one, whose body may go on, and those before it.
@@ -21,7 +24,6 @@ pub(crate) struct Section {
 }
 
 // What the lines of a document say so far.
-#[derive(Drop)]
 pub(crate) struct Draft {
     pub(crate) version: u32,
     pub(crate) policy: Policy,
@@ -31,4 +33,51 @@ pub(crate) struct Draft {
     pub(crate) trace: Section,
     pub(crate) script: Section,
     pub(crate) lines: DocLines,
+}
+
+// By hand, as the prover then takes one step where a draft is dropped, and not one for each part.
+impl Drop for Draft {
+    fn drop(self) {
+        let Draft {
+            version: _,
+            policy: _,
+            until: _,
+            decls: _,
+            tasks: _,
+            trace: _,
+            script: _,
+            lines: _,
+        } = self;
+    }
+}
+
+impl Draft {
+    // The document that the draft has come to.
+    pub(crate) fn finish(self) -> Result<Doc, NoMemory>
+        requires { length self.tasks.earlier + 1 < 2 ^ 32 }
+        ensures { IfOk result (λ doc. doc ≡ finished self) }
+    {
+        let Draft {
+            version,
+            policy,
+            until,
+            decls,
+            tasks,
+            trace,
+            script,
+            lines,
+        } = self;
+        Ok(Doc {
+            body: Body {
+                version,
+                policy,
+                until,
+                decls,
+                tasks: tasks.all()?,
+                trace: trace.into_text(),
+                script: script.into_text(),
+            },
+            lines,
+        })
+    }
 }

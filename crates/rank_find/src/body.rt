@@ -31,16 +31,12 @@ fn rank_tasks(tasks: &mut [RawTask], order: &[u32])
 
 /// The body under fixed priorities that fall along the order: of n tasks the first has `prio` n - 1, and the last 0. All
 /// else stays, its deadlines and its script too. The order holds the number of each task once.
-pub fn ranked_body(body: Body, order: &List<u32>) -> Body
+pub fn ranked_body(mut body: Body, order: &List<u32>) -> Body
     requires { HoldsEachOnce (length body.tasks) order.now }
     ensures body { result ≡ ranked_body body order.now }
     ensures printable { IsPrintable body → IsPrintable result }
 {
-    let mut tasks = body.tasks;
-    rank_tasks(tasks.items_mut(), order.items());
-    Body {
-        policy: Policy::Fp,
-        tasks,
-        ..body
-    }
+    rank_tasks(body.tasks.items_mut(), order.items());
+    body.policy = Policy::Fp;
+    body
 }

@@ -22,7 +22,12 @@ use rank_order::each_plan_has_one_service;
 use std::alloc::Global;
 
 // The body with the scenario of the task.
-fn scenario_body(alloc: Global, body: Body, diagram: &Diagram, task: u32) -> Result<Body, NeedFail>
+fn scenario_body(
+    alloc: Global,
+    mut body: Body,
+    diagram: &Diagram,
+    task: u32,
+) -> Result<Body, NeedFail>
     requires ranked { IsRanked diagram.now }
     requires task { task < length diagram.now.tasks }
     ensures body { IfOk result (λ written. written ≡ scenario_body body diagram.now task) }
@@ -34,12 +39,10 @@ fn scenario_body(alloc: Global, body: Body, diagram: &Diagram, task: u32) -> Res
         return Err(fault);
     }
     let trace = scenario_trace(alloc, diagram, task)?;
-    Ok(Body {
-        until: scenario_end(diagram, task),
-        trace: Some(trace),
-        script: None,
-        ..body
-    })
+    body.until = scenario_end(diagram, task);
+    body.trace = Some(trace);
+    body.script = None;
+    Ok(body)
 }
 
 /// The document of the scenario of the task, which is numbered from 0: the body with another end, another trace and no
