@@ -8,7 +8,6 @@ use crate::{Batch, Diagram, List, NoMemory, Sample};
 
 /// A ranked diagram with the samples of its inputs and the batches of its tasks' occurrences. Its type keeps the
 /// rules of a plan, which are `IsPlan`.
-#[derive(Drop)]
 pub struct Plan {
     pub diagram: Diagram,
     /// By time, then by input.
@@ -17,6 +16,17 @@ pub struct Plan {
     pub batches: List<Batch>,
     /// The rules of a plan.
     pub ghost rules: { IsPlan diagram samples batches } by { Prim.hlevel props },
+}
+
+// By hand, as the prover then takes one step where a plan is dropped, and not one for each part.
+impl Drop for Plan {
+    fn drop(self) {
+        let Plan {
+            diagram: _,
+            samples: _,
+            batches: _,
+        } = self;
+    }
 }
 
 impl Plan {

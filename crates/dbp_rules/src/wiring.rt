@@ -51,7 +51,6 @@ pub struct TaskWiring {
 }
 
 /// What the steps look up in a plan.
-#[derive(Drop)]
 pub struct Wiring {
     /// Which links keep a writer from a slot.
     pub count: Count,
@@ -63,6 +62,19 @@ pub struct Wiring {
     pub releases: List<Release>,
     /// The samples of each input.
     pub samples: List<List<Sample>>,
+}
+
+// By hand, as the prover then takes one step where a wiring is dropped, and not one for each part.
+impl Drop for Wiring {
+    fn drop(self) {
+        let Wiring {
+            count: _,
+            tasks: _,
+            links: _,
+            releases: _,
+            samples: _,
+        } = self;
+    }
 }
 
 impl Wiring {

@@ -121,8 +121,7 @@ pub fn ranked(alloc: Global, shaped: Shaped) -> Result<Diagram, CheckFail>
         return Err(rank_refusal(fault));
     }
     let ranks = ranks(alloc, shaped.diagram.policy, shaped.diagram.tasks.items())?;
-    Ok(Diagram {
-        ranks,
-        ..shaped.diagram
-    })
+    let mut diagram = shaped.diagram;
+    diagram.ranks = ranks;
+    Ok(diagram)
 }

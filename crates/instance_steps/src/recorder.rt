@@ -36,11 +36,21 @@ impl Keeping {
 /// Its calls make the pieces of a recorded list. Each says which events its steps play, from which state to which, and
 /// what else it changes. If memory runs out in a call, the recorder is of no further use: its core may be one step ahead
 /// of its steps.
-#[derive(Drop)]
 pub struct Recorder {
     pub(crate) core: Stepper,
     pub(crate) steps: Option<List<Step>>,
     pub(crate) table: Table,
+}
+
+// By hand, as the prover then takes one step where it is dropped, and not one for each part.
+impl Drop for Recorder {
+    fn drop(self) {
+        let Recorder {
+            core: _,
+            steps: _,
+            table: _,
+        } = self;
+    }
 }
 
 impl Recorder {
@@ -88,7 +98,12 @@ impl Recorder {
         ensures steps { result.0 ≡ record_in self }
         ensures table { result.1 ≡ table_in self }
     {
-        (self.steps, self.table)
+        let Recorder {
+            core: _,
+            steps,
+            table,
+        } = self;
+        (steps, table)
     }
 
     // Makes the step, and keeps it if steps are kept.

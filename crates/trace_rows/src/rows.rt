@@ -103,11 +103,21 @@ fn no_contents(alloc: Global, columns: usize) -> Result<Vec<CellContent>, NoMemo
 }
 
 // What the columns of a header hold, and in which of them the inputs and the events stand.
-#[derive(Drop)]
 struct Columns {
     kinds: Vec<Kind>,
     inputs: Vec<usize>,
     events: Vec<usize>,
+}
+
+// By hand, as the prover then takes one step where it is dropped, and not one for each part.
+impl Drop for Columns {
+    fn drop(self) {
+        let Columns {
+            kinds: _,
+            inputs: _,
+            events: _,
+        } = self;
+    }
 }
 
 fn columns_of(

@@ -41,9 +41,15 @@ fn trim_cells(cells: &mut ByteRecord) -> Result<(), NoMemory>
 
 /// The records of a trace section that haven't been read yet. A line's record is the line, cut at its commas, without
 /// spaces and tabs around its cells.
-#[derive(Drop)]
 pub struct Records<'t> {
     reader: Reader<&'t [u8]>,
+}
+
+// By hand, as the prover then takes one step where it is dropped, and not one for each part.
+impl Drop for Records<'_> {
+    fn drop(self) {
+        let Records { reader: _ } = self;
+    }
 }
 
 impl<'t> Records<'t> {

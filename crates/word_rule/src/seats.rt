@@ -15,7 +15,6 @@ use dbp_slots::Layout;
 use std::alloc::Global;
 
 /// The words that the parties of a run share. They have no lock: each call is one atomic step on one word.
-#[derive(Drop)]
 pub struct SlotWords {
     pub(crate) table: Table<(), View, Plan, SoundWords, Global>,
     pub(crate) plan: Plan,
@@ -25,6 +24,18 @@ pub struct SlotWords {
     ghost sized: { table.shared.table_id.words ≡ word_count (sizes_of plan.diagram) },
     ghost wired: { wiring ≡ run_wiring plan },
     ghost laid: { sizes layout ≡ sizes_of plan.diagram },
+}
+
+// By hand, as the prover then takes one step where it is dropped, and not one for each part.
+impl Drop for SlotWords {
+    fn drop(self) {
+        let SlotWords {
+            table: _,
+            plan: _,
+            wiring: _,
+            layout: _,
+        } = self;
+    }
 }
 
 /// The seat of the releaser, with its part of the protocol.
