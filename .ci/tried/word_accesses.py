@@ -12,6 +12,8 @@ ALLOWED = {"load", "store", "split_seat"}
 ACCESS = re.compile(r"\bself\s*\.\s*table\s*\.\s*shared\s*\.\s*(\w+)")
 # How often a file names the table or its shared part otherwise: its field, and where it is made.
 OTHERWISE = {"seats.rt": 1, "begin.rt": 2}
+# A pattern that gives the table no name, as where it is dropped.
+NAMELESS = re.compile(r"\btable: _")
 
 
 def code_of(text):
@@ -25,7 +27,7 @@ def access_fault(name, text):
     strange = sorted({it for it in ACCESS.findall(code)} - ALLOWED)
     if strange:
         return f"{name} reaches the table by {', '.join(strange)}"
-    if len(re.findall(r"\b(?:table|shared)\b", ACCESS.sub("", code))) != OTHERWISE.get(name, 0):
+    if len(re.findall(r"\b(?:table|shared)\b", NAMELESS.sub("", ACCESS.sub("", code)))) != OTHERWISE.get(name, 0):
         return f"{name} hands the table on, or reaches it under another name"
     for function in re.split(r"\bfn\b", code)[1:]:
         called = re.match(r"\s*(\w+)", function).group(1)
