@@ -1,11 +1,17 @@
-//! Tests of documents: their lines, checks, traces and plans, and of generated ones.
+//! Tests of documents, for what no command shows: names in refusals, headers, lines, times and releases of plans.
 #![tactic(auto)]
 
 #[cfg(test)]
-mod checking;
+mod expressions;
 #[cfg(test)]
-mod load;
+mod headers;
 #[cfg(test)]
-mod plan;
+mod lines;
 #[cfg(test)]
-mod reading;
+mod plans;
+#[cfg(test)]
+mod printing;
+#[cfg(test)]
+mod refusals;
+#[cfg(test)]
+mod slots;
