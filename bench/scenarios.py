@@ -3,12 +3,11 @@
 
   bench/scenarios.py [--program PROGRAM] [--count N] [--seed N] [--planted FAULT]
 
-The documents of crates/document_tests/src/analysis/scenarios.rt are tried first, then the one with the most slots, and then
-2,000 that are drawn: a task at any place among up to 15 others, most of which read it. A plain formula writes the
+The documents of cases/need/scenarios/ and cases/need/last_task/ are tried first, then the one with the most slots, and
+then 2,000 that are drawn: a task at any place among up to 15 others, most of which read it. A plain formula writes the
 task's scenario (`scenario_of`), and so must `need`. It must be canonical and have no overrun. Then the steps of its
-record are read, with
-what `replay --ranked` says that each hears. After the task's last release each of its slots must be the current one, a
-kept one, or claimed for an instance that hasn't ended.
+record are read, with what `replay --ranked` says that each hears. After the task's last release each of its slots must
+be the current one, a kept one, or claimed for an instance that hasn't ended.
 
 A planted fault of the formula must be found: `late` (each reader occurs a firing late) or `short` (each group has a
 firing too few). Prints each fault with its document, and last the counts; the exit status is 0 only if there is no
@@ -37,8 +36,8 @@ from program import read_as_answer  # noqa: E402
 from running import parser_of  # noqa: E402
 from scenario_texts import LATE, SHORT, drawn_document, scenario_of, with_the_most_slots  # noqa: E402
 
-BY_HAND = TOP / "crates" / "document_tests" / "src" / "analysis" / "scenarios.rt"
-ROW = re.compile(r'\(\s*"([^"]*)",\s*([0-9]+),\s*"([^"]*)",\s*\)')  # a document, a task's place, and the scenario
+BY_HAND = TOP / "cases" / "need" / "scenarios", TOP / "cases" / "need" / "last_task"
+TASK = re.compile(r"(?m)^\s*task (\w+)")
 
 
 @dataclass(frozen=True)
@@ -62,10 +61,15 @@ class Tried:
 
 def trials_by_hand():
     """Returns the trials whose scenarios were written by hand."""
-    rows = ROW.findall(BY_HAND.read_text())
-    if not rows:
-        sys.exit(f"{BY_HAND} has no scenarios")
-    return [Trial(f"{BY_HAND.name} {number}", row[0], int(row[1]), row[2]) for number, row in enumerate(rows)]
+    found = []
+    for folder in BY_HAND:
+        task = (folder / "words").read_text().split()[-1]
+        for file in sorted(folder.glob("*.dbp")):
+            text = file.read_text()
+            found.append(Trial(file.stem, text, TASK.findall(text).index(task), Path(f"{file}.stdout").read_text()))
+    if not found:
+        sys.exit(f"{BY_HAND} have no scenarios")
+    return found
 
 
 def drawn_trial(seed, number):
