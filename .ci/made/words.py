@@ -18,8 +18,8 @@ NO_COMMANDS = (
 
 # Words that are empty, or have blanks in them.
 WITH_BLANKS = (
-    [""], [" "], ["", "mean"], ["mean", ""], ["upgrade", ""], ["", "upgrade"], ["upgrade", " "], ["upgrade "], [" upgrade"], ["upgrade x"], ["form", ""], ["sim --record"],
-    ["run", "--turns", ""], ["run", "--turns", " 9"], ["rta", ""], ["", "rta"], ["rta", " "], ["rta "], [" rta"], ["rta x"],
+    [""], [" "], ["", "mean"], ["mean", ""], ["mean "], ["form", ""], ["", "form"], ["upgrade", ""], ["", "upgrade"], ["upgrade", " "], ["upgrade "], [" upgrade"], ["upgrade x"], ["sim --record"],
+    ["run", "--turns", ""], ["run", "--turns", " 9"], ["run", "--turns", "9 "], ["rta", ""], ["", "rta"], ["rta", " "], ["rta "], [" rta"], ["rta x"],
     ["need", ""], ["need", " "], ["need", " a"], ["need", "a "], ["need", "a b"], ["need", "a\n"], ["need", "a", ""], ["need", "", "a"], ["", "need", "a"], ["need a"],
     ["rank", ""], ["", "rank"], ["rank", " "], ["rank "], [" rank"], ["rank x"], ["rank\n"],
     ["cpus", ""], ["", "cpus"], ["cpus", " "], ["cpus "], [" cpus"], ["cpus --record"], ["cpus", "--record", ""], ["cpus", "--record "], ["cpus\n"],

@@ -70,6 +70,16 @@ TRIALS = [
     ("unwritten canonical text", ["form"], EXAMPLE.read_bytes(), True, 5),
     ("nothing to be written", ["mean"], NO_LINES, True, 0),
     ("no command", ["men"], None, True, 2),
+    ("no words", [], None, True, 2),
+    ("an empty word", [""], None, True, 2),
+    ("an empty word after a command", ["form", ""], None, True, 2),
+    ("an empty word before a command", ["", "form"], None, True, 2),
+    ("a blank after a command", ["mean "], None, True, 2),
+    ("an empty number of turns", ["run", "--turns", ""], None, True, 2),
+    ("a blank after a number of turns", ["run", "--turns", "9 "], None, True, 2),
+    ("no command with an empty task", ["need", ""], None, True, 2),
+    ("no command with a number as a task", ["need", "9x"], None, True, 2),
+    ("no command with two tasks", ["need", "a", "b"], None, True, 2),
     ("no document is needed", ["soak", "0", "1"], None, False, 0),
 ]
 

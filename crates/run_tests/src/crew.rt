@@ -1,6 +1,5 @@
 // Tests of crews.
 
-mod crews;
 mod gates;
 mod paces;
-mod runs;
+pub(crate) mod runs;

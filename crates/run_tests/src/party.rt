@@ -1,5 +1,4 @@
 // Tests of the parties of a run.
 
-mod rounds;
 mod runs;
 mod turns;

@@ -71,16 +71,6 @@ struct LastGate {
 }
 
 impl LastGate {
-    fn new() -> LastGate {
-        LastGate {
-            early: AtomicU64::new(0),
-            late: AtomicU64::new(0),
-            releaser: AtomicU64::new(0),
-            given_up: AtomicU64::new(0),
-            finished: AtomicU64::new(0),
-        }
-    }
-
     // Waits until the party whose turns these are has been told this one.
     fn wait_for(&self, told: &AtomicU64, turn: u64) {
         for _ in 0..MOST_POLLS {
@@ -133,7 +123,13 @@ fn hold_releaser<R: Abort + Threads + Wait + Sync>(
     alloc: Global,
     plan: &Plan,
 ) -> Result<(), Fail> {
-    let pace = LastGate::new();
+    let pace = LastGate {
+        early: AtomicU64::new(0),
+        late: AtomicU64::new(0),
+        releaser: AtomicU64::new(0),
+        given_up: AtomicU64::new(0),
+        finished: AtomicU64::new(0),
+    };
     assert!(rt; makes_meaning_at(rt, alloc, &pace, plan)?);
     assert_eq!(rt; pace.given_up.load(Ordering::SeqCst), 0);
     assert_eq!(rt; pace.finished.load(Ordering::SeqCst), 0);

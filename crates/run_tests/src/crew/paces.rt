@@ -1,6 +1,6 @@
 // Paces that hold parties up.
 
-use crate::crew::runs::{METER, makes_meaning_at};
+use crate::crew::runs::makes_meaning_at;
 use dbp_plan::Plan;
 use party_exec::Pace;
 use std::alloc::Global;
@@ -11,6 +11,34 @@ use std::test::Fail;
 use std::thread;
 use std::thread::Threads;
 use test_inputs::{THREE_RATES, plan_in};
+
+// A meter, a controller that it reads through a delay, and a log.
+const METER: &str = "dbp 1
+policy fp
+until 1000
+input speed = 0
+input target = 100
+task meter every 5 prio 3 cost 1
+  sense v = speed
+  read u = pre control.u
+  state sum = 0
+  let s = (sum * 3 + v) / 4
+  next sum = s
+  out f = 0 then s
+  out g = 0 then u
+task control every 10 prio 2 cost 2
+  read m = meter.f
+  sense t = target
+  out u = 0 then t - m
+task log every 50 prio 1 cost 5
+  read u = control.u
+  out w = 0 then u
+trace
+time,speed,target
+0,40,
+500,80,
+done
+";
 
 // How often a party looks for the others before it gives up: some 10 seconds, or 20 where the processors are busy.
 pub(crate) const MOST_POLLS: u32 = 4_000_000;
@@ -23,18 +51,6 @@ struct Meeting {
 }
 
 impl Meeting {
-    fn new() -> Meeting {
-        Meeting {
-            came: [
-                AtomicU64::new(0),
-                AtomicU64::new(0),
-                AtomicU64::new(0),
-                AtomicU64::new(0),
-            ],
-            given_up: AtomicU64::new(0),
-        }
-    }
-
     fn all_came(&self) -> bool {
         self.came
             .iter()
@@ -72,7 +88,15 @@ impl Pace for &Meeting {
 
 // The parties of the plan meet.
 fn meet<R: Abort + Threads + Wait + Sync>(rt: &R, alloc: Global, plan: &Plan) -> Result<(), Fail> {
-    let meeting = Meeting::new();
+    let meeting = Meeting {
+        came: [
+            AtomicU64::new(0),
+            AtomicU64::new(0),
+            AtomicU64::new(0),
+            AtomicU64::new(0),
+        ],
+        given_up: AtomicU64::new(0),
+    };
     assert!(rt; makes_meaning_at(rt, alloc, &meeting, plan)?);
     assert_eq!(rt; meeting.given_up.load(Ordering::SeqCst), 0);
     assert!(rt; meeting.all_came());
@@ -92,17 +116,6 @@ struct Holding {
     polls: u32,
     turns: AtomicU64,
     miscounted: AtomicU64,
-}
-
-impl Holding {
-    fn new(task: u32, polls: u32) -> Holding {
-        Holding {
-            task,
-            polls,
-            turns: AtomicU64::new(0),
-            miscounted: AtomicU64::new(0),
-        }
-    }
 }
 
 impl Pace for &Holding {
@@ -130,7 +143,12 @@ fn hold_up<R: Abort + Threads + Wait + Sync>(
     plan: &Plan,
     task: u32,
 ) -> Result<(), Fail> {
-    let pace = Holding::new(task, 1_000);
+    let pace = Holding {
+        task,
+        polls: 1_000,
+        turns: AtomicU64::new(0),
+        miscounted: AtomicU64::new(0),
+    };
     assert!(rt; makes_meaning_at(rt, alloc, &pace, plan)?);
     assert_eq!(rt; pace.miscounted.load(Ordering::SeqCst), 0);
     assert!(rt; pace.turns.load(Ordering::SeqCst) > 0);

@@ -1,4 +1,4 @@
-// The calls of the seats, each after asking the part of its seat.
+// The calls of the seats, each after asking the part of its seat, and what the calls return.
 
 ghost use Rattle.std.specs.Prelude.{◌≡◌, None, OnOk};
 ghost use Rattle.dbp_rules.specs.PartyRules.{task_refusal};
@@ -9,9 +9,22 @@ ghost use Rattle.word_rule.specs.Seats.{ReleaserSits, TaskSits};
 use crate::word::meant::word_of;
 use dbp_plan::Table;
 use dbp_rules::{Order, Step};
+use std::process::Abort;
 use std::test::Fail;
 use test_inputs::is_named;
 use word_rule::{Look, Opened, ReleaserSeat, SlotWords, TaskSeat};
+
+// A call of a task's seat, with what it returns. A look and a take are of the first read, and a put is of the first out.
+pub(crate) enum TaskCall {
+    Start(Opened),
+    Hear(Order),
+    Look(Look),
+    Take(i64),
+    Shut,
+    Put,
+    Done,
+    End,
+}
 
 // Makes the step, which stores a word, if the releaser's part allows it.
 pub(crate) fn release(words: &SlotWords, seat: &mut ReleaserSeat, step: Step) -> Result<(), Fail>
@@ -56,59 +69,8 @@ fn ask(words: &SlotWords, seat: &TaskSeat, step: Step) -> Result<(), Fail>
     Ok(())
 }
 
-// What the task's gate says.
-pub(crate) fn start(words: &SlotWords, seat: &mut TaskSeat) -> Result<Opened, Fail>
-    requires { TaskSits words.now seat.old }
-    ensures { TaskSits words.now seat.new }
-{
-    let task = seat.task();
-    ask(words, seat, Step::Start { task })?;
-    Ok(words.start(seat))
-}
-
-// The task's next order.
-pub(crate) fn hear(words: &SlotWords, seat: &mut TaskSeat) -> Result<Order, Fail>
-    requires { TaskSits words.now seat.old }
-    ensures { TaskSits words.now seat.new }
-{
-    let task = seat.task();
-    ask(words, seat, Step::Hear { task })?;
-    Ok(words.hear(seat))
-}
-
-// What the task finds for its first read.
-pub(crate) fn look(words: &SlotWords, seat: &mut TaskSeat) -> Result<Look, Fail>
-    requires { TaskSits words.now seat.old }
-    ensures { TaskSits words.now seat.new }
-{
-    let task = seat.task();
-    ask(words, seat, Step::Look { task, read: 0 })?;
-    Ok(words.look(seat, 0))
-}
-
-// The word of the task's first read.
-pub(crate) fn take(words: &SlotWords, seat: &mut TaskSeat) -> Result<i64, Fail>
-    requires { TaskSits words.now seat.old }
-    ensures { TaskSits words.now seat.new }
-{
-    let task = seat.task();
-    ask(words, seat, Step::Take { task, read: 0 })?;
-    Ok(words.take(seat, 0))
-}
-
-// Shuts the task's slot.
-pub(crate) fn shut(words: &SlotWords, seat: &mut TaskSeat) -> Result<(), Fail>
-    requires { TaskSits words.now seat.old }
-    ensures { TaskSits words.now seat.new }
-{
-    let task = seat.task();
-    ask(words, seat, Step::Shut { task })?;
-    words.shut(seat);
-    Ok(())
-}
-
 // Puts the task's first out, by the table of the meaning.
-pub(crate) fn put(words: &SlotWords, seat: &mut TaskSeat, table: &Table) -> Result<(), Fail>
+fn put(words: &SlotWords, seat: &mut TaskSeat, table: &Table) -> Result<(), Fail>
     requires here { TaskSits words.now seat.old }
     requires table { table.now ≡ meaning_of words.now.plan }
     ensures { TaskSits words.now seat.new }
@@ -120,24 +82,49 @@ pub(crate) fn put(words: &SlotWords, seat: &mut TaskSeat, table: &Table) -> Resu
     Ok(())
 }
 
-// Stamps the task's slot.
-pub(crate) fn done(words: &SlotWords, seat: &mut TaskSeat) -> Result<(), Fail>
-    requires { TaskSits words.now seat.old }
+// Makes the call, and compares what it returns. A put is by the table of the meaning.
+pub(crate) fn make(
+    rt: &impl Abort,
+    words: &SlotWords,
+    table: &Table,
+    seat: &mut TaskSeat,
+    call: &TaskCall,
+) -> Result<(), Fail>
+    requires table { table.now ≡ meaning_of words.now.plan }
+    requires here { TaskSits words.now seat.old }
     ensures { TaskSits words.now seat.new }
 {
     let task = seat.task();
-    ask(words, seat, Step::Done { task })?;
-    words.done(seat);
-    Ok(())
-}
-
-// Ends the task's instance.
-pub(crate) fn end(words: &SlotWords, seat: &mut TaskSeat) -> Result<(), Fail>
-    requires { TaskSits words.now seat.old }
-    ensures { TaskSits words.now seat.new }
-{
-    let task = seat.task();
-    ask(words, seat, Step::End { task })?;
-    words.end(seat);
+    match call {
+        TaskCall::Start(opened) => {
+            ask(words, seat, Step::Start { task })?;
+            assert_eq!(rt; words.start(seat), *opened);
+        }
+        TaskCall::Hear(order) => {
+            ask(words, seat, Step::Hear { task })?;
+            assert_eq!(rt; words.hear(seat), *order);
+        }
+        TaskCall::Look(look) => {
+            ask(words, seat, Step::Look { task, read: 0 })?;
+            assert_eq!(rt; words.look(seat, 0), *look);
+        }
+        TaskCall::Take(word) => {
+            ask(words, seat, Step::Take { task, read: 0 })?;
+            assert_eq!(rt; words.take(seat, 0), *word);
+        }
+        TaskCall::Shut => {
+            ask(words, seat, Step::Shut { task })?;
+            words.shut(seat);
+        }
+        TaskCall::Put => put(words, seat, table)?,
+        TaskCall::Done => {
+            ask(words, seat, Step::Done { task })?;
+            words.done(seat);
+        }
+        TaskCall::End => {
+            ask(words, seat, Step::End { task })?;
+            words.end(seat);
+        }
+    }
     Ok(())
 }

@@ -1,6 +1,6 @@
-// The words that parties share, and their seats: one step after another.
+// The words that parties share, and their seats: one call after another.
 //
-// Public clauses leave open which number a `Closed`, a `NotYet` and a `seen` return. These tests find a `start` that
+// Public clauses leave open which number a `Closed`, a `NotYet` and a `seen` return. This test finds a `start` that
 // returns `Closed` at an open gate or names another gate, a `look` that returns `NotYet` at the ordered row or names
 // another stamp, and a `seen` that returns the number that was known before.
 
@@ -9,7 +9,7 @@ ghost use Rattle.sync_meaning.specs.SomeMeaning.{meaning_of};
 ghost use Rattle.word_rule.specs.FirstSeats.{AreFirstTasks};
 ghost use Rattle.word_rule.specs.Seats.{ReleaserSits, TaskSits};
 
-use crate::word::calls::{done, end, hear, look, put, release, seen, shut, start, take};
+use crate::word::calls::{TaskCall, make, release, seen};
 use dbp_plan::{Plan, Table};
 use dbp_rules::{Order, Step};
 use std::alloc::Global;
@@ -19,179 +19,105 @@ use sync_meaning::mean;
 use test_inputs::{TWO_RATES, plan_in};
 use word_rule::{Look, Opened, ReleaserSeat, SlotWords, TaskSeat};
 
-// The same two tasks with words below 0.
-const BELOW_ZERO: &str = "dbp 1
-policy fp
-until 6
-task a every 2 prio 2 cost 1
-  state n = -5
-  next n = n - 1
-  out y = -3 then n - 1
-task b every 3 prio 1 cost 2
-  read x = a.y
-  out z = 0 then x * 10
-done
-";
-
-// The first release of both tasks, of which the first asks before its gate is open.
-fn open_both(
-    rt: &impl Abort,
-    words: &SlotWords,
-    releaser: &mut ReleaserSeat,
-    a: &mut TaskSeat,
-) -> Result<(), Fail>
-    requires releaser { ReleaserSits words.now releaser.old }
-    requires a { TaskSits words.now a.old }
-    ensures releaser { ReleaserSits words.now releaser.new }
-    ensures a { TaskSits words.now a.new }
-{
-    release(words, releaser, Step::Aim { task: 0, slot: 0 })?;
-    release(words, releaser, Step::Aim { task: 1, slot: 0 })?;
-    release(words, releaser, Step::Claim { link: 0 })?;
-    assert_eq!(rt; start(words, a)?, Opened::Closed { gate: 0 });
-    assert_eq!(rt; seen(words, releaser, 0)?, 0);
-    release(words, releaser, Step::OpenGate { task: 0 })?;
-    release(words, releaser, Step::OpenGate { task: 1 })
+// A step of the releaser that stores a word, a task with the number of its instances that the releaser sees ended, or a
+// call of one of the two tasks.
+enum Call {
+    Release(Step),
+    Seen(u32, u32),
+    A(TaskCall),
+    B(TaskCall),
 }
 
-// Task b starts, hears its orders, and waits for a, which shuts its slot.
-fn wait_for_a(
-    rt: &impl Abort,
-    words: &SlotWords,
-    a: &mut TaskSeat,
-    b: &mut TaskSeat,
-) -> Result<(), Fail>
-    requires a { TaskSits words.now a.old }
-    requires b { TaskSits words.now b.old }
-    ensures a { TaskSits words.now a.new }
-    ensures b { TaskSits words.now b.new }
-{
-    let order = Order { slot: 0, number: 1 };
-    assert_eq!(rt; start(words, b)?, Opened::Started);
-    assert_eq!(rt; hear(words, b)?, order);
-    assert_eq!(rt; hear(words, b)?, order);
-    assert_eq!(rt; look(words, b)?, Look::NotYet { stamp: 1 });
-    assert_eq!(rt; start(words, a)?, Opened::Started);
-    assert_eq!(rt; hear(words, a)?, order);
-    shut(words, a)?;
-    assert_eq!(rt; look(words, b)?, Look::NotYet { stamp: 0 });
-    Ok(())
-}
+// Task b reads what a's first two instances give.
+static CALLS: &[Call] = &[
+    // the first release of both tasks, of which the first asks before its gate is open
+    Call::Release(Step::Aim { task: 0, slot: 0 }),
+    Call::Release(Step::Aim { task: 1, slot: 0 }),
+    Call::Release(Step::Claim { link: 0 }),
+    Call::A(TaskCall::Start(Opened::Closed { gate: 0 })),
+    Call::Seen(0, 0),
+    Call::Release(Step::OpenGate { task: 0 }),
+    Call::Release(Step::OpenGate { task: 1 }),
+    // task b starts, hears its orders, and waits for a, which shuts its slot
+    Call::B(TaskCall::Start(Opened::Started)),
+    Call::B(TaskCall::Hear(Order { slot: 0, number: 1 })),
+    Call::B(TaskCall::Hear(Order { slot: 0, number: 1 })),
+    Call::B(TaskCall::Look(Look::NotYet { stamp: 1 })),
+    Call::A(TaskCall::Start(Opened::Started)),
+    Call::A(TaskCall::Hear(Order { slot: 0, number: 1 })),
+    Call::A(TaskCall::Shut),
+    Call::B(TaskCall::Look(Look::NotYet { stamp: 0 })),
+    // task a fills its slot, and b takes its word from there
+    Call::A(TaskCall::Put),
+    Call::B(TaskCall::Look(Look::NotYet { stamp: 0 })),
+    Call::A(TaskCall::Done),
+    Call::B(TaskCall::Look(Look::Ready)),
+    Call::B(TaskCall::Take(1)),
+    // task a ends its instance, and finds its gate closed for the next one until that is released
+    Call::A(TaskCall::End),
+    Call::A(TaskCall::Start(Opened::Closed { gate: 1 })),
+    Call::Seen(0, 1),
+    Call::Release(Step::Aim { task: 0, slot: 1 }),
+    Call::Release(Step::OpenGate { task: 0 }),
+    // task a makes all steps of its second instance
+    Call::A(TaskCall::Start(Opened::Started)),
+    Call::A(TaskCall::Hear(Order { slot: 1, number: 2 })),
+    Call::A(TaskCall::Shut),
+    Call::A(TaskCall::Put),
+    Call::A(TaskCall::Done),
+    Call::A(TaskCall::End),
+    Call::A(TaskCall::Start(Opened::Closed { gate: 2 })),
+    Call::Seen(0, 2),
+    // task b ends its first instance, and its second one is released
+    Call::B(TaskCall::Shut),
+    Call::B(TaskCall::Put),
+    Call::B(TaskCall::Done),
+    Call::B(TaskCall::End),
+    Call::Seen(1, 1),
+    Call::Release(Step::Aim { task: 1, slot: 0 }),
+    Call::Release(Step::Claim { link: 0 }),
+    Call::Release(Step::OpenGate { task: 1 }),
+    // task b takes the word of a's second instance
+    Call::B(TaskCall::Start(Opened::Started)),
+    Call::B(TaskCall::Hear(Order { slot: 0, number: 2 })),
+    Call::B(TaskCall::Hear(Order { slot: 1, number: 2 })),
+    Call::B(TaskCall::Look(Look::Ready)),
+    Call::B(TaskCall::Take(2)),
+];
 
-// Task a fills its slot, and b takes its word from there.
-fn take_from_a(
-    rt: &impl Abort,
-    words: &SlotWords,
-    table: &Table,
-    a: &mut TaskSeat,
-    b: &mut TaskSeat,
-    word: i64,
-) -> Result<(), Fail>
-    requires table { table.now ≡ meaning_of words.now.plan }
-    requires a { TaskSits words.now a.old }
-    requires b { TaskSits words.now b.old }
-    ensures a { TaskSits words.now a.new }
-    ensures b { TaskSits words.now b.new }
-{
-    put(words, a, table)?;
-    assert_eq!(rt; look(words, b)?, Look::NotYet { stamp: 0 });
-    done(words, a)?;
-    assert_eq!(rt; look(words, b)?, Look::Ready);
-    assert_eq!(rt; take(words, b)?, word);
-    Ok(())
-}
-
-// Task a ends its instance, and finds its gate closed for the next one until that is released.
-fn release_a_again(
-    rt: &impl Abort,
-    words: &SlotWords,
-    releaser: &mut ReleaserSeat,
-    a: &mut TaskSeat,
-) -> Result<(), Fail>
-    requires releaser { ReleaserSits words.now releaser.old }
-    requires a { TaskSits words.now a.old }
-    ensures releaser { ReleaserSits words.now releaser.new }
-    ensures a { TaskSits words.now a.new }
-{
-    end(words, a)?;
-    assert_eq!(rt; start(words, a)?, Opened::Closed { gate: 1 });
-    assert_eq!(rt; seen(words, releaser, 0)?, 1);
-    release(words, releaser, Step::Aim { task: 0, slot: 1 })?;
-    release(words, releaser, Step::OpenGate { task: 0 })
-}
-
-// Task a makes all steps of its second instance.
-fn run_a_again(
+// The releaser and the two tasks make these calls.
+fn make_all(
     rt: &impl Abort,
     words: &SlotWords,
     table: &Table,
     releaser: &mut ReleaserSeat,
     a: &mut TaskSeat,
+    b: &mut TaskSeat,
+    calls: &[Call],
 ) -> Result<(), Fail>
     requires table { table.now ≡ meaning_of words.now.plan }
     requires releaser { ReleaserSits words.now releaser.old }
     requires a { TaskSits words.now a.old }
-    ensures { ReleaserSits words.now releaser.new }
-{
-    assert_eq!(rt; start(words, a)?, Opened::Started);
-    assert_eq!(rt; hear(words, a)?, Order { slot: 1, number: 2 });
-    shut(words, a)?;
-    put(words, a, table)?;
-    done(words, a)?;
-    end(words, a)?;
-    assert_eq!(rt; start(words, a)?, Opened::Closed { gate: 2 });
-    assert_eq!(rt; seen(words, releaser, 0)?, 2);
-    Ok(())
-}
-
-// Task b ends its first instance, and its second one is released.
-fn release_b_again(
-    rt: &impl Abort,
-    words: &SlotWords,
-    table: &Table,
-    releaser: &mut ReleaserSeat,
-    b: &mut TaskSeat,
-) -> Result<(), Fail>
-    requires table { table.now ≡ meaning_of words.now.plan }
-    requires releaser { ReleaserSits words.now releaser.old }
     requires b { TaskSits words.now b.old }
-    ensures { TaskSits words.now b.new }
 {
-    shut(words, b)?;
-    put(words, b, table)?;
-    done(words, b)?;
-    end(words, b)?;
-    assert_eq!(rt; seen(words, releaser, 1)?, 1);
-    release(words, releaser, Step::Aim { task: 1, slot: 0 })?;
-    release(words, releaser, Step::Claim { link: 0 })?;
-    release(words, releaser, Step::OpenGate { task: 1 })
-}
-
-// Task b takes the word of a's second instance.
-fn take_from_a_again(
-    rt: &impl Abort,
-    words: &SlotWords,
-    b: &mut TaskSeat,
-    word: i64,
-) -> Result<(), Fail>
-    requires { TaskSits words.now b.old }
-{
-    assert_eq!(rt; start(words, b)?, Opened::Started);
-    assert_eq!(rt; hear(words, b)?, Order { slot: 0, number: 2 });
-    assert_eq!(rt; hear(words, b)?, Order { slot: 1, number: 2 });
-    assert_eq!(rt; look(words, b)?, Look::Ready);
-    assert_eq!(rt; take(words, b)?, word);
+    for call in calls {
+        match call {
+            Call::Release(step) => release(words, releaser, *step)?,
+            Call::Seen(task, ended) => assert_eq!(rt; seen(words, releaser, *task)?, *ended),
+            Call::A(made) => make(rt, words, table, a, made)?,
+            Call::B(made) => make(rt, words, table, b, made)?,
+        }
+    }
     Ok(())
 }
 
-// The releaser and the two tasks make these steps. Task b reads these words.
+// The tasks are these two.
 fn share(
     rt: &impl Abort,
     words: &SlotWords,
     table: &Table,
     releaser: &mut ReleaserSeat,
     seats: &mut [TaskSeat],
-    read: [i64; 2],
 ) -> Result<(), Fail>
     requires table { table.now ≡ meaning_of words.now.plan }
     requires releaser { ReleaserSits words.now releaser.old }
@@ -200,42 +126,25 @@ fn share(
     let [a, b] = seats else {
         return Err(Fail::from("not two tasks"));
     };
-    open_both(rt, words, releaser, a)?;
-    wait_for_a(rt, words, a, b)?;
-    take_from_a(rt, words, table, a, b, read[0])?;
-    release_a_again(rt, words, releaser, a)?;
-    run_a_again(rt, words, table, releaser, a)?;
-    release_b_again(rt, words, table, releaser, b)?;
-    take_from_a_again(rt, words, b, read[1])
+    make_all(rt, words, table, releaser, a, b, CALLS)
 }
 
 // The plan, played so by its words. The table is what it means.
-fn play_plan(
-    rt: &impl Abort,
-    alloc: Global,
-    plan: Plan,
-    table: &Table,
-    read: [i64; 2],
-) -> Result<(), Fail>
+fn play_plan(rt: &impl Abort, alloc: Global, plan: Plan, table: &Table) -> Result<(), Fail>
     requires { table.now ≡ meaning_of plan }
 {
     let (words, mut releaser, mut seats) = SlotWords::new(alloc, plan)?;
-    share(rt, &words, table, &mut releaser, seats.items_mut(), read)
+    share(rt, &words, table, &mut releaser, seats.items_mut())
 }
 
 // The plan that the text spells.
-fn play(rt: &impl Abort, alloc: Global, text: &str, read: [i64; 2]) -> Result<(), Fail> {
+fn play(rt: &impl Abort, alloc: Global, text: &str) -> Result<(), Fail> {
     let plan = plan_in(alloc, text)?;
     let table = mean(alloc, &plan)?;
-    play_plan(rt, alloc, plan, &table, read)
+    play_plan(rt, alloc, plan, &table)
 }
 
 #[test]
 fn parties_share_words(rt: HostRuntime) -> Result<(), Fail> {
-    play(&rt, rt.alloc(), TWO_RATES, [1, 2])
-}
-
-#[test]
-fn parties_share_words_below_zero(rt: HostRuntime) -> Result<(), Fail> {
-    play(&rt, rt.alloc(), BELOW_ZERO, [-6, -7])
+    play(&rt, rt.alloc(), TWO_RATES)
 }

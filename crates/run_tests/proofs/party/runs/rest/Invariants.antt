@@ -1,5 +1,0 @@
-use Rattle.party_turns.specs.Parties.{AreParties}
-use Rattle.run_tests.proofs.party.runs.rest.Given as goal
-
-abbrev pub invariant-loop-place : goal.invariant-loop-place
-invariant-loop-place g l = AreParties l.words l.parties
