@@ -1,5 +1,4 @@
 // Tests of the releaser's book.
 
 mod runs;
-mod steps;
 mod turns;

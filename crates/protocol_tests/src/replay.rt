@@ -1,37 +1,27 @@
-// Scripts that are read, printed and replayed.
+// Scripts that are replayed on a plan that is lent, and the codes of scripts.
 
-ghost use Rattle.std.specs.Prelude.{All, IfOk};
+ghost use Rattle.std.specs.Prelude.{All};
 ghost use Rattle.dbp_replay.specs.NamedItems.{IsThere};
 ghost use Rattle.dia_read.specs.Printable.{HasItemLines, IsPrintable};
 
 use dbp_core::{Broken, Count, Illegal, Step};
-use dbp_plan::{Diagram, List, Plan};
-use dbp_replay::{ReplayFail, ScriptCode, print_script, read_script, replay, replay_owned};
+use dbp_plan::{List, Plan};
+use dbp_replay::{ReplayFail, ScriptCode, read_script, replay};
 use dia_read::Doc;
 use std::alloc::Global;
 use std::process::Abort;
 use std::test::Fail;
 use test_inputs::{THREE_RATES, doc_in, plan_of};
 
-// A script of `THREE_RATES`, its steps, how they are printed, and their replay.
+// A script of `THREE_RATES`, and its replay.
 struct Script {
     lines: &'static str,
-    steps: &'static [Step],
-    printed: &'static str,
     replayed: Result<&'static str, ReplayFail>,
 }
 
 static SCRIPTS: [Script; 2] = [
     Script {
-        lines: "claim  h pre 01 a # of the delayed link\naim a 007\ntake h x\nput h w\ndone b\n",
-        steps: &[
-            Step::Claim { link: 1 },
-            Step::Aim { task: 0, slot: 7 },
-            Step::Take { task: 2, read: 0 },
-            Step::Put { task: 2, port: 0 },
-            Step::Done { task: 1 },
-        ],
-        printed: "claim h pre a\naim a 7\ntake h x\nput h w\ndone b\n",
+        lines: "claim h pre a",
         // the releaser's next step is an aim, kind 2, and this is a claim, kind 3
         replayed: Err(ReplayFail::Illegal {
             step: 1,
@@ -43,14 +33,8 @@ static SCRIPTS: [Script; 2] = [
         }),
     },
     Script {
-        lines: "seen b\n\naim a 01\nstart a",
-        steps: &[
-            Step::Seen { task: 1 },
-            Step::Aim { task: 0, slot: 1 },
-            Step::Start { task: 0 },
-        ],
-        printed: "seen b\naim a 1\nstart a\n",
-        replayed: Ok("seen b -> 0\naim a 1\nstart a -> closed\n"),
+        lines: "aim a 1\nstart a",
+        replayed: Ok("aim a 1\nstart a -> closed\n"),
     },
 ];
 
@@ -62,25 +46,6 @@ fn with_script(alloc: Global, lines: &str) -> Result<Vec<u8>, Fail> {
         text.extend_from_slice(part.as_bytes())?;
     }
     Ok(text)
-}
-
-// Reads the script of the document, and prints its steps.
-fn read_and_print(
-    rt: &impl Abort,
-    alloc: Global,
-    doc: &Doc,
-    diagram: &Diagram,
-    script: &Script,
-) -> Result<List<Step>, Fail>
-    requires printable { IsPrintable doc.now.body }
-    requires lines { HasItemLines doc.now }
-    ensures { IfOk result (λ steps. All (IsThere diagram.now) steps) }
-{
-    let steps = read_script(alloc, diagram, doc)?;
-    assert_eq!(rt; steps.items(), script.steps);
-    let printed = print_script(alloc, diagram, &steps)?;
-    assert_eq!(rt; printed.as_slice(), script.printed.as_bytes());
-    Ok(steps)
 }
 
 // Whether a replay has this text, or fails so.
@@ -95,34 +60,32 @@ fn is_replayed(
     }
 }
 
-// Replays the steps on the plan that is lent, and on the plan that is handed over.
-fn replay_twice(
+// Replays the steps on the plan.
+fn compare_on(
     rt: &impl Abort,
     alloc: Global,
-    plan: Plan,
+    plan: &Plan,
     steps: &List<Step>,
     wanted: &Result<&'static str, ReplayFail>,
 )
-    requires { All (IsThere plan.diagram) steps.now }
+    requires { All (IsThere plan.now.diagram) steps.now }
 {
-    let lent = replay(alloc, &plan, Count::All, steps);
-    assert!(rt; is_replayed(&lent, wanted), "{lent:?}");
-    let owned = replay_owned(alloc, plan, Count::All, steps);
-    assert!(rt; is_replayed(&owned, wanted), "{owned:?}");
+    let found = replay(alloc, plan, Count::All, steps);
+    assert!(rt; is_replayed(&found, wanted), "{found:?}");
 }
 
-// Compares what becomes of the document's script.
+// Replays the document's script.
 fn compare_in(rt: &impl Abort, alloc: Global, doc: &Doc, script: &Script) -> Result<(), Fail>
     requires printable { IsPrintable doc.now.body }
     requires lines { HasItemLines doc.now }
 {
     let plan = plan_of(alloc, doc)?;
-    let steps = read_and_print(rt, alloc, doc, &plan.diagram, script)?;
-    replay_twice(rt, alloc, plan, &steps, &script.replayed);
+    let steps = read_script(alloc, &plan.diagram, doc)?;
+    compare_on(rt, alloc, &plan, &steps, &script.replayed);
     Ok(())
 }
 
-// Reads the script, prints its steps and replays them.
+// Replays the script.
 fn compare(rt: &impl Abort, alloc: Global, script: &Script) -> Result<(), Fail> {
     let input = with_script(alloc, script.lines)?;
     let doc = doc_in(alloc, &input)?;
@@ -130,7 +93,7 @@ fn compare(rt: &impl Abort, alloc: Global, script: &Script) -> Result<(), Fail> 
 }
 
 #[test]
-fn scripts_are_read_printed_and_replayed(rt: HostRuntime) -> Result<(), Fail> {
+fn scripts_are_replayed_on_a_plan_that_is_lent(rt: HostRuntime) -> Result<(), Fail> {
     for script in &SCRIPTS {
         compare(&rt, rt.alloc(), script)?;
     }

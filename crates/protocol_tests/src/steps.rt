@@ -1,8 +1,6 @@
 // Tests of the protocol's machine.
 
-mod aims;
-mod claims;
+mod looks;
 mod refusals;
-mod rows;
 mod runs;
 mod scripts;

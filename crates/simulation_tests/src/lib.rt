@@ -2,8 +2,6 @@
 #![tactic(auto)]
 
 #[cfg(test)]
-mod one_processor;
+mod next_event;
 #[cfg(test)]
-mod processors;
-#[cfg(test)]
-mod shown;
+mod simulations;

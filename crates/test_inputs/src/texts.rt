@@ -31,23 +31,10 @@ task h every 1 prio 3 cost 1
 done
 ";
 
-// Two tasks of one deadline, of which the second reads the first.
-const ONE_DEADLINE: &str = "dbp 1
-policy edf
-until 2
-task u every 2 deadline 2 cost 1
-  out y = 0 then 5
-task v every 2 deadline 2 cost 1
-  read x = u.y
-  out z = 0 then x + 1
-done
-";
-
 /// One of these documents. A table of tests names it, since each byte of a text in a table is a step of a proof.
 pub enum Document {
     TwoRates,
     ThreeRates,
-    OneDeadline,
 }
 
 impl Document {
@@ -56,7 +43,6 @@ impl Document {
         match self {
             Document::TwoRates => TWO_RATES,
             Document::ThreeRates => THREE_RATES,
-            Document::OneDeadline => ONE_DEADLINE,
         }
     }
 }

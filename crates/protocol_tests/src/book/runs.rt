@@ -1,4 +1,4 @@
-// The releaser's book beside a core: which step comes next by the numbers that it hears, from the first action to the end.
+// The releaser's book: which step comes next by the numbers that it hears, from the first action to the end.
 
 ghost use Rattle.std.specs.Prelude.{IsTrue};
 ghost use Rattle.dbp_rules.specs.Wired.{wiring_of};
@@ -7,33 +7,14 @@ ghost use Rattle.release_book.specs.Books.{IsBookOf, part_in};
 ghost use Rattle.release_book.specs.NextStep.{IsNextStep, MayHear};
 ghost use Rattle.release_book.specs.declared.release_step.ReleaseStep.TheVariants.{Seen};
 
-use crate::book::steps::{ask, read, write};
 use crate::book::turns::{THREE, TWO, Turn};
-use dbp_core::{Core, Count, Heard};
 use dbp_plan::Plan;
-use dbp_rules::ReleaserPart;
+use dbp_rules::{ReleaserPart, Step};
 use release_book::{Book, ReleaseStep};
 use std::alloc::Global;
 use std::process::Abort;
 use std::test::Fail;
 use test_inputs::{THREE_RATES, TWO_RATES, plan_in};
-
-// What the core is to say to the releaser's step, of whose task so many instances have ended.
-fn answer(step: ReleaseStep, ended: u32) -> Heard {
-    match step {
-        ReleaseStep::Seen { .. } => Heard::Ended(ended),
-        _ => Heard::Stored,
-    }
-}
-
-// The core makes the releaser's step, and a seen hears this number.
-fn order(rt: &impl Abort, core: &mut Core, step: ReleaseStep, ended: u32) -> Result<(), Fail> {
-    let Some(asked) = step.step() else {
-        return Err(Fail::from("finished"));
-    };
-    assert_eq!(rt; ask(core, asked)?, Ok(answer(step, ended)), "{step:?}");
-    Ok(())
-}
 
 // Whether the releaser may hear this number at the task's seen.
 fn may_see(part: &ReleaserPart, task: u32, heard: u32) -> bool
@@ -74,85 +55,50 @@ fn note(book: &mut Book, plan: &Plan, step: ReleaseStep, heard: u32) -> Result<(
     }
 }
 
-// The book's next step is this one; the core makes it, and the book notes it.
+// The book's next step is this one, and the book notes it.
 fn release(
     rt: &impl Abort,
     book: &mut Book,
-    core: &mut Core,
     plan: &Plan,
-    step: ReleaseStep,
-    ended: u32,
+    step: Step,
+    heard: u32,
 ) -> Result<(), Fail>
     requires { IsBookOf book.old plan.now }
     ensures { IsBookOf book.new plan.now }
 {
     let next = book.next(plan);
-    assert_eq!(rt; next, step);
-    order(rt, core, next, ended)?;
-    note(book, plan, next, ended)
+    assert_eq!(rt; next.step(), Some(step));
+    note(book, plan, next, heard)
 }
 
-// Makes what happens next.
-fn take_turn(
-    rt: &impl Abort,
-    book: &mut Book,
-    core: &mut Core,
-    plan: &Plan,
-    turn: Turn,
-) -> Result<(), Fail>
+// Makes what comes next.
+fn take_turn(rt: &impl Abort, book: &mut Book, plan: &Plan, turn: Turn) -> Result<(), Fail>
     requires { IsBookOf book.old plan.now }
     ensures { IsBookOf book.new plan.now }
 {
     match turn {
-        Turn::Sees { task, ended } => {
-            release(rt, book, core, plan, ReleaseStep::Seen { task }, ended)
-        }
-        Turn::Orders(step) => release(rt, book, core, plan, step, 0),
-        Turn::Writes { task } => write(core, task),
-        Turn::Reads { task } => read(core, task),
+        Turn::Sees { task, ended } => release(rt, book, plan, Step::Seen { task }, ended),
+        Turn::Orders(step) => release(rt, book, plan, step, 0),
     }
 }
 
 // Goes through the turns, after which the book has finished.
-fn take_turns(
-    rt: &impl Abort,
-    book: &mut Book,
-    core: &mut Core,
-    plan: &Plan,
-    turns: &[Turn],
-) -> Result<(), Fail>
+fn take_turns(rt: &impl Abort, book: &mut Book, plan: &Plan, turns: &[Turn]) -> Result<(), Fail>
     requires { IsBookOf book.old plan.now }
 {
     for turn in turns {
-        take_turn(rt, book, core, plan, *turn)?;
+        take_turn(rt, book, plan, *turn)?;
     }
-    assert_eq!(rt; book.next(plan), ReleaseStep::Finished);
+    let last = book.next(plan);
+    assert_eq!(rt; last, ReleaseStep::Finished);
+    assert_eq!(rt; last.step(), None);
     Ok(())
-}
-
-// A core of the plan that counts all links.
-fn core_of(alloc: Global, plan: &Plan) -> Result<Core, Fail> {
-    Ok(Core::new(alloc, plan.copy()?, Count::All)?)
-}
-
-// Makes a core, and lends it.
-fn run_book(
-    rt: &impl Abort,
-    alloc: Global,
-    book: &mut Book,
-    plan: &Plan,
-    turns: &[Turn],
-) -> Result<(), Fail>
-    requires { IsBookOf book.old plan.now }
-{
-    let mut core = core_of(alloc, plan)?;
-    take_turns(rt, book, &mut core, plan, turns)
 }
 
 // Makes a book, and lends it.
 fn run_plan(rt: &impl Abort, alloc: Global, plan: &Plan, turns: &[Turn]) -> Result<(), Fail> {
     let mut book = Book::new(alloc, plan)?;
-    run_book(rt, alloc, &mut book, plan, turns)
+    take_turns(rt, &mut book, plan, turns)
 }
 
 // Makes the document's plan, and lends it.

@@ -39,13 +39,16 @@ fn ask(core: &mut Core, step: Step) -> Result<Result<Heard, Illegal>, Fail> {
     }
 }
 
-// Makes the steps, each of which hears what stands beside it.
-fn make(rt: &impl Abort, core: &mut Core, steps: &[(Step, Heard)]) -> Result<(), Fail> {
-    for (step, heard) in steps {
-        assert_eq!(rt; ask(core, *step)?, Ok(*heard), "{step:?}");
+// Makes the steps.
+fn make(core: &mut Core, steps: &[Step]) -> Result<(), Fail> {
+    for step in steps {
+        if ask(core, *step)?.is_err() {
+            return Err(Fail::from("refused"));
+        }
     }
     Ok(())
 }
+
 // The only word of a row.
 fn only_word(row: &Row) -> Result<i64, Fail> {
     match row.words() {
@@ -130,7 +133,7 @@ fn make_and_compare(
     run: &Run,
 ) -> Result<(), Fail> {
     match run.script.steps().get(..run.after) {
-        Some(steps) => make(rt, core, steps)?,
+        Some(steps) => make(core, steps)?,
         None => return Err(Fail::from("not so many steps")),
     }
     compare(rt, alloc, core, &run.seen)

@@ -1,5 +1,0 @@
-// Tests of simulation in virtual time.
-
-mod next_event;
-mod ready;
-mod simulation;
