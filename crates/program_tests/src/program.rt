@@ -72,7 +72,7 @@ static ENDS: [TaskEnd; 3] = [
 // How many runs of the documents these are; if one is of another, more than there are.
 fn run_count(runs: &[CrewEntry]) -> usize {
     let are_whole = runs.iter().all(|entry| match ENDS.get(..entry.tasks.items().len()) {
-        Some(ends) => entry.tasks.items() == ends,
+        Some(ends) => ends.len() > 1 && entry.tasks.items() == ends,
         None => false,
     });
     if are_whole { runs.len() } else { usize::MAX }
