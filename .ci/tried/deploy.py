@@ -2,11 +2,10 @@
 
 Programs of `--target posix` run for two seconds as an ordinary user: beside four busy loops; with signals to the releaser; with
 stops of the whole; with threads that are held up as by a debugger. `.ci/real_time.py` says what is compared. What needs a
-compiler or an emulator that isn't there is skipped, and says so.
+compiler or an emulator that isn't there is skipped.
 """
 
 import re
-import shutil
 import signal
 import subprocess
 import sys
@@ -21,11 +20,9 @@ import compiled  # noqa: E402
 import on_target  # noqa: E402
 import real_time  # noqa: E402
 from awaited import SECONDS  # noqa: E402
-from comparing import fault_of, must  # noqa: E402
+from comparing import if_there, must  # noqa: E402
 from compiled import NAME, SHORT_FLAGS, SHORT_WORDS, Toolchain, answered, emitted, executed, same_lines  # noqa: E402
 from emitting.costs import cost_of_instance, cost_of_release, table_bytes  # noqa: E402
-from ending import Status  # noqa: E402
-from program import run_program  # noqa: E402
 
 CROSS_FLAGS = ("-mcpu=cortex-m3", "-mthumb")
 NAMES = ".ci/tried/emit_c/names.dbp"
@@ -60,15 +57,6 @@ int main()
     return end == DBP_RAN && it_set_sensor == 1 && it_tasks_at(0) == 3 ? 0 : 1;
 }
 """
-
-
-def if_there(name, programs, call, *given):
-    """Returns what a comparison finds, or nothing; it is skipped if a program that it needs isn't there."""
-    missing = [it for it in programs if not shutil.which(it)]
-    if missing:
-        print(f".ci/tried/deploy.py: {name} is skipped, since there is no {' and no '.join(missing)}", file=sys.stderr)
-        return None
-    return fault_of(call, *given)
 
 
 def compare_rights(program):
@@ -191,13 +179,10 @@ def compare_deployed(program):
         make = ["make", "-s", "-C", DEPLOYED, f"OUT={place}/out", f"PROGRAM={program}"]
         said = executed([*make, "check"], SECONDS).decode()
         bounds = executed([*make, "bounds"], SECONDS).decode().splitlines()
+        scenario = executed([*make, "slots"], SECONDS)
     must("same rows" in said, f"it said {said[-300:]!r}")
     must(bounds == BOUNDS, f"the bounds are {bounds}")
-    if run_program(str(program), ["need", "speed"], b"").status == Status.WRONG_WORDS:
-        print(".ci/tried/deploy.py: `make slots` is skipped, since the program has no command `need`", file=sys.stderr)
-    else:
-        scenario = executed([*make, "slots"], SECONDS)
-        answered(program, ["sim"], scenario)
+    answered(program, ["sim"], scenario)
 
 
 def trials(program):
@@ -223,4 +208,4 @@ def trials(program):
         ("the rules that cppcheck names", ["cppcheck"], compare_rules),
         ("examples/deploy", ["cc", "make"], compare_deployed),
     ):
-        yield name, partial(if_there, name, programs, call, program, *given)
+        yield name, partial(if_there, programs, call, program, *given)

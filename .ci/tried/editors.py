@@ -3,7 +3,6 @@ of a tokenizer that follows docs/LANGUAGE.md. The trial of Vim is skipped if Vim
 
 import json
 import re
-import shutil
 import subprocess
 import sys
 import tempfile
@@ -16,6 +15,7 @@ TOP = Path(__file__).resolve().parents[2]
 sys.path.insert(0, str(TOP / ".ci"))
 
 from awaited import SECONDS  # noqa: E402
+from comparing import lack_of  # noqa: E402
 from stand_ins import write_program  # noqa: E402
 
 VIM = TOP / "editors" / "vim"
@@ -332,8 +332,8 @@ def first_difference(lines, found, wanted):
 
 def fault_of_vim():
     """Returns what differs between Vim and the language."""
-    if not shutil.which("vim"):
-        return None
+    if skipped := lack_of(["vim"]):
+        return skipped
     answer = answer_of_vim()
     for document, groups in zip(documents(), answer["groups"]):
         lines = lines_of(document)

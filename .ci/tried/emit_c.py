@@ -1,7 +1,7 @@
 """tools/emit_c: the C of documents is compiled and run, and its lines and its records are compared with the program's.
 
 A record has each step that was made and what it heard, and `dbp replay` must print the same. .ci/tried/emit_c/ has
-documents and C that goes with some. What needs a C compiler is skipped if there is none, and says so.
+documents and C that goes with some. What needs a C compiler is skipped if there is none.
 """
 
 import random
@@ -17,7 +17,7 @@ HERE = Path(__file__).resolve().parent / "emit_c"
 sys.path.insert(0, str(TOP / ".ci"))
 
 import compiled  # noqa: E402
-from comparing import fault_of, must  # noqa: E402
+from comparing import fault_of, if_there, must  # noqa: E402
 from compiled import SECONDS, SOURCES, Toolchain  # noqa: E402
 from doc_pages import blocks_and_prose  # noqa: E402
 from protocol_text import diagram_fault, text_fault  # noqa: E402
@@ -83,14 +83,6 @@ BESIDE = {
     "releases": compiled.compare_releases,
     "the shared words": compiled.compare_words,
 }
-
-
-def if_compiled(name, call, *given):
-    """Returns what a comparison that needs a C compiler finds, or nothing; without one it is skipped."""
-    if not compiled.has_compiler():
-        print(f".ci/tried/emit_c.py: {name} is skipped, since there is no C compiler `cc`", file=sys.stderr)
-        return None
-    return fault_of(call, *given)
 
 
 class Shared:
@@ -279,9 +271,9 @@ def trials(program):
         ("drawn conditions", compare_conditions),
         ("statuses of a trace", compare_statuses),
     ):
-        yield name, partial(if_compiled, name, compare, program, shared, *given)
+        yield name, partial(if_there, ["cc"], compare, program, shared, *given)
     for name, compare in BESIDE.items():
-        yield name, partial(if_compiled, name, compare_beside, compare, program, shared)
+        yield name, partial(if_there, ["cc"], compare_beside, compare, program, shared)
     yield "the text of the protocol", fault_of_text
     for words, status, text in ENDED:
         yield f"emit_c {' '.join(words)}", partial(fault_of, compare_ended, program, words, status, text)

@@ -4,13 +4,17 @@ it isn't on the machine."""
 
 import os
 import re
-import shutil
 import subprocess
+import sys
 from datetime import datetime
 from functools import partial
 from pathlib import Path
 
 TOP = Path(__file__).resolve().parents[2]
+sys.path.insert(0, str(TOP / ".ci"))
+
+from comparing import lack_of  # noqa: E402
+
 PAGE = TOP / "docs" / "dbp.1"
 
 # Commands that lay the page out, and warn of its faults.
@@ -60,8 +64,8 @@ def fault_of_version():
 
 def fault_of_layout(command):
     """Returns what a program says that lays the page out."""
-    if not shutil.which(command[0]):
-        return None
+    if skipped := lack_of(command[:1]):
+        return skipped
     ran = subprocess.run([*command, PAGE], capture_output=True, check=False)
     return (ran.stdout + ran.stderr).decode() or None
 

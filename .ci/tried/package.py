@@ -1,8 +1,7 @@
 """The packages of tools/package: unpacked, installed by dpkg and by make, each command, manual page, completion and
 example works there, and removal leaves nothing. dbp-verify names what differs. The same sources make the same bytes.
 
-What needs dpkg, fakeroot, lintian, a shell, or a program that lays out manual pages is skipped if that isn't on the
-machine, and says so.
+What needs dpkg, fakeroot, lintian, a shell, or a program that lays out manual pages is skipped if that isn't on the machine.
 """
 
 import os
@@ -20,13 +19,13 @@ sys.path.insert(0, str(TOP / ".ci"))
 
 import installed  # noqa: E402
 from awaited import SECONDS  # noqa: E402
-from comparing import fault_of, must  # noqa: E402
+from comparing import if_there, must  # noqa: E402
 from installed import NOBODY, Installed, discard, executed, package, package_file  # noqa: E402
 from stand_ins import write_program  # noqa: E402
 
 RELEASE = re.search(r"(?m)^## (\S+), (\S+)$", (TOP / "CHANGELOG.md").read_text())
 NAMES = [f"dbp_{RELEASE[1]}_amd64.deb", f"dbp-{RELEASE[1]}.tar.gz", f"dbp-{RELEASE[1]}.vsix"]
-PASSED = "library a: proved\n" * 30 + "\nverdict: all is proved\n2345 passed, 0 failed\n"
+PASSED = "library a: proved\n" * 30 + "\nverdict: all is proved\n2345 passed, 0 failed"
 OTHER_WORLD = {"TZ": "Asia/Tokyo", "PYTHONHASHSEED": "7", "LC_ALL": "C", "SOURCE_DATE_EPOCH": "1", "HOME": "/none"}
 
 # What is done to an installation, and the line that dbp-verify must say.
@@ -60,15 +59,6 @@ zpty -w -n z "$2"$'\\t'
 zpty -r z out "*$3*" && print -r found
 zpty -d z
 """
-
-
-def if_there(name, programs, call, *given):
-    """Returns what a comparison finds, or nothing; it is skipped if a program that it needs isn't there."""
-    missing = [it for it in programs if not shutil.which(it)]
-    if missing:
-        print(f".ci/tried/package.py: {name} is skipped, since there is no {' and no '.join(missing)}", file=sys.stderr)
-        return None
-    return fault_of(call, *given)
 
 
 def room():
@@ -304,13 +294,14 @@ def compare_gate(program):
     """Compares what the record has of the gate: the lines that close its output, if it has passed."""
     place = room()
     try:
-        (place / "passed").write_text(PASSED)
         (place / "failed").write_text(PASSED.replace("0 failed", "1 failed"))
         (place / "empty").write_text("")
-        package(program, "--install", place / "it", "--gate", place / "passed")
-        said = Installed(place / "it").run("dbp-verify")[0].decode()
-        wanted = "gate:\n" + "  library a: proved\n" * 10 + "  verdict: all is proved\n  2345 passed, 0 failed\n"
-        must(wanted in said, f"it says {said!r}")
+        for number, more in enumerate(("", ", 6 skipped")):
+            (place / "passed").write_text(f"{PASSED}{more}\n")
+            package(program, "--install", place / f"{number}", "--gate", place / "passed")
+            said = Installed(place / f"{number}").run("dbp-verify")[0].decode()
+            wanted = "gate:\n" + "  library a: proved\n" * 10 + f"  verdict: all is proved\n  2345 passed, 0 failed{more}\n"
+            must(wanted in said, f"it says {said!r}")
         for name, status in (("failed", 1), ("empty", 1), ("none", 4)):
             package(program, "-o", place / "made", "--gate", place / name, status=status)
             must(not (place / "made").exists(), f"{name}: packages are made")
@@ -494,4 +485,4 @@ def trials(program):
         ("the launcher's program", [], compare_launcher, program),
         ("ends", [], compare_ends, program),
     ):
-        yield name, partial(if_there, name, ["strip", *programs], call, *given)
+        yield name, partial(if_there, ["strip", *programs], call, *given)

@@ -1,7 +1,7 @@
 """tools/report: what its pages say, read in a real browser, is what the program says; no text of a document becomes markup;
 large documents are done in time; and each page is HTML without an error, of mutants too.
 
-A trial for which chromium, its driver, python3-selenium or tidy is missing says on standard error that it is skipped.
+A trial for which chromium, its driver or python3-selenium is missing is skipped; without tidy pages aren't searched for errors.
 """
 
 import json
@@ -23,6 +23,7 @@ sys.path[:0] = [str(TOP / "tools"), str(TOP / ".ci")]
 sys.path.append(str(TOP / "bench"))
 
 from awaited import BROWSER_SECONDS  # noqa: E402
+from comparing import Skipped  # noqa: E402
 from mutants import mutant_of  # noqa: E402
 from pictures.asking import answer, read_document  # noqa: E402
 from pictures.record import steps_of  # noqa: E402
@@ -159,11 +160,6 @@ def hostile_fault(program, text):
     if ran.returncode not in (0, 1) or not is_told:
         return f"the status is {ran.returncode}; it said {ran.stderr[-300:]!r}"
     return markup_fault(ran.stdout.decode())
-
-
-def skipped(name, needed):
-    """Says that a trial is skipped, and for want of what."""
-    print(f".ci/tried/report.py: {name} is skipped, since there is no {needed}", file=sys.stderr)
 
 
 def tidy_fault(page):
@@ -577,7 +573,7 @@ def browser_fault(program, name):
     """Returns the first thing of a page in the browser that isn't as the program says."""
     missing = missing_part()
     if missing:
-        return skipped(name, missing)
+        return Skipped(f"there is no {missing}")
     try:
         with ONE_BROWSER:
             text, page = read_pages(program)[name]
@@ -618,7 +614,7 @@ def trials(program):
     """Yields the trials: a name, and a call that returns what differs, or nothing."""
     has_tidy = bool(shutil.which("tidy"))
     if not has_tidy:
-        skipped("the search for errors of HTML", "tidy")
+        print(".ci/tried/report.py: the search for errors of HTML is skipped, since there is no tidy", file=sys.stderr)
     for name, wanted in STATUSES.items():
         yield f"status: {name}", partial(status_fault, program, *wanted)
     for document, parts in SHOWN.items():

@@ -1,8 +1,7 @@
 """tools/studio: who isn't the page is refused, nothing but the file is written, limits and stops are kept, and in a real
 browser the page follows the text: marks, timeline, overrun, steps, turns, undoing over reloads, saving, and large documents.
 
-A trial for which chromium, its driver, python3-selenium or libjs-codemirror is missing says on standard error that it is
-skipped.
+A trial for which chromium, its driver, python3-selenium or libjs-codemirror is missing is skipped.
 """
 
 import hashlib
@@ -26,6 +25,7 @@ import editors as editors_tried  # noqa: E402
 import report as reports_tried  # noqa: E402
 from awaited import BROWSER_SECONDS, SECONDS, wait_until  # noqa: E402
 from canonical import read_document  # noqa: E402
+from comparing import Skipped  # noqa: E402
 from served import Served, parted, read_all  # noqa: E402
 from stand_ins import between  # noqa: E402
 
@@ -465,8 +465,7 @@ def browser_fault(program, name, compare):
     """Returns what a page in the browser says that isn't as wanted."""
     missing = missing_part()
     if missing:
-        print(f".ci/tried/studio.py: {name} is skipped, since there is no {missing}", file=sys.stderr)
-        return None
+        return Skipped(f"there is no {missing}")
     try:
         with ONE_BROWSER:
             page, said = used_pages(program)[name]

@@ -17,6 +17,7 @@ sys.path[:0] = [str(TOP / ".ci"), str(TOP / "tools")]
 
 from clauses.crates import FOLDER, listed_crates  # noqa: E402
 from clauses.tokens import tokens_of  # noqa: E402
+from comparing import Skipped  # noqa: E402
 from doc_pages import spans  # noqa: E402
 
 PAGE = (TOP / "docs" / "CERTIFYING.md").read_text(encoding="utf-8")
@@ -30,9 +31,7 @@ NM = ["nm", "-D", "--undefined-only"]
 READELF = ["readelf", "--wide", "--dyn-syms"]
 
 
-def say_skipped(what, why):
-    """Says that a comparison is skipped."""
-    print(f".ci/tried/trusted.py: {what}: skipped, since {why}", file=sys.stderr)
+KIT_IS_GONE = Skipped("the kit isn't there")
 
 
 def difference(found, listed):
@@ -72,7 +71,7 @@ def calls_fault(program):
     """Returns how the program's foreign calls differ from those of the page, or nothing."""
     listers = [it for it in LISTERS if shutil.which(it[0][0])]
     if not listers:
-        say_skipped("foreign calls", "neither nm nor readelf is there")
+        return Skipped("neither nm nor readelf is there")
     faults = [difference(names_of(printed(*command, program)), listed_calls(PAGE)) for command, names_of in listers]
     return next(filter(None, faults), None)
 
@@ -129,7 +128,7 @@ def unsafe_fault():
     """Returns how the kit's crates without unsafe code differ from those of the page, or nothing."""
     folder = kit()
     if folder is None:
-        return say_skipped("the kit's crates", "the kit isn't there")
+        return KIT_IS_GONE
     named, without = listed_crates_of_kit(PAGE)
     return difference({it for it in named if not [*below_rust(folder / "rattle" / it / "src")]}, without)
 
@@ -141,7 +140,7 @@ def versions_fault():
     if logic != re.findall(r"(?m)^Proved with `.* logic (\w+)`\.$", README):
         return f"README.md has another logic than {logic}"
     if kit() is None:
-        return say_skipped("the versions of the kit", "the kit isn't there")
+        return KIT_IS_GONE
     if re.findall(r"logic (\w+)", printed("rt", "version")) != logic:
         return f"the kit has another logic than {logic}"
     said = printed(kit() / "toolchain" / "bin" / "clang", "--version")

@@ -1,12 +1,11 @@
 """The extension of VS Code in editors/vscode: `node` runs it as the editor does, with a stand-in for the module `vscode`, and
 tools/package makes the file that the editor installs.
 
-What needs `node` is skipped if that isn't on the machine, and says so.
+What needs `node` is skipped if that isn't on the machine.
 """
 
 import io
 import json
-import shutil
 import subprocess
 import sys
 import tempfile
@@ -19,6 +18,7 @@ from xml.etree import ElementTree
 TOP = Path(__file__).resolve().parents[2]
 sys.path[:0] = [str(TOP / "tools"), str(TOP / ".ci")]
 
+from comparing import lack_of  # noqa: E402
 from language_client import SECONDS  # noqa: E402
 from packaging.vsix import NAMESPACE, extension_file  # noqa: E402
 from stand_ins import write_program  # noqa: E402
@@ -92,9 +92,8 @@ def driven(program, room):
 
 def extension(program):
     """Returns how what the extension gives differs, or nothing."""
-    if not shutil.which("node"):
-        print(".ci/tried/vscode.py: the extension is skipped, since there is no node", file=sys.stderr)
-        return None
+    if skipped := lack_of(["node"]):
+        return skipped
     try:
         with tempfile.TemporaryDirectory() as place:
             ran = driven(program, Path(place))

@@ -14,7 +14,7 @@ TOP = Path(__file__).resolve().parents[2]
 NO_COMMIT = "none: these sources aren't in a repository of git"
 NO_MAINTAINER = "nobody <nobody@example.org>"
 GATE_LINES = 12  # that close the output of the gate
-GATE_PASSED = re.compile(r"[1-9][0-9]* passed, 0 failed")
+GATE_PASSED = re.compile(r"[1-9][0-9]* passed, 0 failed(, [1-9][0-9]* skipped)?")
 RELEASE = re.compile(r"(?m)^## (\d+\.\d+\.\d+), (\d{4}-\d\d-\d\d)$")
 KIT = re.compile(r"(?m)^Proved with `(rattle-kit-\w+ logic [0-9a-f]+)`\.$")
 
