@@ -527,6 +527,7 @@ def moved_fault(page):
 
 # The browser.
 
+@lru_cache(maxsize=None)
 def missing_part():
     """Returns what the trials in a browser lack, or nothing."""
     missing = next((it for it in NEEDED if not shutil.which(it)), None)
@@ -571,7 +572,8 @@ def job_of(program, name, text, out):
 
 def browser_fault(program, name):
     """Returns the first thing of a page in the browser that isn't as the program says."""
-    missing = missing_part()
+    with ONE_BROWSER:
+        missing = missing_part()
     if missing:
         return Skipped(f"there is no {missing}")
     try:
@@ -626,5 +628,9 @@ def trials(program):
         yield f"page of {name}", partial(page_fault, program, text, has_tidy)
     for name, document in LARGE.items():
         yield f"{name}: size and time", partial(large_fault, program, document)
+
+
+def trials_in_a_browser(program):
+    """Yields the trials in a browser, which wait until it has read the pages of all."""
     for name in [*READ, "moved", "large", *(f"markup: {name}" for name in HOSTILE)]:
         yield f"in the browser: {name}", partial(browser_fault, program, name)

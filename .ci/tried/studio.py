@@ -463,7 +463,8 @@ def used_pages(program):
 
 def browser_fault(program, name, compare):
     """Returns what a page in the browser says that isn't as wanted."""
-    missing = missing_part()
+    with ONE_BROWSER:
+        missing = missing_part()
     if missing:
         return Skipped(f"there is no {missing}")
     try:
@@ -752,6 +753,11 @@ def trials(program):
     for number, status in ((signal.SIGINT, 130), (signal.SIGTERM, 130), (signal.SIGKILL, -9)):
         yield f"{number.name} while it works", partial(killed_fault, program, number, status)
     yield "silent clients", partial(silent_fault, program)
+
+
+def trials_in_a_browser(program):
+    """Yields the trials in a browser, which wait until it has used the pages of all."""
+    program = str(program)
     for job, compared in BROWSED.items():
         for name, compare in compared.items():
             yield f"in the browser: {name}", partial(browser_fault, program, job, compare)
