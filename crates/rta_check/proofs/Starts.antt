@@ -47,7 +47,7 @@ module _ (l : Level) (ticks longest s : ℕ) (level : IsLevel l) (from : ticks �
       let split : s * whole ≡ rest * s + used * s = omega (arith, mul_comm s whole, ap (λ n. n * s) parts, add-mul rest used s) in
       ceil_up_to (asked * whole) rest s (omega (arith, less)) (omega (arith, left_over, split, mul_comm s rest))
 
--- the request bound of a start is a start
+-- a start's request bound is a start
 pub next_start : (l : Level) (r : ℕ) → IsLevel l → IsStart l r → IsStart l (level_request l r)
 next_start l r level start = λ s some within enough. omega (arith, enough, requests_rise l.higher.items r s level.each (start s some within enough))
 
