@@ -11,11 +11,11 @@ use std::thread::Threads;
 use std::{env, io};
 
 fn main(rt: HostRuntime) -> ExitCode {
-    let status = match words(&rt, rt.alloc()) {
-        Ok(words) => {
+    let status = match arguments(&rt, rt.alloc()) {
+        Ok(arguments) => {
             let mut source = ReadSource::new(rt.reader());
             let mut sink = WriteSink::new(io::writer(&rt));
-            run(&rt, rt.alloc(), &words, &mut source, &mut sink)
+            run(&rt, rt.alloc(), &arguments, &mut source, &mut sink)
         }
         Err(status) => status,
     };
@@ -35,32 +35,32 @@ fn list_commands(rt: &HostRuntime) {
     }
 }
 
-// Calls the program with the command's words, and with crews that have run nothing.
+// Calls the program with these arguments, and with crews that have run nothing.
 fn run<R: Threads + Wait + Sync, S: Source, K: Sink>(
     rt: &R,
     alloc: Global,
-    words: &[String],
+    arguments: &[String],
     source: &mut S,
     sink: &mut K,
 ) -> Status {
     let mut crew = ThreadCrew::new(alloc, FreePace);
     let mut turns = TurnCrew::new(alloc, 0);
-    dbp_main(rt, alloc, words, source, sink, &mut crew, &mut turns)
+    dbp_main(rt, alloc, arguments, source, sink, &mut crew, &mut turns)
 }
 
-// The command's words, without the program's own name, or the status of a call that has none. A word that isn't UTF-8 is
-// no word of a command.
-fn words(rt: &HostRuntime, alloc: Global) -> Result<Vec<String>, Status> {
-    let args = match env::args(rt) {
-        Ok(args) => args,
+// The arguments, without the program's own name, or the status of a call that has none. No command has an argument that
+// isn't UTF-8.
+fn arguments(rt: &HostRuntime, alloc: Global) -> Result<Vec<String>, Status> {
+    let given = match env::args(rt) {
+        Ok(given) => given,
         Err(error) if error.kind() == io::ErrorKind::OutOfMemory => return Err(Status::NoMemory),
         Err(_) => return Err(Status::Usage),
     };
-    let mut words = Vec::new(alloc);
-    for word in args.skip(1) {
-        if words.push(word).is_err() {
+    let mut arguments = Vec::new(alloc);
+    for argument in given.skip(1) {
+        if arguments.push(argument).is_err() {
             return Err(Status::NoMemory);
         }
     }
-    Ok(words)
+    Ok(arguments)
 }

@@ -3,13 +3,13 @@
 /// How a call of the program ended. The numbers are the exit statuses of the program `dbp`.
 #[derive(Clone, Copy, Debug, PartialEq, Eq)]
 pub enum Status {
-    /// The input was read to its end, and the command's text was written whole.
+    /// The input was read to its end, if the command reads one, and the command's text was written whole.
     Ok = 0,
     /// The document was refused, or a step of its script isn't allowed, and the line that says so was written whole.
     Refused = 1,
     /// A release meets an unfinished instance of its task in the simulation, and the line that says so was written whole.
     Overrun = 3,
-    /// The words are no command that the call serves. Nothing was read or written.
+    /// The arguments are no command that the call serves. Nothing was read or written.
     Usage = 2,
     /// A read failed. Nothing was written.
     ReadFault = 4,

@@ -9,17 +9,15 @@ use crate::rank_mask::RankMask;
 use dbp_rules::{Broken, Count, Illegal, State, Wiring};
 
 // The time of the task's first instance that hasn't ended; 0 if all have.
-pub(crate) fn own_time(wiring: &Wiring, state: &State, number: u32) -> u64
+fn own_time(wiring: &Wiring, state: &State, number: u32) -> u64
     requires wired { number < length wiring.now.tasks }
     requires task { number < length state.now.tasks }
     ensures { result ≡ rule.own_time wiring.now state.now number }
 {
-    let next = task_at(state, number).part.ended as usize;
-    let times = wired_at(wiring, number).times.items();
-    if next < times.len() { times[next] } else { 0 }
+    wired_at(wiring, number).next_time(task_at(state, number).part.ended)
 }
 
-// Whether task r is ranked above task i and has an instance that hasn't ended and that was aimed no later than that of i.
+// Whether the other task is ranked above this one, and has an unfinished instance that was aimed no later than this one's.
 fn blocks(wiring: &Wiring, state: &State, number: u32, other: u32) -> bool
     requires wired { number < length wiring.now.tasks }
     requires other { other < length wiring.now.tasks }

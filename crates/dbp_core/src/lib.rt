@@ -3,7 +3,8 @@
 //!
 //! A `Core` holds a plan, its wiring and a state. Its type keeps that the state is sound, that what is named is there,
 //! and that numbers fit (`IsShape`), so no step tests for it. `conditions` tries the tasks that are ranked above,
-//! `releaser` and `steps` load, move the part and store, and `dispatch` joins both, step by step. The ranks that have an
+//! `releaser` and `steps` load, move the part and store, `making` makes a step of an allowed kind by them, and `dispatch`
+//! joins all, step by step. The ranks that have an
 //! unfinished instance are bits of one number (`HasUnfinished`), so a step under `Ranked` looks over the tasks only if
 //! a higher rank is among them. Scripts use a core, which tries each step; simulations use a `Stepper`, which makes
 //! steps that are known to be allowed. A run has no whole state (`word_rule`). The crate hands on the types and laws of

@@ -7,7 +7,7 @@ ghost use Rattle.dbp_rules.specs.Rules as rule;
 ghost use Rattle.dbp_rules.specs.Rules.{IsNamed, IsStep};
 ghost use Rattle.dbp_rules.specs.Shapes.{IsShape};
 
-use crate::look_up::{declared_at, task_at};
+use crate::look_up::task_at;
 use crate::releaser::{aim, claim, open, see};
 use crate::steps::{end, finish, hear, is_open, look, put, read_value, shut, start, take};
 use dbp_plan::Plan;
@@ -99,9 +99,7 @@ fn make_take(plan: &Plan, wiring: &Wiring, state: &mut State, number: u32, read:
         unreachable!()
     };
     let word = read_value(wiring, state, number, turn);
-    let declared = declared_at(plan, number);
-    let kept = (declared.states.len() + declared.senses.len() + read) as usize;
-    take(wiring, state, number, turn, kept, word);
+    take(plan, wiring, state, number, turn, read, word);
     Heard::Word(word)
 }
 

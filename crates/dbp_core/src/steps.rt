@@ -5,16 +5,15 @@ ghost use Rattle.dbp_plan.specs.Closed.{IsClosedTask, place_count};
 ghost use Rattle.dbp_plan.specs.Samples.{input_value};
 ghost use Rattle.dbp_plan.specs.Lookups.{declared_task};
 ghost use Rattle.dbp_rules.specs.Moves as move;
-ghost use Rattle.dbp_rules.specs.Lookups.{link, order, read_at, slot_at, task, wired_task};
+ghost use Rattle.dbp_rules.specs.Lookups.{link, order, read_at, slot_at, task, time, wired_task};
 ghost use Rattle.dbp_rules.specs.Rules as rule;
 ghost use Rattle.dbp_rules.specs.Rules.{with_part, with_task};
 ghost use Rattle.dbp_rules.specs.Shapes.{HasSamples};
 ghost use Rattle.dbp_rules.specs.declared.parts.Place.TheVariants as place;
 ghost use Rattle.dbp_rules.specs.declared.parts.TheConstants.{MAX_ORDERS};
 
-use crate::conditions::own_time;
 use crate::look_up::{declared_at, task_at, wired_at};
-use dbp_plan::{Plan, Task};
+use dbp_plan::Plan;
 use dbp_rules::{Order, Slot, State, Wiring, Work};
 
 pub(crate) fn is_open(state: &State, number: u32) -> bool
@@ -120,24 +119,26 @@ pub(crate) fn look(wiring: &Wiring, state: &mut State, number: u32, turn: u32) -
     task.part.look(wired_at(wiring, number), stamp)
 }
 
-// The task takes the word, which is kept at this place of its environment.
+// The task takes the word for the read, whose turn it is.
 pub(crate) fn take(
+    plan: &Plan,
     wiring: &Wiring,
     state: &mut State,
     number: u32,
     turn: u32,
-    kept: usize,
+    read: u32,
     word: i64,
 )
     requires wired { number < length wiring.now.tasks }
     requires task { number < length state.old.tasks }
     requires at { rule.turn_at (task state.old number).part.place ≡ turn }
-    requires kept { kept < length (task state.old number).work.now }
+    requires declared { number < length plan.now.diagram.tasks }
+    requires place { length (declared_task plan.now number).states + length (declared_task plan.now number).senses + read < length (task state.old number).work.now }
     requires small { turn + 1 < 2 ^ 32 }
-    ensures { state.new ≡ with_task state.old number (record { words = (task state.old number).words; part = move.after_take (wired_task wiring.now number) (task state.old number).part turn; work = move.with_now (task state.old number).work kept word }) }
+    ensures { state.new ≡ with_task state.old number (record { words = (task state.old number).words; part = move.after_take (wired_task wiring.now number) (task state.old number).part turn; work = move.with_read (declared_task plan.now number) (task state.old number).work read word }) }
 {
     let task = &mut state.tasks.items_mut()[number as usize];
-    task.work.set(kept, word);
+    task.work.set_read(declared_at(plan, number), read, word);
     task.part.take(wired_at(wiring, number));
 }
 
@@ -214,57 +215,25 @@ pub(crate) fn shut(plan: &Plan, wiring: &Wiring, state: &mut State, number: u32)
       work = move.after_compute (declared_task plan.now number) (rule.sense_values plan.now wiring.now state.old number) (task state.old number).work;
     }) }
 {
-    let time = sensing_time(plan, wiring, state, number);
-    shut_at(plan, wiring, state, number, time);
-}
-
-// The same, with what the senses are at the time.
-fn shut_at(plan: &Plan, wiring: &Wiring, state: &mut State, number: u32, time: u64)
-    requires task { number < length state.old.tasks }
-    requires declared { number < length plan.now.diagram.tasks }
-    requires closed { IsClosedTask (length plan.now.diagram.inputs) (length plan.now.diagram.events) (length plan.now.diagram.links) (declared_task plan.now number) }
-    requires samples { HasSamples plan.now wiring.now.samples }
-    requires heard { 0 < length (task state.old number).part.heard.items }
-    requires slot { move.own_slot (task state.old number).part < length (task state.old number).words.slots }
-    requires now { length (task state.old number).work.now ≡ place_count (declared_task plan.now number) }
-    requires later { length (task state.old number).work.later ≡ length (declared_task plan.now number).states }
-    ensures { state.new ≡ with_task state.old number (record {
-      words = move.with_stamp (task state.old number).words (move.own_slot (task state.old number).part) 0;
-      part = move.at_place (task state.old number).part (place.Put 0);
-      work = move.after_compute (declared_task plan.now number) (map (λ x. input_value plan.now.diagram.inputs plan.now.samples x.input time) (declared_task plan.now number).senses) (task state.old number).work;
-    }) }
-{
-    let declared = declared_at(plan, number);
     let task = &mut state.tasks.items_mut()[number as usize];
     let own = task.part.own_slot();
     let slot = &mut task.words.slots.items_mut()[own as usize];
     slot.stamp = 0;
-    work_on(plan, wiring, declared, &mut task.work, time);
+    work_on(plan, wiring, number, task.part.ended, &mut task.work);
     task.part.shut();
 }
 
-// The time at which the task's running instance senses. It is looked up only if the task has senses: the times of all
-// instances take so much room that the next one is seldom in a cache.
-fn sensing_time(plan: &Plan, wiring: &Wiring, state: &State, number: u32) -> u64
-    requires declared { number < length plan.now.diagram.tasks }
+// The task's next instance after so many.
+fn work_on(plan: &Plan, wiring: &Wiring, number: u32, ended: u32, work: &mut Work)
     requires wired { number < length wiring.now.tasks }
-    requires task { number < length state.now.tasks }
-    ensures { map (λ x. input_value plan.now.diagram.inputs plan.now.samples x.input result) (declared_task plan.now number).senses ≡ rule.sense_values plan.now wiring.now state.now number }
-{
-    if declared_at(plan, number).senses.is_empty() {
-        return 0;
-    }
-    own_time(wiring, state, number)
-}
-
-// One instance at the time.
-fn work_on(plan: &Plan, wiring: &Wiring, task: &Task, work: &mut Work, time: u64)
-    requires closed { IsClosedTask (length plan.now.diagram.inputs) (length plan.now.diagram.events) (length plan.now.diagram.links) task.now }
+    requires declared { number < length plan.now.diagram.tasks }
+    requires closed { IsClosedTask (length plan.now.diagram.inputs) (length plan.now.diagram.events) (length plan.now.diagram.links) (declared_task plan.now number) }
     requires samples { HasSamples plan.now wiring.now.samples }
-    requires now { length work.old.now ≡ place_count task.now }
-    requires later { length work.old.later ≡ length task.now.states }
-    ensures { work.new ≡ move.after_compute task.now (map (λ x. input_value plan.now.diagram.inputs plan.now.samples x.input time) task.now.senses) work.old }
+    requires now { length work.old.now ≡ place_count (declared_task plan.now number) }
+    requires later { length work.old.later ≡ length (declared_task plan.now number).states }
+    ensures { work.new ≡ move.after_compute (declared_task plan.now number) (map (λ x. input_value plan.now.diagram.inputs plan.now.samples x.input (time (wired_task wiring.now number) (ended + 1))) (declared_task plan.now number).senses) work.old }
 {
-    work.sense(plan, wiring, task, time);
+    let task = declared_at(plan, number);
+    work.sense(plan, wiring, task, wired_at(wiring, number), ended);
     work.compute(task);
 }

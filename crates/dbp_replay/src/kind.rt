@@ -21,22 +21,12 @@ pub(crate) enum Takes {
 }
 
 // The word that begins a line of the kind.
-pub(crate) fn word_of(kind: StepKind) -> &'static [u8]
+fn word_of(kind: StepKind) -> &'static [u8]
     ensures { result.now ≡ (form_of kind).0 }
 {
-    match kind {
-        StepKind::Seen => b"seen",
-        StepKind::Aim => b"aim",
-        StepKind::Claim => b"claim",
-        StepKind::OpenGate => b"open",
-        StepKind::Start => b"start",
-        StepKind::Hear => b"hear",
-        StepKind::Look => b"look",
-        StepKind::Take => b"take",
-        StepKind::Shut => b"shut",
-        StepKind::Put => b"put",
-        StepKind::Done => b"done",
-        StepKind::End => b"end",
+    match opening_of(kind) {
+        [word @ .., _] => word,
+        [] => unreachable!(),
     }
 }
 

@@ -5,6 +5,7 @@ use Rattle.dbp_plan.specs.Lookups.{declared_task}
 use Rattle.dbp_rules.specs.Lookups.{read_at, task, wired_task}
 use Rattle.dbp_rules.specs.Rules as rule
 use Rattle.dbp_rules.specs.Shapes.{IsShape, place_number}
+use Rattle.dbp_slots.specs.Slots.{counts_of}
 use Rattle.dbp_rules.specs.Wired.{slot_count, wiring_of}
 use Rattle.dbp_rules.specs.declared.parts.Place.{Place}
 use Rattle.dbp_rules.specs.declared.parts.Place.TheVariants as place
@@ -60,5 +61,5 @@ module _ (p : Plan) (w : Wiring) (s : State) (shape : IsShape p w s) where
 
 pub aim_slot : (p : Plan) (count : Count) (s : State) (i slot : ℕ) → i < length p.diagram.tasks → rule.refusal (wiring_of p count) s (Aim i slot) ≡ None → slot < 265
 aim_slot p count s i slot named free =
-    let slots : (wired_task (wiring_of p count) i).slots ≡ slot_count count p i = ap (λ (t : TaskWiring). t.slots) (wired_is p count i named) in
+    let slots : (wired_task (wiring_of p count) i).slots ≡ slot_count count (counts_of p.diagram i) = ap (λ (t : TaskWiring). t.slots) (wired_is p count i named) in
     omega (arith, (aim_allowed (wiring_of p count) s.releaser i slot free).below, slots, slot_count_few p count i)

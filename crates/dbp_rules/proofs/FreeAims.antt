@@ -104,7 +104,7 @@ to_lower p r i k below is =
     rw (eq-eqb (link_at p.diagram.links k).writer i both.0, lt-ltb (get_or p.diagram.ranks i 0) (get_or p.diagram.ranks (link_at p.diagram.links k).reader 0) lower) refl
 
 -- how many claims keep a slot of the task
-claims_few : (p : Plan) (count : Count) (r : ReleaserPart) (i : ℕ) → count_by (has_claim_in (wiring_of p count) r i) (range_with_len 0 (length p.diagram.links)) + 1 + (counts_of p.diagram i).delayed ≤ slot_count count p i
+claims_few : (p : Plan) (count : Count) (r : ReleaserPart) (i : ℕ) → count_by (has_claim_in (wiring_of p count) r i) (range_with_len 0 (length p.diagram.links)) + 1 + (counts_of p.diagram i).delayed ≤ slot_count count (counts_of p.diagram i)
 claims_few p Ranked r i =
     let few : count_by (has_claim_in (wiring_of p Ranked) r i) (range_with_len 0 (length p.diagram.links)) ≤ count_by (is_to_lower p.diagram.ranks i) p.diagram.links =
     count_items (has_claim_in (wiring_of p Ranked) r i) (is_to_lower p.diagram.ranks i) 0 p.diagram.links no_link (λ k below is. let here : 0 + k ≡ k = omega arith in to_lower p r i k below (ap (has_claim_in (wiring_of p Ranked) r i) (sym here) ∙ is)) in
@@ -120,7 +120,7 @@ has_free_slot p count r i named size =
     let kept : length (rule.kept_after_aim (entry_in r i)) ≡ length (entry_in r i).kept = length-take-le (length (entry_in r i).kept) ((entry_in r i).current ∷ (entry_in r i).kept) (omega arith) in
     let claimed : length (claimed_in (wiring_of p count) r i) ≡ count_by (has_claim_in (wiring_of p count) r i) (range_with_len 0 (length p.diagram.links)) =
     length-map (filter (has_claim_in (wiring_of p count) r i) (range_with_len 0 (length p.diagram.links))) (λ k. (claim_in r k).slot) ∙ length-filter (has_claim_in (wiring_of p count) r i) (range_with_len 0 (length p.diagram.links)) in
-    let slots : (wired_task (wiring_of p count) i).slots ≡ slot_count count p i = ap (λ (t : TaskWiring). t.slots) (wired_is p count i named) in
+    let slots : (wired_task (wiring_of p count) i).slots ≡ slot_count count (counts_of p.diagram i) = ap (λ (t : TaskWiring). t.slots) (wired_is p count i named) in
     let delayed : (wired_task (wiring_of p count) i).kept ≡ (counts_of p.diagram i).delayed = ap (λ (t : TaskWiring). t.kept) (wired_is p count i named) in
     omega (arith, claims_few p count r i, claimed, kept, size, slots, delayed)
 

@@ -7,7 +7,7 @@ use Rattle.std.proofs.lemmas.Simd.{map-map}
 use Rattle.std.proofs.Math.ListN.{get_or-map}
 use Rattle.dbp_plan.specs.declared.plan.Plan.{Plan}
 use Rattle.dbp_plan.specs.Closed.{IsClosed}
-use Rattle.dbp_slots.specs.Slots.{is_to_higher, is_to_lower}
+use Rattle.dbp_slots.specs.Slots.{counts_of, is_to_higher, is_to_lower}
 use Rattle.dbp_slots.specs.TableWords.{IsSlot, IsWord, SlotSizes, TableWord, sizes_of, task_sizes}
 use Rattle.dbp_slots.proofs.Links.{delay_short, links_few}
 use Rattle.dbp_rules.specs.LoadedWords.{sizes_of_wiring}
@@ -44,7 +44,7 @@ same_sizes p =
 
 -- ---- small numbers
 
-pub slot_count_few : (p : Plan) (count : Count) (i : ℕ) → slot_count count p i ≤ 265
+pub slot_count_few : (p : Plan) (count : Count) (i : ℕ) → slot_count count (counts_of p.diagram i) ≤ 265
 slot_count_few p Ranked i =
     let closed : IsClosed p.diagram = p.rules.ranked.closed in
     omega (arith, links_few p.diagram (is_to_lower p.diagram.ranks i) closed, delay_short p.diagram i closed)
@@ -54,7 +54,7 @@ slot_count_few p All i =
 
 pub slots_few : (p : Plan) (count : Count) (i : ℕ) → i < length p.diagram.tasks → (wired_task (wiring_of p count) i).slots < 2 ^ 32
 slots_few p count i below =
-    let same : (wired_task (wiring_of p count) i).slots ≡ slot_count count p i = ap (λ (t : TaskWiring). t.slots) (wired_is p count i below) in
+    let same : (wired_task (wiring_of p count) i).slots ≡ slot_count count (counts_of p.diagram i) = ap (λ (t : TaskWiring). t.slots) (wired_is p count i below) in
     omega (arith, same, slot_count_few p count i)
 
 pub order_small : (p : Plan) (count : Count) (i : ℕ) (o : Order) → i < length p.diagram.tasks → OrderFits (wired_task (wiring_of p count) i) o → (o.slot < 2 ^ 32) × (o.number < 2 ^ 32)

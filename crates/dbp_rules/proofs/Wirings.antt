@@ -19,12 +19,13 @@ use Rattle.dbp_rules.specs.declared.wiring.TaskWiring.{TaskWiring}
 use Rattle.dbp_rules.specs.declared.wiring.Wiring.{Wiring}
 use Rattle.dbp_rules.specs.Lookups.{link, no_read_wiring, read_at, wired_task}
 use Rattle.dbp_rules.specs.Shapes.{IsReadWired, IsTaskWired, IsWired, link_in, slot_owner}
+use Rattle.dbp_slots.specs.Slots.{counts_of}
 use Rattle.dbp_rules.specs.Wired.{in_turn, read_wiring, slot_count, task_wiring, wiring_of}
 use Rattle.dbp_rules.proofs.IntoTask.{into_below, into_no_more, link_below, link_place, link_there}
 use Rattle.dbp_rules.proofs.Turns.{length-in_turn, read_of_turn}
 use Rattle.dbp_rules.proofs.WiringParts.{delay_kept, releases_few, samples_wired, wired_is, wired_tasks}
 
-slots_some : (p : Plan) (count : Count) (i : ℕ) → 0 < slot_count count p i
+slots_some : (p : Plan) (count : Count) (i : ℕ) → 0 < slot_count count (counts_of p.diagram i)
 slots_some p Ranked i = omega arith
 slots_some p All i = omega arith
 

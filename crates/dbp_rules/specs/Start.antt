@@ -9,6 +9,7 @@ use Rattle.dbp_rules.specs.Lookups.{no_link_entry, no_order, wired_task}
 use Rattle.dbp_rules.specs.declared.parts.Place.TheVariants.{Idle}
 use Rattle.dbp_rules.specs.declared.parts.ReleaserPart.{ReleaserPart}
 use Rattle.dbp_rules.specs.declared.parts.TaskEntry.{TaskEntry}
+use Rattle.dbp_rules.specs.declared.parts.TaskPart.{TaskPart}
 use Rattle.dbp_rules.specs.declared.state.Slot.{Slot}
 use Rattle.dbp_rules.specs.declared.state.State.{State}
 use Rattle.dbp_rules.specs.declared.state.TaskState.{TaskState}
@@ -26,11 +27,15 @@ first_states d = map (λ s. s.first) d.states
 abbrev pub start_slots : TaskWiring → List ℤ → List Slot
 start_slots t row = record { stamp = 1; words = row } ∷ replicate (t.slots - 1) (record { stamp = 0; words = replicate t.ports (pos 0) })
 
+-- a task's part before the first step
+abbrev pub first_part : TaskPart
+first_part = record { ended = 0; place = Idle; heard = record { items = [] } }
+
 -- nothing is released; the states have their first values, and what it computes with is else 0
 abbrev pub start_task : TaskWiring → Task → TaskState
 start_task t d = record {
   words = record { gate = 0; ended = 0; aim = no_order; slots = start_slots t (first_row d) };
-  part = record { ended = 0; place = Idle; heard = record { items = [] } };
+  part = first_part;
   work = record { now = first_states d ++ replicate (place_count d - length d.states) (pos 0); later = first_states d; row = first_row d };
 }
 

@@ -10,6 +10,7 @@ use Rattle.dbp_plan.specs.Occurrences.{times_of}
 use Rattle.dbp_plan.specs.Lookups.{link_at, no_read}
 use Rattle.dbp_plan.specs.Samples.{own_samples}
 use Rattle.dbp_slots.specs.Slots.{counts_of}
+use Rattle.dbp_slots.specs.declared.slot_counts.Counts.{Counts}
 use Rattle.release_list.specs.Releases.{links_into, releases_of}
 use Rattle.dbp_rules.specs.declared.step.Count.{Count}
 use Rattle.dbp_rules.specs.declared.step.Count.TheVariants.{Ranked, All}
@@ -46,15 +47,15 @@ abbrev pub links_at : LinkEnd → List Link → ℕ → List ℕ
 links_at end links task = filter (λ k. task_at_end end (link_at links k) == task) (range_with_len 0 (length links))
 
 -- the slots of a task: under `Ranked` those of a simulation, under `All` those of a run
-abbrev pub slot_count : Count → Plan → ℕ → ℕ
-slot_count Ranked p i = (counts_of p.diagram i).sim
-slot_count All p i = (counts_of p.diagram i).run
+abbrev pub slot_count : Count → Counts → ℕ
+slot_count Ranked c = c.sim
+slot_count All c = c.run
 
 -- a task with its number
 abbrev pub task_wiring : Plan → Count → ℕ × Task → TaskWiring
 task_wiring p count (i, task) = record {
   ports = length task.outs;
-  slots = slot_count count p i;
+  slots = slot_count count (counts_of p.diagram i);
   kept = (counts_of p.diagram i).delayed;
   rank = slice_index_or p.diagram.ranks i 0;
   times = times_of p.batches i;

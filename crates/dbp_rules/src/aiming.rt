@@ -2,7 +2,7 @@
 
 ghost use Rattle.std.specs.Prelude.{◌≡◌, ◌<◌, ◌≤◌, ◌↔◌, ◌⊎◌, Contains, IsTrue, length, slice_get, Some};
 ghost use Rattle.dbp_plan.specs.declared.limits.TheConstants.{MAX_READ_LINES};
-ghost use Rattle.dbp_rules.specs.PartyRules.{claimed_in, has_claim_in, kept_after_aim};
+ghost use Rattle.dbp_rules.specs.PartyRules.{claimed_in, kept_after_aim};
 ghost use Rattle.dbp_rules.specs.PartyShapes.{LinksFit};
 ghost use Rattle.dbp_rules.specs.Lookups.{entry_in, wired_task};
 ghost use Rattle.dbp_rules.specs.Promises.{HasFreeSlotIn, IsLeastAimIn};
@@ -10,7 +10,7 @@ ghost use Rattle.dbp_slots.specs.FreeSlot.{IsLeastFree};
 ghost use Rattle.release_list.specs.declared.release.Release.TheVariants.{Aim as AimOf};
 
 use crate::parts::ReleaserPart;
-use crate::releaser_steps::{claiming_link, stays_kept};
+use crate::releaser_steps::{claiming_link, has_claim, stays_kept};
 use crate::wiring::Wiring;
 use arrayvec::ArrayVec;
 use dbp_plan::MAX_READ_LINES;
@@ -23,20 +23,6 @@ const _: () = prove!(MAX_TAKEN == 129);
 
 // If no more links than these leave a task, each slot is looked for among its claims, which is shorter than to list them.
 const FEW_LINKS: u32 = 4;
-
-// Whether the link is a counted one from the task, with a claim whose instance isn't known to have ended.
-fn has_claim(wiring: &Wiring, part: &ReleaserPart, i: u32, k: u32) -> bool
-    requires link { k < length wiring.now.links }
-    requires links { LinksFit wiring.now }
-    requires claims { length part.now.links ≡ length wiring.now.links }
-    requires entries { length part.now.tasks ≡ length wiring.now.tasks }
-    ensures { result ≡ has_claim_in wiring.now part.now i k }
-{
-    let link = wiring.links.items()[k as usize];
-    link.writer == i
-        && wiring.is_counted(k)
-        && part.entry(link.reader).known < part.claim_over(k).instance
-}
 
 // The slots that the claims of the task's links keep from it.
 fn claimed_slots(wiring: &Wiring, part: &ReleaserPart, i: u32) -> ArrayVec<u32, MAX_TAKEN>
@@ -108,23 +94,6 @@ fn least_of_few(wiring: &Wiring, part: &ReleaserPart, i: u32) -> u32
     unreachable!()
 }
 
-// The least slot of the task that is neither claimed nor stays kept, in time of the number of its links and slots.
-fn least_free(wiring: &Wiring, part: &ReleaserPart, i: u32) -> u32
-    requires task { i < length wiring.now.tasks }
-    requires links { LinksFit wiring.now }
-    requires few { length wiring.now.links ≤ MAX_READ_LINES }
-    requires claims { length part.now.links ≡ length wiring.now.links }
-    requires entries { length part.now.tasks ≡ length wiring.now.tasks }
-    requires room { HasFreeSlotIn wiring.now part.now i }
-    ensures { IsLeastFree (claimed_in wiring.now part.now i) (kept_after_aim (entry_in part.now i)) (wired_task wiring.now i).slots result }
-{
-    if wiring.task(i).leaving.len() <= FEW_LINKS {
-        least_of_few(wiring, part, i)
-    } else {
-        least_of_many(wiring, part, i)
-    }
-}
-
 impl ReleaserPart {
     /// The least slot that the task may be aimed at: the least that no counted claim needs and that doesn't stay kept.
     /// The task's aim is the next action, and its last instance is known to have ended. It takes no memory; its time grows
@@ -154,6 +123,10 @@ impl ReleaserPart {
         requires room { HasFreeSlotIn wiring.now self.now task }
         ensures { IsLeastFree (claimed_in wiring.now self.now task) (kept_after_aim (entry_in self.now task)) (wired_task wiring.now task).slots result }
     {
-        least_free(wiring, self, task)
+        if wiring.task(task).leaving.len() <= FEW_LINKS {
+            least_of_few(wiring, self, task)
+        } else {
+            least_of_many(wiring, self, task)
+        }
     }
 }

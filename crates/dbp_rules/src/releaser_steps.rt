@@ -41,6 +41,20 @@ impl Wiring {
     }
 }
 
+// Whether the link is a counted one from the task, with a claim whose instance isn't known to have ended.
+pub(crate) fn has_claim(wiring: &Wiring, part: &ReleaserPart, i: u32, k: u32) -> bool
+    requires link { k < length wiring.now.links }
+    requires links { LinksFit wiring.now }
+    requires claims { length part.now.links ≡ length wiring.now.links }
+    requires entries { length part.now.tasks ≡ length wiring.now.tasks }
+    ensures { result ≡ rule.has_claim_in wiring.now part.now i k }
+{
+    let link = wiring.links.items()[k as usize];
+    link.writer == i
+        && wiring.is_counted(k)
+        && part.entry(link.reader).known < part.claim_over(k).instance
+}
+
 // Whether a counted link from the task claims the slot.
 fn claims_slot(wiring: &Wiring, part: &ReleaserPart, i: u32, slot: u32, k: u32) -> bool
     requires link { k < length wiring.now.links }
@@ -49,12 +63,7 @@ fn claims_slot(wiring: &Wiring, part: &ReleaserPart, i: u32, slot: u32, k: u32) 
     requires entries { length part.now.tasks ≡ length wiring.now.tasks }
     ensures { result ≡ rule.claims_slot_in wiring.now part.now i slot k }
 {
-    let link = wiring.links.items()[k as usize];
-    let claim = part.claim_over(k);
-    link.writer == i
-        && wiring.is_counted(k)
-        && part.entry(link.reader).known < claim.instance
-        && claim.slot == slot
+    has_claim(wiring, part, i, k) && part.claim_over(k).slot == slot
 }
 
 // The least link from the task that claims the slot: one of those that leave the task.

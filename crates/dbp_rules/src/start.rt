@@ -81,11 +81,7 @@ fn start_task(alloc: Global, wired: &TaskWiring, task: &Task) -> Result<TaskStat
             aim: Order { slot: 0, number: 0 },
             slots: start_slots(alloc, wired, work.row().words())?,
         },
-        part: TaskPart {
-            ended: 0,
-            place: Place::Idle,
-            heard: ArrayVec::new(),
-        },
+        part: TaskPart::first(),
         work,
     })
 }
@@ -102,6 +98,19 @@ fn start_tasks(alloc: Global, plan: &Plan, wiring: &Wiring) -> Result<List<TaskS
         tasks.push(task)?;
     }
     Ok(tasks)
+}
+
+impl TaskPart {
+    /// A task's part before the first step: no instance has ended, and the next one has heard nothing.
+    pub fn first() -> TaskPart
+        ensures { result ≡ start.first_part }
+    {
+        TaskPart {
+            ended: 0,
+            place: Place::Idle,
+            heard: ArrayVec::new(),
+        }
+    }
 }
 
 impl ReleaserPart {

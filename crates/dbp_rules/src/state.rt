@@ -23,7 +23,7 @@ pub struct TaskWords {
     pub ended: u32,
     /// The slot that the task's last aimed instance is to fill.
     pub aim: Order,
-    /// The rows that are current, kept or claimed.
+    /// The rows that are current, kept or claimed, and free slots.
     pub slots: List<Slot>,
 }
 

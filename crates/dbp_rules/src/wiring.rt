@@ -1,7 +1,7 @@
 // What the steps look up in a plan, made once.
 
-ghost use Rattle.std.specs.Prelude.{◌≡◌, ◌<◌, length};
-ghost use Rattle.dbp_rules.specs.Lookups.{wired_task};
+ghost use Rattle.std.specs.Prelude.{◌≡◌, ◌+◌, ◌<◌, length};
+ghost use Rattle.dbp_rules.specs.Lookups.{time, wired_task};
 
 use crate::step::Count;
 use dbp_plan::{Link, List, Sample};
@@ -74,6 +74,17 @@ impl Drop for Wiring {
             releases: _,
             samples: _,
         } = self;
+    }
+}
+
+impl TaskWiring {
+    /// The time of the task's next instance after so many, in ticks; 0 if it has no more.
+    pub fn next_time(&self, ended: u32) -> u64
+        ensures { result ≡ time self.now (ended + 1) }
+    {
+        let next = ended as usize;
+        let times = self.times.items();
+        if next < times.len() { times[next] } else { 0 }
     }
 }
 

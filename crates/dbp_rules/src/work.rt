@@ -50,12 +50,21 @@ impl Work {
         &self.row
     }
 
-    /// Sets the word at a place of the environment.
-    pub fn set(&mut self, place: usize, word: i64)
+    // Sets the word at a place of the environment.
+    pub(crate) fn set(&mut self, place: usize, word: i64)
         requires { place < length self.old.now }
         ensures { self.new ≡ record self.old { now = slice_set self.old.now place word } }
     {
         self.env.now.items_mut()[place] = word;
+    }
+
+    /// Gives a read the word that the task has taken for it. It stands after the states and the senses.
+    pub fn set_read(&mut self, task: &Task, read: u32, word: i64)
+        requires { length task.now.states + length task.now.senses + read < length self.old.now }
+        ensures { self.new ≡ move.with_read task.now self.old read word }
+    {
+        let first = task.states.len() as usize + task.senses.len() as usize;
+        self.set(first + read as usize, word);
     }
 
     /// One instance, from the states, the senses and the reads in the environment.

@@ -17,12 +17,12 @@ pub(crate) enum ClockForm {
 pub(crate) struct TaskForm {
     pub name: Name,
     pub clock: ClockForm,
-    /// The input that must not be 0.
+    // The input that must not be 0.
     pub when: Option<Name>,
     pub prio: Option<i64>,
     pub deadline: Option<i64>,
     pub cost: i64,
-    /// None without `cpu`.
+    // None without `cpu`.
     pub cpu: Option<i64>,
 }
 
@@ -30,7 +30,7 @@ pub(crate) struct TaskForm {
 #[derive(Clone, Copy)]
 pub(crate) struct ReadForm {
     pub name: Name,
-    /// None without `pre`.
+    // None without `pre`.
     pub delay: Option<i64>,
     pub task: Name,
     pub port: Name,

@@ -2,7 +2,7 @@
 //!
 //! A text spells a document (`Spells`) if each of its lines is without fault and they come to `done`; the document is
 //! what they say together (`IsBody`), with the number of each item's line (`AreItemLines`). Any other text has one
-//! first fault (`IsFirstFault`). The code goes over the bytes once: `next_line`, `read_line_with`, and a draft that
+//! first fault (`IsFirstFault`). The code goes over the lines once: `next_line`, `read_line_with`, and a draft that
 //! each line adds to. The canonical text is a function of the body alone (`canonical_text`). That it is read back is
 //! shown line by line, through the invariant of the reader's own loop (`Reached`).
 #![tactic(auto)]

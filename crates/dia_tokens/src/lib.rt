@@ -2,8 +2,8 @@
 //!
 //! Two relations say which tokens a line spells: `Lexes`, which texts its bytes make, and `HaveValues`, which values
 //! these have. Each has a rule for each kind of token, and no order of trial. A line without tokens has the first of
-//! four faults (`HasFault`). The code goes over a line once, and puts the tokens in a list that it is given, so that
-//! many lines share one. A spelling is a line's tokens with one space between them; `line_spells` says that tokens in
+//! four faults (`HasFault`). The code tests a line's bytes, goes over it once more, and puts the tokens in a list that
+//! it is given, so that many lines share one. A spelling is a line's tokens with one space between them; `line_spells` says that tokens in
 //! canonical spacing are read back.
 #![tactic(auto)]
 

@@ -67,7 +67,8 @@ fn push_piece(first: bool, out: &mut SmallVec<u8, NEAR>, piece: Piece) -> Result
     Ok(())
 }
 
-/// The line's tokens as they are spelled, or the line's first fault. The line is gone through once.
+/// The line's tokens as they are spelled, or the line's first fault. The line is gone over twice: for bytes that aren't allowed,
+/// and for its tokens.
 pub fn line_spelling(alloc: Global, line: &[u8]) -> Result<Spelling, LineFail>
     // The line spells tokens, and the text is their spelling.
     ensures found { IfOk result (λ text. (ts : List Spelled)

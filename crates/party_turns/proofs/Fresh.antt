@@ -12,7 +12,7 @@ use Rattle.dbp_plan.specs.Ranges.{range_after, range_front}
 use Rattle.dbp_plan.specs.Table.{row_at}
 use Rattle.dbp_rules.specs.Lookups.{no_task, no_task_wiring, task, wired_task}
 use Rattle.dbp_rules.specs.Sound.{Sound}
-use Rattle.dbp_rules.specs.Start.{first_row, start_of, start_task}
+use Rattle.dbp_rules.specs.Start.{first_part, first_row, start_of, start_task}
 use Rattle.dbp_rules.specs.Work.{WorkWords}
 use Rattle.dbp_rules.specs.declared.parts.TaskPart.{TaskPart}
 use Rattle.dbp_rules.specs.declared.state.TaskState.{TaskState}
@@ -23,7 +23,6 @@ use Rattle.dbp_rules.proofs.SoundStart.{first_sound}
 use Rattle.word_rule.specs.FirstSeats.{AreFirstTasks, IsFirstTask}
 use Rattle.word_rule.specs.Roles.{meaning_row, run_wiring}
 use Rattle.word_rule.specs.Seats.{TaskSits}
-use Rattle.word_rule.specs.Showing.{first_part}
 use Rattle.word_rule.specs.declared.seats.SlotWords.{SlotWords}
 use Rattle.word_rule.specs.declared.seats.TaskSeat.{TaskSeat}
 use Rattle.word_rule.proofs.Begins.{get_push}

@@ -1,7 +1,6 @@
 -- What a task's party has after each of its steps, at the terms of the calls.
 use Rattle.std.proofs.Common.{◌≡◌, ℕ, ℤ, ◌+◌, ◌<◌, ◌≤◌, Bool, true, false, length, set, refl, sym, ◌∙◌, ap, subst, arith}
 use Rattle.std.specs.Prelude.{MatchBool}
-use Rattle.dbp_plan.specs.declared.limits.TheConstants.{MAX_BODY}
 use Rattle.dbp_plan.specs.declared.plan.Plan.{Plan}
 use Rattle.dbp_plan.specs.declared.table.TaskRows.{TaskRows}
 use Rattle.dbp_plan.specs.Lookups.{declared_task}
@@ -62,13 +61,14 @@ module _ (w : SlotWords) (s : TaskParty) (here : TaskSits w s.seat) where
     pub has_looked : (n r stamp : ℕ) → t.place ≡ place.Look n → new.part ≡ task_after its t (step.Look i r) (a_number stamp) → HasComputed (plan_of_task new) new.task new.part s.work s.rows
     has_looked n r stamp at part = has_then w s.seat new here steps (step.Look i r) (a_number stamp) s.work s.rows part (after_look p i t s.work s.rows s.computed n r (a_number stamp) at)
 
-    pub has_taken : (n r spot : ℕ) (word : ℤ) → t.place ≡ place.Take n → n < length its.reads → r ≡ (read_at its n).read
-        → spot ≡ length (declared_task w.plan i).states + length (declared_task w.plan i).senses + r → IsMeant w.plan (meaning_of w.plan) i (t.ended + 1) r word → new.part ≡ task_after its t (step.Take i r) (a_value word)
-        → HasComputed (plan_of_task new) new.task new.part (record s.work { now = set s.work.now spot word }) s.rows
-    has_taken n r spot word at few read is meant part =
+    pub has_taken : (n r : ℕ) (word : ℤ) → t.place ≡ place.Take n → n < length its.reads → r ≡ (read_at its n).read
+        → IsMeant w.plan (meaning_of w.plan) i (t.ended + 1) r word → new.part ≡ task_after its t (step.Take i r) (a_value word)
+        → HasComputed (plan_of_task new) new.task new.part (move.with_read (declared_task w.plan i) s.work r word) s.rows
+    has_taken n r word at few read meant part =
+        let spot : ℕ = length (declared_task w.plan i).states + length (declared_task w.plan i).senses + r in
         let own_few : n < length (wired_task (run_wiring p) i).reads = omega (arith, few, ap (λ (x : TaskWiring). length x.reads) (wired_is w s.seat here)) in
         let own_read : r ≡ (read_at (wired_task (run_wiring p) i) n).read = read ∙ ap (λ (x : TaskWiring). (read_at x n).read) (sym (wired_is w s.seat here)) in
-        let own_spot : spot ≡ length (declared_task p i).states + length (declared_task p i).senses + r = is ∙ ap (λ (x : Plan). length (declared_task x i).states + length (declared_task x i).senses + r) (sym here.1) in
+        let own_spot : spot ≡ length (declared_task p i).states + length (declared_task p i).senses + r = ap (λ (x : Plan). length (declared_task x i).states + length (declared_task x i).senses + r) (sym here.1) in
         let own_meant : IsMeant p (meaning_of p) i (t.ended + 1) r word = subst (λ (x : Plan). IsMeant x (meaning_of x) i (t.ended + 1) r word) (sym here.1) meant in
         has_then w s.seat new here steps (step.Take i r) (a_value word) (record s.work { now = set s.work.now spot word }) s.rows part
         (after_take p i (inside w s.seat here) t s.work s.rows s.computed n r spot word (a_value word) at own_few own_read own_spot own_meant)
@@ -86,16 +86,13 @@ module _ (w : SlotWords) (s : TaskParty) (here : TaskSits w s.seat) where
     has_ended at part = has_then w s.seat new here steps (step.End i) no_word (move.after_advance s.work) s.rows part (after_end p i (inside w s.seat here) t s.work s.rows s.computed no_word at)
 
   -- the place of a read's word is one of the environment's
-  pub spot_inside : (n r spot : ℕ) → n < length its.reads → r ≡ (read_at its n).read → spot ≡ length (declared_task w.plan i).states + length (declared_task w.plan i).senses + r → spot < length s.work.now
-  spot_inside n r spot few read is =
+  pub spot_inside : (n r : ℕ) → n < length its.reads → r ≡ (read_at its n).read → length (declared_task w.plan i).states + length (declared_task w.plan i).senses + r < length s.work.now
+  spot_inside n r few read =
+      let spot : ℕ = length (declared_task w.plan i).states + length (declared_task w.plan i).senses + r in
       let own_few : n < length (wired_task (run_wiring p) i).reads = omega (arith, few, ap (λ (x : TaskWiring). length x.reads) (wired_is w s.seat here)) in
       let own_read : r ≡ (read_at (wired_task (run_wiring p) i) n).read = read ∙ ap (λ (x : TaskWiring). (read_at x n).read) (sym (wired_is w s.seat here)) in
-      let own_spot : spot ≡ length (declared_task p i).states + length (declared_task p i).senses + r = is ∙ ap (λ (x : Plan). length (declared_task x i).states + length (declared_task x i).senses + r) (sym here.1) in
+      let own_spot : spot ≡ length (declared_task p i).states + length (declared_task p i).senses + r = ap (λ (x : Plan). length (declared_task x i).states + length (declared_task x i).senses + r) (sym here.1) in
       omega (arith, s.computed.words.now, own_spot, own_read, ((task_wired w s.seat here).each_read n own_few).read)
-
-  -- so it is small
-  pub spot_small : (n r spot : ℕ) → n < length its.reads → r ≡ (read_at its n).read → spot ≡ length (declared_task w.plan i).states + length (declared_task w.plan i).senses + r → spot < MAX_BODY
-  spot_small n r spot few read is = let body = (task_wired w s.seat here).closed.body in omega (arith, spot_inside n r spot few read is, s.computed.words.now)
 
   -- the row has a word of each port
   pub port_inside : (port : ℕ) → t.place ≡ place.Put port → port < length s.work.row

@@ -1,8 +1,8 @@
 // What is looked up of a seat's task.
 
-ghost use Rattle.std.specs.Prelude.{◌≡◌, ◌+◌, ◌<◌, length};
+ghost use Rattle.std.specs.Prelude.{◌≡◌, ◌<◌, length};
 ghost use Rattle.dbp_plan.specs.Lookups.{declared_task};
-ghost use Rattle.dbp_rules.specs.Lookups.{read_at, time, wired_task};
+ghost use Rattle.dbp_rules.specs.Lookups.{read_at, wired_task};
 ghost use Rattle.word_rule.specs.Seats.{TaskSits};
 
 use dbp_plan::Task;
@@ -31,12 +31,4 @@ pub(crate) fn read_number(wired: &TaskWiring, turn: u32) -> u32
     ensures { result ≡ (read_at wired.now turn).read }
 {
     wired.reads.items()[turn as usize].read
-}
-
-// The time of the instance after so many.
-pub(crate) fn next_time(wired: &TaskWiring, ended: u32) -> u64
-    requires { ended < length wired.now.times }
-    ensures { result ≡ time wired.now (ended + 1) }
-{
-    wired.times.items()[ended as usize]
 }

@@ -9,7 +9,7 @@ ghost use Rattle.party_turns.specs.Computed.{HasComputed, plan_of_task};
 ghost use Rattle.party_turns.specs.Turns.{TaskTurn};
 ghost use Rattle.party_turns.specs.declared.turn.Turn.TheVariants.{Finished};
 
-use crate::look_up::{declared_of, next_time, read_number, wired_of};
+use crate::look_up::{declared_of, read_number, wired_of};
 use crate::rows::write_row;
 use crate::task_party::TaskParty;
 use crate::turn::Turn;
@@ -26,8 +26,8 @@ fn compute(work: &mut Work, rows: &mut TaskRows, words: &SlotWords, seat: &TaskS
 {
     let task = declared_of(words, seat);
     let ended = seat.part().ended;
-    let time = next_time(wired_of(words, seat), ended);
-    work.sense(words.plan(), words.wiring(), task, time);
+    let wired = wired_of(words, seat);
+    work.sense(words.plan(), words.wiring(), task, wired, ended);
     work.compute(task);
     write_row(rows, ended + 1, work.row());
 }
@@ -41,9 +41,8 @@ impl TaskParty {
     {
         let task = declared_of(words, &self.seat);
         let read = read_number(wired_of(words, &self.seat), turn);
-        let place = task.states.len() + task.senses.len() + read;
         let word = words.take(&mut self.seat, read);
-        self.work.set(place as usize, word);
+        self.work.set_read(task, read, word);
         Turn::Stepped
     }
 

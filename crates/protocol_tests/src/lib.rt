@@ -1,4 +1,5 @@
-//! Tests of the rules of the protocol, of its steps, of scripts, and of the releases that readers look up.
+//! Tests of the rules of the protocol, of its steps, of scripts, and of the releases that readers look up, for what no
+//! command shows.
 #![tactic(auto)]
 
 #[cfg(test)]

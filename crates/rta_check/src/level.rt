@@ -66,8 +66,8 @@ impl Level {
         asked
     }
 
-    // A later start, or the same or an earlier one: tasks with a period of at most `longest` ticks ask for their
-    // utilization of the time until they are served, all others for their requests within `ticks`.
+    // The start if tasks with a period of at most `longest` ticks ask for their utilization of the time until they are
+    // served, and all others for their requests within `ticks`. It may be before `ticks`.
     fn start_by_utilization(&self, ticks: u64, longest: u64) -> u64
         requires level { IsLevel self.now }
         requires ticks { ticks ≤ MAX_TIME }

@@ -17,7 +17,7 @@ use Rattle.sync_meaning.specs.SomeMeaning.{meaning_of, meaning_of-is}
 use Rattle.dbp_rules.specs.PartyShapes.{ReleaserShape, TaskPartShape}
 use Rattle.dbp_rules.specs.Lookups.{no_task, task, wired_task}
 use Rattle.dbp_rules.specs.Sound.{Sound}
-use Rattle.dbp_rules.specs.Start.{start_of, start_task}
+use Rattle.dbp_rules.specs.Start.{first_part, start_of, start_task}
 use Rattle.dbp_rules.specs.WordRanges.{FirstValuesFit}
 use Rattle.dbp_rules.specs.declared.parts.ReleaserPart.{ReleaserPart}
 use Rattle.dbp_rules.specs.declared.state.State.{State}
@@ -30,7 +30,7 @@ use Rattle.dbp_rules.proofs.Wirings.{wiring-whole}
 use Rattle.dbp_rules.proofs.WordRanges.{start_fits}
 use Rattle.word_rule.specs.Plays.{IsReleaser, Seated, seats_split}
 use Rattle.word_rule.specs.Roles.{meaning_row, run_wiring}
-use Rattle.word_rule.specs.Showing.{HasFirstNumbers, HaveNotStepped, Keeps, ShowsRole, first_part, first_view, view_of_next_task, with_seat_split}
+use Rattle.word_rule.specs.Showing.{HasFirstNumbers, HaveNotStepped, Keeps, ShowsRole, first_view, view_of_next_task, with_seat_split}
 use Rattle.word_rule.specs.declared.views.Role.{Role}
 use Rattle.word_rule.specs.declared.views.Role.TheVariants.{Releaser, Task}
 use Rattle.word_rule.specs.declared.views.View.{View}

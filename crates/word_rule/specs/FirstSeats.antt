@@ -1,9 +1,8 @@
 -- Seats that have made no step.
 use Rattle.std.specs.Prelude.{◌≡◌, ℕ, List, length, slice_get, Some}
-use Rattle.dbp_rules.specs.Start.{start_of}
+use Rattle.dbp_rules.specs.Start.{first_part, start_of}
 use Rattle.word_rule.specs.Plays.{seats_split}
 use Rattle.word_rule.specs.Seats.{ReleaserSits, TaskSits, releaser_steps, task_steps}
-use Rattle.word_rule.specs.Showing.{first_part}
 use Rattle.word_rule.specs.declared.seats.ReleaserSeat.{ReleaserSeat}
 use Rattle.word_rule.specs.declared.seats.SlotWords.{SlotWords}
 use Rattle.word_rule.specs.declared.seats.TaskSeat.{TaskSeat}

@@ -7,13 +7,12 @@ use Rattle.atomic_table.specs.Table as table
 use Rattle.dbp_plan.specs.declared.plan.Plan.{Plan}
 use Rattle.dbp_slots.specs.TableWords.{IsWord, TableWord, address_of, sizes_of, word_count}
 use Rattle.dbp_rules.specs.LoadedWords.{start_number}
-use Rattle.dbp_rules.specs.Lookups.{no_task, task}
+use Rattle.dbp_rules.specs.Lookups.{task}
 use Rattle.dbp_rules.specs.SharedWords.{value_in}
 use Rattle.dbp_rules.specs.Sound.{Sound}
-use Rattle.dbp_rules.specs.Start.{start_of}
+use Rattle.dbp_rules.specs.Start.{first_part, start_of}
 use Rattle.dbp_rules.specs.TenParts.{HoldsInTenParts}
 use Rattle.dbp_rules.specs.WordRanges.{SlotWordsFit}
-use Rattle.dbp_rules.specs.declared.parts.TaskPart.{TaskPart}
 use Rattle.dbp_rules.specs.declared.state.State.{State}
 use Rattle.word_rule.specs.Roles.{meaning_row, run_wiring}
 use Rattle.word_rule.specs.declared.views.Role.{Role}
@@ -30,10 +29,6 @@ abbrev pub ShowsRole : ℕ → State → ℕ → Role → Type 0
 ShowsRole split s zero (Releaser r seats) = (r ≡ s.releaser) × (seats ≡ split)
 ShowsRole split s (suc j) (Task i t) = (i ≡ j) × (t ≡ (task s i).part)
 ShowsRole split s _ _ = ⊥
-
--- a task's part before its first step
-abbrev pub first_part : TaskPart
-first_part = no_task.part
 
 -- the words and views show the state: each word of the table has its number, each seat its party's part, and a task
 -- without a seat has its first part

@@ -7,12 +7,9 @@ ghost use Rattle.word_rule.specs.Seats.{ReleaserSits};
 use crate::first_words::first_words;
 use crate::seats::{ReleaserSeat, SlotWords, TaskSeat};
 use crate::views::NextTask;
-use arrayvec::ArrayVec;
 use atomic_table::Table;
 use dbp_plan::{List, NoMemory, Plan};
-use dbp_rules::{
-    Count, Place, ReleaserPart, TaskPart, Wiring, first_values_have_64_bits, wire_plan,
-};
+use dbp_rules::{Count, ReleaserPart, TaskPart, Wiring, first_values_have_64_bits, wire_plan};
 use dbp_slots::layout;
 use std::alloc::Global;
 
@@ -87,11 +84,7 @@ impl SlotWords {
         TaskSeat {
             seat,
             task,
-            part: TaskPart {
-                ended: 0,
-                place: Place::Idle,
-                heard: ArrayVec::new(),
-            },
+            part: TaskPart::first(),
         }
     }
 

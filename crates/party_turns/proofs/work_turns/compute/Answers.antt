@@ -12,12 +12,6 @@ use Rattle.dbp_rules.specs.declared.wiring.Wiring.{Wiring}
 use Rattle.party_turns.proofs.Shutting.{closed, few_times, has_computed, has_samples, row_fits, running, sense_room}
 use Rattle.party_turns.proofs.work_turns.compute.Goals as goal
 
-pub next_time-time-requires : goal.next_time-time-requires
-next_time-time-requires c =
-    let ended = ap (λ (t : TaskPart). t.ended) c.part.ensures in
-    let times = ap (λ (x : TaskWiring). length x.times) c.wired_of.ensures in
-    omega (arith, running c.args.words.now c.args.seat.now c.requires.here c.requires.place c.args.work.now c.args.rows.now c.requires.before)
-
 pub sense-requires-clause-samples : goal.sense-requires-clause-samples
 sense-requires-clause-samples c = subst (λ (x : Plan × Wiring). HasSamples x.0 x.1.samples) (λ j. (sym c.plan.ensures j, sym c.wiring.ensures j)) (has_samples c.args.words.now c.args.seat.now c.requires.here)
 
@@ -45,7 +39,7 @@ pub returns : goal.returns
 returns c =
     let rows = c.args.rows.now in
     let own = c.declared_of-task.ensures in
-    let at = c.next_time-time.ensures ∙ ap (λ (x : TaskWiring × TaskPart). time x.0 (x.1.ended + 1)) (λ j. (c.wired_of.ensures j, c.part.ensures j)) in
+    let at = ap (λ (x : TaskWiring × TaskPart). time x.0 (x.1.ended + 1)) (λ j. (c.wired_of-wired.ensures j, c.part.ensures j)) in
     let senses = c.sense.ensures ∙ ap (λ (x : Task × Plan × ℕ). move.with_senses x.0 (map (λ y. input_value x.1.diagram.inputs x.1.samples y.input x.2) x.0.senses) c.args.work.now) (λ j. (own j, c.plan.ensures j, at j)) in
     let computes = c.compute.ensures ∙ ap (λ (x : Task). move.work_words_of x (take (let_base x) c.sense.new.self.now)) own in
     let words = c.write_row.ensures.words ∙ ap (λ (x : TaskPart × List ℤ). take ((x.0.ended + 1) * rows.ports) rows.words ++ x.1 ++ drop ((x.0.ended + 1 + 1) * rows.ports) rows.words) (λ j. (c.part.ensures j, c.row.ensures j)) in

@@ -1,6 +1,7 @@
-use Rattle.std.proofs.Common.{ℕ, ℤ, ◌+◌, FitsSigned, w64, length, set, refl, ap, sym, subst, ◌∙◌, arith, rules}
+use Rattle.std.proofs.Common.{ℤ, ◌+◌, ◌<◌, FitsSigned, w64, length, refl, ap, sym, subst, ◌∙◌, rules}
 use Rattle.std.proofs.lemmas.Int.{to_z-of_z}
 use Rattle.dbp_plan.specs.declared.diagram.Task.{Task}
+use Rattle.dbp_rules.specs.Moves as move
 use Rattle.dbp_rules.specs.PartyRules.{a_value}
 use Rattle.dbp_rules.specs.Lookups.{read_at, wired_task}
 use Rattle.dbp_rules.specs.Work.{WorkWords}
@@ -8,48 +9,33 @@ use Rattle.dbp_rules.specs.declared.step.Step.TheVariants.{Take}
 use Rattle.dbp_rules.specs.declared.wiring.TaskWiring.{TaskWiring}
 use Rattle.party_turns.specs.Computed.{HasComputed, plan_of_task}
 use Rattle.party_turns.proofs.Seats.{may_take, take_inside}
-use Rattle.party_turns.proofs.Turned.{has_taken, spot_inside, spot_small}
+use Rattle.party_turns.proofs.Turned.{has_taken, spot_inside}
 use Rattle.party_turns.proofs.task_party.TaskParty.take.Goals as goal
 
 pub read_number-read-requires : goal.read_number-read-requires
 read_number-read-requires c = rw c.wired_of.ensures (take_inside c.args.words.now c.args.self.now.seat c.requires.here c.args.turn c.requires.place)
-
-pub overflow_add-place : goal.overflow_add-place
-overflow_add-place c =
-    let read = c.read_number-read.ensures ∙ ap (λ (x : TaskWiring). (read_at x c.args.turn).read) c.wired_of.ensures in
-    let few = take_inside c.args.words.now c.args.self.now.seat c.requires.here c.args.turn c.requires.place in
-    let spot = ap (λ (x : ℕ × ℕ). x.0 + x.1 + c.read_number-read.result) (λ j. ((c.len.ensures ∙ ap (λ (t : Task). length t.states) c.declared_of-task.ensures) j, (c.len-2.ensures ∙ ap (λ (t : Task). length t.senses) c.declared_of-task.ensures) j)) in
-    omega (arith, spot_small c.args.words.now c.args.self.now c.requires.here c.args.turn c.read_number-read.result (c.len.result + c.len-2.result + c.read_number-read.result) few read spot)
-
-pub overflow_add-place-2 : goal.overflow_add-place-2
-overflow_add-place-2 c =
-    let read = c.read_number-read.ensures ∙ ap (λ (x : TaskWiring). (read_at x c.args.turn).read) c.wired_of.ensures in
-    let few = take_inside c.args.words.now c.args.self.now.seat c.requires.here c.args.turn c.requires.place in
-    let spot = ap (λ (x : ℕ × ℕ). x.0 + x.1 + c.read_number-read.result) (λ j. ((c.len.ensures ∙ ap (λ (t : Task). length t.states) c.declared_of-task.ensures) j, (c.len-2.ensures ∙ ap (λ (t : Task). length t.senses) c.declared_of-task.ensures) j)) in
-    omega (arith, spot_small c.args.words.now c.args.self.now c.requires.here c.args.turn c.read_number-read.result (c.len.result + c.len-2.result + c.read_number-read.result) few read spot)
 
 pub take-word-requires-clause-allowed : goal.take-word-requires-clause-allowed
 take-word-requires-clause-allowed c =
     let read = c.read_number-read.ensures ∙ ap (λ (x : TaskWiring). (read_at x c.args.turn).read) c.wired_of.ensures in
     may_take (wired_task c.args.words.now.wiring c.args.self.now.seat.task) c.args.self.now.seat.part c.args.self.now.seat.task c.args.turn c.read_number-read.result c.requires.place (sym read)
 
-pub set-requires : goal.set-requires
-set-requires c =
+pub set_read-requires : goal.set_read-requires
+set_read-requires c =
     let read = c.read_number-read.ensures ∙ ap (λ (x : TaskWiring). (read_at x c.args.turn).read) c.wired_of.ensures in
     let few = take_inside c.args.words.now c.args.self.now.seat c.requires.here c.args.turn c.requires.place in
-    let spot = ap (λ (x : ℕ × ℕ). x.0 + x.1 + c.read_number-read.result) (λ j. ((c.len.ensures ∙ ap (λ (t : Task). length t.states) c.declared_of-task.ensures) j, (c.len-2.ensures ∙ ap (λ (t : Task). length t.senses) c.declared_of-task.ensures) j)) in
-    spot_inside c.args.words.now c.args.self.now c.requires.here c.args.turn c.read_number-read.result (c.len.result + c.len-2.result + c.read_number-read.result) few read spot
+    subst (λ (x : Task). length x.states + length x.senses + c.read_number-read.result < length c.args.self.now.work.now) (sym c.declared_of-task.ensures)
+    (spot_inside c.args.words.now c.args.self.now c.requires.here c.args.turn c.read_number-read.result few read)
 
 pub invariant_of-self : goal.invariant_of-self
 invariant_of-self c =
     let read = c.read_number-read.ensures ∙ ap (λ (x : TaskWiring). (read_at x c.args.turn).read) c.wired_of.ensures in
     let few = take_inside c.args.words.now c.args.self.now.seat c.requires.here c.args.turn c.requires.place in
-    let spot = ap (λ (x : ℕ × ℕ). x.0 + x.1 + c.read_number-read.result) (λ j. ((c.len.ensures ∙ ap (λ (t : Task). length t.states) c.declared_of-task.ensures) j, (c.len-2.ensures ∙ ap (λ (t : Task). length t.senses) c.declared_of-task.ensures) j)) in
     let fits : FitsSigned w64 c.take-word.result = search rules in
-    let work = c.set.ensures ∙ ap (λ (word : ℤ). record c.args.self.now.work { now = set c.args.self.now.work.now (c.len.result + c.len-2.result + c.read_number-read.result) word }) (to_z-of_z w64 c.take-word.result fits) in
+    let work = c.set_read.ensures ∙ ap (λ (x : Task × ℤ). move.with_read x.0 c.args.self.now.work c.read_number-read.result x.1) (λ j. (c.declared_of-task.ensures j, to_z-of_z w64 c.take-word.result fits j)) in
     record {
       computed = subst (λ (x : WorkWords). HasComputed (plan_of_task c.take-word.new.seat) c.take-word.new.seat.task c.take-word.new.seat.part x c.args.self.now.rows) (sym work)
-          (has_taken c.args.words.now c.args.self.now c.requires.here c.take-word.new.seat c.take-word.ensures.step c.args.turn c.read_number-read.result (c.len.result + c.len-2.result + c.read_number-read.result) c.take-word.result c.requires.place few read spot c.take-word.ensures.meant c.take-word.ensures.part);
+          (has_taken c.args.words.now c.args.self.now c.requires.here c.take-word.new.seat c.take-word.ensures.step c.args.turn c.read_number-read.result c.take-word.result c.requires.place few read c.take-word.ensures.meant c.take-word.ensures.part);
     }
 
 pub returns-clause-turn : goal.returns-clause-turn
