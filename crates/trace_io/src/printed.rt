@@ -1,7 +1,7 @@
 // The printed lines of a table.
 
 ghost use Rattle.std.specs.Prelude.{◌≡◌, ◌≤◌, ◌+◌, ◌-◌, ◌++◌, ◌∷◌, drop, length, take, IfOk, OnOk};
-ghost use Rattle.std.specs.Fmt.{decimal, signed_decimal};
+ghost use Rattle.std.specs.Fmt.{signed_decimal};
 ghost use Rattle.dbp_plan.specs.Table.{HasRows};
 ghost use Rattle.trace_io.specs.Lines.{cells_of, line_rest, lines_of};
 ghost use Rattle.trace_io.specs.declared.printed.TheConstants.{NUMBER_LENGTH, PIECE};
@@ -47,7 +47,7 @@ fn push_batch(
     ensures counts { OnOk result (Counts counts.old counts.new batch.now.tasks) }
 {
     let mut time = [0; PIECE_ROOM];
-    let start = write_time(batch.time, &mut time);
+    let start = write_number(batch.time, &mut time);
     time[NUMBER_LENGTH] = b',';
     for task in batch.tasks.items() {
         let place = *task as usize;
@@ -94,28 +94,14 @@ const PIECE: usize = 24;
 // Room for a number's text, and for a piece that begins in it.
 const PIECE_ROOM: usize = NUMBER_LENGTH + PIECE;
 
-// Writes the time in decimal before place `NUMBER_LENGTH`, and returns where it starts.
+// Writes the number in decimal before place `NUMBER_LENGTH`, and returns where it starts.
 #[inline(always)]
-fn write_time(time: u64, room: &mut [u8; PIECE_ROOM]) -> usize
+fn write_number<N: Integer>(number: N, room: &mut [u8; PIECE_ROOM]) -> usize
     ensures within { result ≤ NUMBER_LENGTH }
     // the caller knows the length of its room
     ensures written { length room.new ≡ NUMBER_LENGTH + PIECE
-        → drop result room.new ≡ decimal time ++ drop NUMBER_LENGTH room.old }
-    ensures short { length (decimal time) ≤ 20 }
-{
-    match room.first_chunk_mut::<NUMBER_LENGTH>() {
-        Some(digits) => time.write(digits),
-        None => unreachable!(),
-    }
-}
-
-// Writes the number in decimal before place `NUMBER_LENGTH`, and returns where it starts.
-#[inline(always)]
-fn write_number(number: i64, room: &mut [u8; PIECE_ROOM]) -> usize
-    ensures within { result ≤ NUMBER_LENGTH }
-    ensures written { length room.new ≡ NUMBER_LENGTH + PIECE
-        → drop result room.new ≡ signed_decimal number ++ drop NUMBER_LENGTH room.old }
-    ensures short { length (signed_decimal number) ≤ 20 }
+        → drop result room.new ≡ N.text number ++ drop NUMBER_LENGTH room.old }
+    ensures short { length (N.text number) ≤ N.MAX_STR_LEN }
 {
     match room.first_chunk_mut::<NUMBER_LENGTH>() {
         Some(digits) => number.write(digits),

@@ -11,7 +11,7 @@ use Rattle.trace_io.proofs.printed.push_batch.Goals as goal
 
 pub push_piece-requires-clause-end : goal.push_piece-requires-clause-end
 push_piece-requires-clause-end c =
-    let w = c.write_time-start in
+    let w = c.write_number-start in
     let digits : List ℕ = decimal c.args.batch.now.time in
     let few : length digits + w.result ≡ 40 = few-digits w.new.room digits _ w.result w.ensures.within w.array_long refl (w.ensures.written w.array_long) in
     let short : length digits ≤ 20 = w.ensures.short in
@@ -31,7 +31,7 @@ loop-task-preserved c =
     let there : i < length c.args.tasks.now = can.there c.loop-task.task-index 0 c.loop-task-test.true in
     let is_task : slice_get c.args.tasks.now i ≡ Some task = read_place c.args.tasks.now i task there c.index-tasks-place.is in
     let name : c.bytes-name.result.now ≡ task.name = c.bytes-name.ensures.value ∙ ap (λ (t : Task). t.name) (sym c.index-tasks-place.is) in
-    let w = c.write_time-start in
+    let w = c.write_number-start in
     let digits : List ℕ = decimal c.args.batch.now.time in
     let number : ℕ = get_or c.loop-task.counts i 0 + 1 in
     let text : List ℕ = c.loop-task.text.items in
